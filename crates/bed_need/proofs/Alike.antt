@@ -1,5 +1,6 @@
 -- Marks that are alike make one system of bars.
-use Rattle.std.proofs.Common.{◌≡◌, ℕ, ◌+◌, Bool, ◌&&◌, List, [], ◌∷◌, Option, None, Some, ap, cond, filter, find, length, map, option_map, refl, true, false, zip}
+use Rattle.std.proofs.Common.{◌≡◌, ℕ, ◌+◌, Bool, ◌&&◌, List, [], ◌∷◌, Option, None, Some, ap, cond, filter, find}
+use Rattle.std.proofs.Common.{length, map, option_map, refl, true, false, zip}
 use Rattle.std.specs.Prelude.{◌==◌, unwrap_or}
 use Rattle.std.specs.List.{enumerate_from, list_any, range_with_len}
 use Rattle.admit_core.specs.declared.dossier.Wish.{Wish}
@@ -9,8 +10,10 @@ use Rattle.admit_core.specs.Boarding.{boarding, name_of}
 use Rattle.admit_core.specs.DossierRows.{candidates_of}
 use Rattle.admit_core.specs.Falls.{FallingSystem}
 use Rattle.admit_core.specs.Lists.{ascending}
-use Rattle.admit_core.specs.Proposals.{ahead, before, demanded_ranks, demands_bed, has_open_wish, is_behind_bar, is_open, is_open_in, is_proposed, needs_no_seat, wants_seat}
-use Rattle.admit_core.specs.State.{State, bed_holders, free_beds, has_school, holds_bed, holds_seat, is_live, seats_left}
+use Rattle.admit_core.specs.Proposals.{ahead, before, demanded_ranks, demands_bed, has_open_wish, is_behind_bar}
+use Rattle.admit_core.specs.Proposals.{is_open, is_open_in, is_proposed, needs_no_seat, wants_seat}
+use Rattle.admit_core.specs.State.{State, bed_holders, free_beds, has_school, holds_bed, holds_seat, is_live}
+use Rattle.admit_core.specs.State.{seats_left}
 use Rattle.admit_core.proofs.Plain.{filter_same, map_same, count_same}
 use Rattle.bed_need.specs.Refitted.{AreAlike, IsAlike}
 
@@ -24,7 +27,8 @@ any_alike p q agree [] ms ns alike = refl
 any_alike p q agree (w ∷ ws) [] [] alike = refl
 any_alike p q agree (w ∷ ws) [] (n ∷ ns) alike = absurd alike
 any_alike p q agree (w ∷ ws) (m ∷ ms) [] alike = absurd alike
-any_alike p q agree (w ∷ ws) (m ∷ ms) (n ∷ ns) alike = rw (agree w m n alike.0, any_alike p q agree ws ms ns alike.1) refl
+any_alike p q agree (w ∷ ws) (m ∷ ms) (n ∷ ns) alike =
+    rw (agree w m n alike.0, any_alike p q agree ws ms ns alike.1) refl
 
 abbrev rank : Wish × Mark → ℕ
 rank e = e.0.board_rank
@@ -48,7 +52,8 @@ ranks_alike p q agree (w ∷ ws) (m ∷ ms) (n ∷ ns) alike =
 abbrev place : ℕ × (Wish × Mark) → ℕ
 place x = x.0
 
-found_step : (b : Bool) (k : ℕ) (w : Wish) (m n : Mark) (xs ys : Option (ℕ × (Wish × Mark))) → option_map place xs ≡ option_map place ys
+found_step : (b : Bool) (k : ℕ) (w : Wish) (m n : Mark) (xs ys : Option (ℕ × (Wish × Mark)))
+    → option_map place xs ≡ option_map place ys
     → option_map place (cond b (Some (k, (w, m))) xs) ≡ option_map place (cond b (Some (k, (w, n))) ys)
 found_step true k w m n xs ys same = refl
 found_step false k w m n xs ys same = same
@@ -88,9 +93,11 @@ module _ (u : State) (ms : List Mark) (alike : AreAlike ms u.marks) where
   same_free h = rw (same_holders h) refl
 
   same_left : (p : ℕ) → seats_left t p ≡ seats_left u p
-  same_left p = rw (filter_same (λ c. holds_seat t c p) (λ c. holds_seat u c p) (λ c. seat c p) (candidates_of u.dossier)) refl
+  same_left p = rw (filter_same (λ c. holds_seat t c p) (λ c. holds_seat u c p) (λ c. seat c p)
+      (candidates_of u.dossier)) refl
 
-  behind : (bars : List ℕ) (w : Wish) (school : Option ℕ) → is_behind_bar t bars w school ≡ is_behind_bar u bars w school
+  behind : (bars : List ℕ) (w : Wish) (school : Option ℕ)
+      → is_behind_bar t bars w school ≡ is_behind_bar u bars w school
   behind bars w None = refl
   behind bars w (Some h) = rw (bed w.candidate h) refl
 
@@ -113,7 +120,8 @@ module _ (u : State) (ms : List Mark) (alike : AreAlike ms u.marks) where
     called : (w : Wish) → needs_no_seat t orders w ≡ needs_no_seat u orders w
     called w = rw (seat w.candidate w.programme) refl
 
-    offers : (bars : List ℕ) (w : Wish) (m n : Mark) → IsAlike m n → is_proposed t orders bars w m ≡ is_proposed u orders bars w n
+    offers : (bars : List ℕ) (w : Wish) (m n : Mark) → IsAlike m n
+        → is_proposed t orders bars w m ≡ is_proposed u orders bars w n
     offers bars w m n a = rw (opens bars w m n a, called w, same_ahead bars w, same_left w.programme) refl
 
     demands : (bars : List ℕ) (h : ℕ) (w : Wish) (m n : Mark) → IsAlike m n
@@ -136,7 +144,8 @@ module _ (u : State) (ms : List Mark) (alike : AreAlike ms u.marks) where
     -- the system of bars is the same
     pub same_system : (ceilings : List ℕ) → boarding t orders ceilings ≡ boarding u orders ceilings
     same_system ceilings =
-        let free : map (free_beds t) (range_with_len 0 (length ceilings)) ≡ map (free_beds u) (range_with_len 0 (length ceilings)) =
+        let free : map (free_beds t) (range_with_len 0 (length ceilings))
+        ≡ map (free_beds u) (range_with_len 0 (length ceilings)) =
         map_same (free_beds t) (free_beds u) same_free (range_with_len 0 (length ceilings)) in
         let ranks : demanded_ranks t orders ≡ demanded_ranks u orders = λ i bars h. same_ranks bars h i in
         let names : name_of t orders ≡ name_of u orders = λ i bars h r. same_name bars h r i in

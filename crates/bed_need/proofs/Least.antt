@@ -1,5 +1,6 @@
 -- With those who live in a school and those who come under the greatest bars, a school has exactly enough beds.
-use Rattle.std.proofs.Common.{◌≡◌, ℕ, zero, suc, ◌+◌, ◌-◌, ◌<◌, ◌≤◌, Bool, true, false, not, ◌&&◌, List, [], ◌∷◌, ap, arith, cond, filter, inl, inr, length, map, refl}
+use Rattle.std.proofs.Common.{◌≡◌, ℕ, zero, suc, ◌+◌, ◌-◌, ◌<◌, ◌≤◌, Bool, true, false, not, ◌&&◌, List, [], ◌∷◌, ap}
+use Rattle.std.proofs.Common.{arith, cond, filter, inl, inr, length, map, refl}
 use Rattle.std.specs.Prelude.{◌==◌, slice_index}
 use Rattle.std.proofs.lemmas.Bool.{cases_Bool, cases_eq, cases_lt, eq-eqb, eqb-true, ne_eqb}
 use Rattle.std.proofs.lemmas.Cmp.{nat_eq_equiv}
@@ -37,7 +38,8 @@ parted_step true false x all old new implied same = absurd (cc (implied refl))
 parted_step false true x all old new implied same = omega (arith, same)
 parted_step false false x all old new implied same = same
 
-filter_again : (p q : ℕ → Bool) (xs : List ℕ) → filter (λ x. not (p x)) (filter q xs) ≡ filter (λ x. q x && not (p x)) xs
+filter_again : (p q : ℕ → Bool) (xs : List ℕ)
+    → filter (λ x. not (p x)) (filter q xs) ≡ filter (λ x. q x && not (p x)) xs
 filter_again p q [] = refl
 filter_again p q (x ∷ xs) = again (q x) (filter_again p q xs) where
   again : (b : Bool) → filter (λ y. not (p y)) (filter q xs) ≡ filter (λ y. q y && not (p y)) xs
@@ -50,11 +52,13 @@ parted : (p q : ℕ → Bool) → ((x : ℕ) → p x ≡ true → q x ≡ true) 
     → length (filter q xs) ≡ length (filter p xs) + length (filter (λ x. q x && not (p x)) xs)
 parted p q implied [] = refl
 parted p q implied (x ∷ xs) =
-    parted_step (p x) (q x) x (filter q xs) (filter p xs) (filter (λ y. q y && not (p y)) xs) (implied x) (parted p q implied xs)
+    parted_step (p x) (q x) x (filter q xs) (filter p xs) (filter (λ y. q y && not (p y)) xs) (implied x)
+    (parted p q implied xs)
 
 -- those who live in a school after offers: those who lived there, and those who demand a bed
 pub holders_after : (s : State) (orders : List CallOrder) (bars : List ℕ) (stamp : Stamp) (h : ℕ) → IsValid s.dossier
-    → length (bed_holders (offered s orders bars stamp) h) ≡ length (bed_holders s h) + length (demanded_ranks s orders bars h)
+    → length (bed_holders (offered s orders bars stamp) h)
+    ≡ length (bed_holders s h) + length (demanded_ranks s orders bars h)
 holders_after s orders bars stamp h valid =
     let new = offered s orders bars stamp in
     let kept = holds_kept (λ w. has_school w h) s (λ w m. offer_if stamp (is_proposed s orders bars w m) m) in
@@ -90,7 +94,14 @@ module _ (s : State) (orders : List CallOrder) (ceilings : List ℕ) (h : ℕ)
       let stamp : Stamp = record { day = 0; pass = 0 } in
       let new = offered s orders bars stamp in
       let all = count_at_most (λ c. holds_bed new c h) (map (λ w. w.candidate) s.dossier.wishes) in
-      omega (arith, holders_after s orders bars stamp h valid, all, length-map s.dossier.wishes (λ w. w.candidate), valid.size.wishes)
+      omega (
+        arith,
+        holders_after s orders bars stamp h valid,
+        all,
+        length-map s.dossier.wishes
+            (λ w. w.candidate),
+        valid.size.wishes,
+      )
 
   pub few_need : (bars : List ℕ) (need : ℕ) → need ≡ need_of live (live + coming bars) → need ≤ 16000000
   few_need bars need is =
@@ -153,8 +164,10 @@ module _ (s : State) (orders : List CallOrder) (ceilings : List ℕ) (h : ℕ)
         let others_in : h < length others = omega (arith, here, enough.1.fits.under_ceilings.as_many) in
         let lawful = boarding_is_lawful (with_beds s h 2000000000) orders ceilings in
         let bars_in : h < length bars = omega (arith, here, greatest.fits.under_ceilings.as_many) in
-        let more = length-le_from_is_member nat_eq_equiv (demanded_ranks s orders bars h) (demanded_ranks s orders others h)
-        (rising_distinct (demanded_ranks s orders bars h) (lawful.ascending bars h greatest.fits.under_ceilings bars_in))
+        let more = length-le_from_is_member nat_eq_equiv (demanded_ranks s orders bars h)
+        (demanded_ranks s orders others h)
+        (rising_distinct (demanded_ranks s orders bars h)
+        (lawful.ascending bars h greatest.fits.under_ceilings bars_in))
         (λ q t.
         let demanded = Contains-from_any eqb-true q (demanded_ranks s orders bars h) t in
         let to_bar = lawful.to_bar bars h q greatest.fits.under_ceilings bars_in demanded in

@@ -1,5 +1,6 @@
 -- The beds of a dossier in which one school has another number of them.
-use Rattle.std.proofs.Common.{◌≡◌, ◌∙◌, ℕ, zero, suc, ◌+◌, ◌-◌, ◌<◌, Bool, true, false, List, [], ◌∷◌, ap, arith, if◌then◌else◌, length, map, refl}
+use Rattle.std.proofs.Common.{◌≡◌, ◌∙◌, ℕ, zero, suc, ◌+◌, ◌-◌, ◌<◌, Bool, true, false, List, [], ◌∷◌, ap, arith}
+use Rattle.std.proofs.Common.{if◌then◌else◌, length, map, refl}
 use Rattle.std.specs.Prelude.{◌==◌, slice_index}
 use Rattle.std.specs.List.{enumerate_from}
 use Rattle.std.proofs.lemmas.Bool.{eq-eqb, ne_eqb}
@@ -26,12 +27,14 @@ beds_at k (s ∷ schools) h n (suc i) lt =
     let there : k + suc i ≡ k + 1 + i = omega arith in rw there (beds_at (k + 1) schools h n i (omega arith))
 
 -- the school at the place has n beds, and each other one has its own
-pub beds_with : (d : DossierRows) (h n i : ℕ) → i < length d.schools → beds_of (rebuilt d h n) i ≡ (if i == h then n else beds_of d i)
+pub beds_with : (d : DossierRows) (h n i : ℕ) → i < length d.schools
+    → beds_of (rebuilt d h n) i ≡ (if i == h then n else beds_of d i)
 beds_with d h n i lt = let whole : 0 + i ≡ i = omega arith in rw whole at (beds_at 0 d.schools h n i lt)
 
 module _ (s : State) (orders : List CallOrder) (ceilings : List ℕ) (h n i : ℕ)
     (long : length ceilings ≡ length s.dossier.schools) (lt : i < length ceilings) where
-  free_with : slice_index (boarding (with_beds s h n) orders ceilings).free i ≡ beds_of (rebuilt s.dossier h n) i - length (bed_holders s i)
+  free_with : slice_index (boarding (with_beds s h n) orders ceilings).free i
+      ≡ beds_of (rebuilt s.dossier h n) i - length (bed_holders s i)
   free_with = free_at (with_beds s h n) orders ceilings i lt
 
   pub free_here : i ≡ h → slice_index (boarding (with_beds s h n) orders ceilings).free i ≡ n - length (bed_holders s i)

@@ -1,8 +1,11 @@
 -- Who stands ahead of a wish in an opening did so in the one before, unless a bar rose.
-use Rattle.std.proofs.Common.{ℕ, zero, suc, ◌+◌, ◌≤◌, ◌<◌, ◌≡◌, Bool, true, false, not, ◌&&◌, List, [], ◌∷◌, ◌++◌, length, Option, Some, None, inl, inr, refl, sym, ◌∙◌, ap, subst, arith, nat_eq, nat_lt, get_or, count_by, zip}
+use Rattle.std.proofs.Common.{ℕ, zero, suc, ◌+◌, ◌≤◌, ◌<◌, ◌≡◌, Bool, true, false, not, ◌&&◌, List, [], ◌∷◌, ◌++◌}
+use Rattle.std.proofs.Common.{length, Option, Some, None, inl, inr, refl, sym, ◌∙◌, ap, subst, arith, nat_eq, nat_lt}
+use Rattle.std.proofs.Common.{get_or, count_by, zip}
 use Rattle.std.specs.Prelude.{⊤, AllPairs, slice_get, slice_index, unwrap_or}
 use Rattle.std.specs.List.{before_first}
-use Rattle.std.proofs.lemmas.Bool.{and_cases, and_from, and_parts, cases_order, eq-eqb, eqb-true, false≢true, false_from_ne_true, ltb-false, ltb-true, not-false, not-true, not_from_false}
+use Rattle.std.proofs.lemmas.Bool.{and_cases, and_from, and_parts, cases_order, eq-eqb, eqb-true, false≢true}
+use Rattle.std.proofs.lemmas.Bool.{false_from_ne_true, ltb-false, ltb-true, not-false, not-true, not_from_false}
 use Rattle.std.proofs.lemmas.List.{get_or_default}
 use Rattle.std.proofs.lemmas.List.Folds.{Any-from_list_any}
 use Rattle.std.proofs.lemmas.Option.{slice_get-get_or}
@@ -20,8 +23,10 @@ use Rattle.admit_core.specs.AutoAnswer.{auto_all}
 use Rattle.admit_core.specs.Days.{Days, after_lapse, answers_of, ceilings_of, closing, morning, offered}
 use Rattle.admit_core.specs.DossierRows.{DossierRows}
 use Rattle.admit_core.specs.Lapses.{AreTermsFor, lapse}
-use Rattle.admit_core.specs.Proposals.{ahead, before, has_open_wish, is_barred, is_behind_bar, is_open, is_open_in, order_of, wants_seat}
-use Rattle.admit_core.specs.State.{State, entries, has_school, holds_bed, holds_seat, is_live, is_waiting, is_waiting_status}
+use Rattle.admit_core.specs.Proposals.{ahead, before, has_open_wish, is_barred, is_behind_bar, is_open, is_open_in}
+use Rattle.admit_core.specs.Proposals.{order_of, wants_seat}
+use Rattle.admit_core.specs.State.{State, entries, has_school, holds_bed, holds_seat, is_live, is_waiting}
+use Rattle.admit_core.specs.State.{is_waiting_status}
 use Rattle.admit_core.specs.Validity.{IsValid}
 use Rattle.admit_core.proofs.DemandLaws.{not_barred_step, not_over}
 use Rattle.admit_core.proofs.Holders.{holds, lives_with}
@@ -35,9 +40,12 @@ use Rattle.campaign_laws.specs.Moments.{Opening, after_each, evening_after, even
 use Rattle.campaign_laws.specs.PassedOver.{WaitsAt}
 use Rattle.campaign_laws.proofs.GoneStays.{IsLaterOf, later_of_steps, live_waits_not, terms_long}
 use Rattle.campaign_laws.proofs.Holding.{entry_before, held_already}
-use Rattle.campaign_laws.proofs.OneMark.{KeptOrLapsed, KeptOrOffered, KeptOrTouched, Marks, TouchedOf, a_lapse, an_answer, automatic_answers, lapsed_touched, marks_imply, of_kind, offers_of_a_pass, touched_any}
+use Rattle.campaign_laws.proofs.OneMark.{KeptOrLapsed, KeptOrOffered, KeptOrTouched, Marks, TouchedOf, a_lapse}
+use Rattle.campaign_laws.proofs.OneMark.{an_answer, automatic_answers, lapsed_touched, marks_imply, of_kind}
+use Rattle.campaign_laws.proofs.OneMark.{offers_of_a_pass, touched_any}
 use Rattle.campaign_laws.proofs.PassedOver.{waited_at}
-use Rattle.campaign_laws.proofs.Walks.{Nothing, Steps, all_of, evening_dossier, evening_is, morning_of, morning_steps, throughout}
+use Rattle.campaign_laws.proofs.Walks.{Nothing, Steps, all_of, evening_dossier, evening_is, morning_of, morning_steps}
+use Rattle.campaign_laws.proofs.Walks.{throughout}
 use Rattle.campaign_bars.specs.Ahead.{EachToNext, NoBarRose, NoMoreAhead, NotSameProgramme}
 
 -- ---- from the offers of a pass to the next opening: who waits has waited, and nobody becomes live
@@ -254,7 +262,8 @@ module _ (o p : Opening) (orders : List CallOrder) (stamp : Stamp) (valid : IsVa
       let q = w.programme in
       let those = λ (d : DossierRows). before_first (nat_eq w.candidate) (order_of d orders q) in
       let fewer = count_implied (wants_seat t p.bars q) (wants_seat s o.bars q) (wanted_before q) (those s.dossier) in
-      let same : count_by (wants_seat t p.bars q) (those t.dossier) ≡ count_by (wants_seat t p.bars q) (those s.dossier) =
+      let same : count_by (wants_seat t p.bars q) (those t.dossier)
+      ≡ count_by (wants_seat t p.bars q) (those s.dossier) =
       ap (λ (d : DossierRows). count_by (wants_seat t p.bars q) (those d)) follows.same in
       omega (arith, fewer, same)
 

@@ -1,8 +1,10 @@
 -- With more beds in a school whose bar never fell, or as many as were ever held, the days are the same.
-use Rattle.std.proofs.Common.{ℕ, zero, suc, ◌+◌, ◌-◌, ◌≤◌, ◌<◌, ◌≡◌, Bool, true, false, not, ◌&&◌, List, [], ◌∷◌, length, map, take, Option, Some, None, inl, inr, refl, sym, ◌∙◌, ap, subst, arith, nat_lt}
+use Rattle.std.proofs.Common.{ℕ, zero, suc, ◌+◌, ◌-◌, ◌≤◌, ◌<◌, ◌≡◌, Bool, true, false, not, ◌&&◌, List, [], ◌∷◌}
+use Rattle.std.proofs.Common.{length, map, take, Option, Some, None, inl, inr, refl, sym, ◌∙◌, ap, subst, arith, nat_lt}
 use Rattle.std.specs.Prelude.{⊤, All, ◌==◌, if◌then◌else◌, slice_index, sum}
 use Rattle.std.specs.List.{AllByRecursion, count_by, enumerate_from, list_all, range_with_len}
-use Rattle.std.proofs.lemmas.Bool.{and_from, and_parts, cases_Bool, cases_eq, cases_lt, eq-eqb, false≢true, false_from_ne_true, lt-ltb, ne_eqb, not-true, not_from_false}
+use Rattle.std.proofs.lemmas.Bool.{and_from, and_parts, cases_Bool, cases_eq, cases_lt, eq-eqb, false≢true}
+use Rattle.std.proofs.lemmas.Bool.{false_from_ne_true, lt-ltb, ne_eqb, not-true, not_from_false}
 use Rattle.std.proofs.lemmas.Grind.{get_or-set_at}
 use Rattle.std.proofs.lemmas.List.{get_or_past, length-map}
 use Rattle.std.proofs.lemmas.List.Elements.{recursion_from_All}
@@ -20,9 +22,11 @@ use Rattle.admit_core.specs.declared.state.Stamp.{Stamp}
 use Rattle.admit_core.specs.Answers.{after, after_all, after_kind, first_unfit, fits}
 use Rattle.admit_core.specs.AutoAnswer.{freed, seats_freed}
 use Rattle.admit_core.specs.Boarding.{boarding}
-use Rattle.admit_core.specs.Days.{Days, IsDay, IsPassEnd, Passes, after_lapse, answers_of, ceiling_on, ceilings_of, closing, freed_after, lapsed_on, morning, offered, unfit_on}
+use Rattle.admit_core.specs.Days.{Days, IsDay, IsPassEnd, Passes, after_lapse, answers_of, ceiling_on, ceilings_of}
+use Rattle.admit_core.specs.Days.{closing, freed_after, lapsed_on, morning, offered, unfit_on}
 use Rattle.admit_core.specs.DossierRows.{DossierRows, beds_of, candidates_of}
-use Rattle.admit_core.specs.Falls.{AreFalls, FallingSystem, IsAtMost, IsGreatest, IsRunOfFalls, bars_after, fall_of, fallen, is_overfilled}
+use Rattle.admit_core.specs.Falls.{AreFalls, FallingSystem, IsAtMost, IsGreatest, IsRunOfFalls, bars_after, fall_of}
+use Rattle.admit_core.specs.Falls.{fallen, is_overfilled}
 use Rattle.admit_core.specs.LeastBeds.{rebuilt, with_beds}
 use Rattle.admit_core.specs.Proposals.{demanded_ranks, is_proposed}
 use Rattle.admit_core.specs.State.{State, bed_holders, free_beds, has_school, holds_bed}
@@ -233,7 +237,8 @@ module _ (s : State) (orders : List CallOrder) (ceilings : List ℕ) (h n : ℕ)
               falls_too = λ stays.
                   elim (cases_eq i h) [
                     | inl same ↦
-                        let down : slice_index (fallen bars f) h ≡ f.to = get_or-set_at bars i h f.to 0 (sym same) i_bar in
+                        let down : slice_index (fallen bars f) h ≡ f.to =
+                        get_or-set_at bars i h f.to 0 (sym same) i_bar in
                         let bar : slice_index bars h ≡ slice_index bars i = ap (slice_index bars) (sym same) in
                         absurd (omega (arith, down, there, to, rank.0, rank.1, bar))
                     | inr other ↦ (

@@ -1,5 +1,7 @@
 -- The days and passes that lines say are no more than their numbers.
-use Rattle.std.proofs.Common.{◌≡◌, ℕ, ◌+◌, ◌<◌, ◌≤◌, ◌^◌, Bool, true, false, cond, ◌&&◌, List, [], ◌∷◌, length, Option, Some, None, Result, Ok, Err, IfOk, All, refl, ap, ◌∙◌, subst, arith, inl, inr, nat_le, nat_eq}
+use Rattle.std.proofs.Common.{◌≡◌, ℕ, ◌+◌, ◌<◌, ◌≤◌, ◌^◌, Bool, true, false, cond, ◌&&◌, List, [], ◌∷◌, length, Option}
+use Rattle.std.proofs.Common.{Some, None, Result, Ok, Err, IfOk, All, refl, ap, ◌∙◌, subst, arith, inl, inr, nat_le}
+use Rattle.std.proofs.Common.{nat_eq}
 use Rattle.std.specs.Prelude.{option_and_then, option_map, codes}
 use Rattle.std.proofs.lemmas.Bool.{cases_Bool, eqb-true, leb-true}
 use Rattle.std.proofs.lemmas.List.Elements.{All-cons, All-nil}
@@ -13,7 +15,9 @@ use Rattle.certificate.specs.declared.line.Line.{Line}
 use Rattle.certificate.specs.declared.line.Line.TheVariants.{Day, Pass, Fall, End}
 use Rattle.certificate.specs.declared.refusal.ChainRefusal.{ChainRefusal}
 use Rattle.certificate.specs.Counted.{IsCounted}
-use Rattle.certificate.specs.Grammar.{parts, small, number, in_front, numbers, only, is_word, fall_at, line_of, line_with, misplaced, day_after, pass_after, Said, nothing, end_at, said_with, said_from, is_end, read, chain_of}
+use Rattle.certificate.specs.Grammar.{parts, small, number, in_front, numbers, only, is_word, fall_at, line_of}
+use Rattle.certificate.specs.Grammar.{line_with, misplaced, day_after, pass_after, Said, nothing, end_at, said_with}
+use Rattle.certificate.specs.Grammar.{said_from, is_end, read, chain_of}
 use Rattle.certificate.specs.Open.{Answers}
 
 -- a pass is numbered by 32 bits
@@ -28,7 +32,8 @@ small_is : (o : Option ℕ) (n : ℕ) → option_and_then small o ≡ Some n →
 small_is None n e = absurd (cc)
 small_is (Some m) n e =
     elim (cases_Bool (nat_le m 4294967295)) [
-      | inl fits ↦ let is : Some m ≡ Some n = rw fits at e in let same : m ≡ n = cc in omega (arith, leb-true m 4294967295 fits)
+      | inl fits ↦ let is : Some m ≡ Some n = rw fits at e in let same : m ≡ n = cc in
+          omega (arith, leb-true m 4294967295 fits)
       | inr past ↦ let is : None ≡ Some n = rw past at e in absurd (cc)
     ]
 
@@ -55,7 +60,8 @@ numbers_small : (row : ℕ) (word next : List ℕ) (words : List (List ℕ)) (re
     → numbers (next ∷ words) ≡ read → IsSmall (option_and_then (line_with row word) read)
 numbers_small row word next words None e = tt
 numbers_small row word next words (Some ns) e =
-    line_small (is_word word (codes "day")) (is_word word (codes "pass")) (is_word word (codes "fall")) (only ns) (fall_at row ns)
+    line_small (is_word word (codes "day")) (is_word word (codes "pass")) (is_word word (codes "fall")) (only ns)
+    (fall_at row ns)
     (λ n is. small_is (Columns.number_of next) n (only_first (number next) (numbers words) ns n e is))
 
 end_small : (b : Bool) → IsSmall (cond b (Some End) None)
@@ -83,7 +89,8 @@ says_nothing day pass row few small_pass = record {
   each = All-nil (λ (d : DayChain). length d.passes < 2 ^ 32);
 }
 
-end_counts : (day pass row : ℕ) (others : List (List ℕ)) → day ≤ 366 → pass ≤ 4294967295 → CountsFrom day pass (end_at row others)
+end_counts : (day pass row : ℕ) (others : List (List ℕ)) → day ≤ 366 → pass ≤ 4294967295
+    → CountsFrom day pass (end_at row others)
 end_counts day pass row [] few small_pass = tt
 end_counts day pass row ([] ∷ []) few small_pass = says_nothing day pass row few small_pass
 end_counts day pass row ([] ∷ next ∷ others) few small_pass = tt
@@ -123,24 +130,29 @@ pass_counts false true day pass row k (Ok said) few e fits counts =
     let c : Counts day k said = counts fits in
     record { passes = let p = c.passes in omega arith; days = c.days; each = c.each }
 
-fall_counts : (none : Bool) (day pass row : ℕ) (fall : FallLine) (said : Result Said ChainFault) → CountsFrom day pass said
+fall_counts : (none : Bool) (day pass row : ℕ) (fall : FallLine) (said : Result Said ChainFault)
+    → CountsFrom day pass said
     → CountsFrom day pass (said_with row (Some (Fall fall)) (cond none (Some NotLine) None) said)
 fall_counts true day pass row fall said counts = tt
 fall_counts false day pass row fall (Err fault) counts = tt
-fall_counts false day pass row fall (Ok said) counts = record { passes = counts.passes; days = counts.days; each = counts.each }
+fall_counts false day pass row fall (Ok said) counts =
+    record { passes = counts.passes; days = counts.days; each = counts.each }
 
 line_counts : (line : Option Line) (day pass row : ℕ) (others : List (List ℕ))
     (said : Result Said ChainFault) → day ≤ 366 → pass ≤ 4294967295 → IsSmall line
-    → (day_after day line ≤ 366 → pass_after pass line ≤ 4294967295 → CountsFrom (day_after day line) (pass_after pass line) said)
+    → (day_after day line ≤ 366 → pass_after pass line ≤ 4294967295
+    → CountsFrom (day_after day line) (pass_after pass line) said)
     → CountsFrom day pass (cond (is_end line) (end_at row others) (said_with row line (misplaced day pass line) said))
 line_counts None day pass row others said few small_pass fits counts = tt
 line_counts (Some (Day n)) day pass row others said few small_pass fits counts =
-    day_counts (nat_eq n (day + 1)) (nat_le n 366) day pass row n said small_pass refl refl (λ within. counts within (omega arith))
+    day_counts (nat_eq n (day + 1)) (nat_le n 366) day pass row n said small_pass refl refl
+    (λ within. counts within (omega arith))
 line_counts (Some (Pass k)) day pass row others said few small_pass fits counts =
     pass_counts (nat_eq day 0) (nat_eq k (pass + 1)) day pass row k said few refl fits (λ within. counts few within)
 line_counts (Some (Fall fall)) day pass row others said few small_pass fits counts =
     fall_counts (nat_eq pass 0) day pass row fall said (counts few small_pass)
-line_counts (Some End) day pass row others said few small_pass fits counts = end_counts day pass row others few small_pass
+line_counts (Some End) day pass row others said few small_pass fits counts =
+    end_counts day pass row others few small_pass
 
 lines_count : (day pass row : ℕ) (texts : List (List ℕ)) → day ≤ 366 → pass ≤ 4294967295
     → CountsFrom day pass (said_from day pass row texts)
@@ -152,13 +164,15 @@ lines_count day pass row (text ∷ next ∷ others) few small_pass =
     line_counts line day pass row (next ∷ others)
     (said_from (day_after day line) (pass_after pass line) (row + 1) (next ∷ others)) few
     small_pass (all_small row (parts 32 text))
-    (λ few_after small_after. lines_count (day_after day line) (pass_after pass line) (row + 1) (next ∷ others) few_after small_after)
+    (λ few_after small_after. lines_count (day_after day line) (pass_after pass line) (row + 1)
+    (next ∷ others) few_after small_after)
 
 chain_counts : (said : Result Said ChainFault) → CountsFrom 0 0 said → IfOk (chain_of said) IsCounted
 chain_counts (Err fault) counts = tt
 chain_counts (Ok said) counts = record { days = let d = counts.days in omega arith; passes = counts.each }
 
-counted_where : (expected : Result Chain ChainFault) (chain : Chain) → IfOk expected IsCounted → expected ≡ Ok chain → IsCounted chain
+counted_where : (expected : Result Chain ChainFault) (chain : Chain) → IfOk expected IsCounted → expected ≡ Ok chain
+    → IsCounted chain
 counted_where expected chain counted is = subst (λ (r : Result Chain ChainFault). IfOk r IsCounted) is counted
 
 -- a chain that is read is counted

@@ -1,5 +1,6 @@
 -- A text that is cut at the first of a byte.
-use Rattle.std.proofs.Common.{◌≡◌, ℕ, ◌+◌, ◌<◌, ◌≤◌, Bool, true, false, cond, List, [], ◌∷◌, length, take, drop, Some, None, refl, arith}
+use Rattle.std.proofs.Common.{◌≡◌, ℕ, ◌+◌, ◌<◌, ◌≤◌, Bool, true, false, cond, List, [], ◌∷◌, length, take, drop, Some}
+use Rattle.std.proofs.Common.{None, refl, arith}
 use Rattle.std.specs.Prelude.{◌==◌, nat_lt, position}
 use Rattle.std.specs.List.{position_or_len}
 use Rattle.std.proofs.lemmas.Bool.Decides.{nat_tests}
@@ -44,7 +45,8 @@ no_place p xs e = not_less (position_or_len p xs) (length xs)
     (left_out (nat_lt (position_or_len p xs) (length xs)) (position_or_len p xs) e)
 
 -- the place that is found
-pub place_found : (p : ℕ → Bool) (xs : List ℕ) (i : ℕ) → position p xs ≡ Some i → (i < length xs) × (position_or_len p xs ≡ i)
+pub place_found : (p : ℕ → Bool) (xs : List ℕ) (i : ℕ) → position p xs ≡ Some i
+    → (i < length xs) × (position_or_len p xs ≡ i)
 place_found p xs i e =
     let (is, at) = chosen (nat_lt (position_or_len p xs) (length xs)) (position_or_len p xs) i e in
     (rw (← at) (is_less (position_or_len p xs) (length xs) is), at)

@@ -15,13 +15,16 @@ pub evening_is : (orders : List CallOrder) (ceilings : List ℕ) (day k : ℕ) (
 evening_is orders ceilings day k s [] evening are = absurd are
 evening_is orders ceilings day k s (pass ∷ []) evening are = are.2
 evening_is orders ceilings day k s (pass ∷ (next ∷ rest)) evening are =
-    evening_is orders ceilings day (k + 1) (closing_by s orders ceilings (record { day = day; pass = k }) pass) (next ∷ rest) evening are.2
+    evening_is orders ceilings day (k + 1) (closing_by s orders ceilings (record { day = day; pass = k }) pass)
+    (next ∷ rest) evening are.2
 
 -- without a fault the day is valid, and the state after its passes is its evening
 pub is_valid : NoFaultWhereValid
     → (orders : List CallOrder) (ceilings : List ℕ) (day : ℕ) (morning : State) (chain : DayChain)
     (evening : State) → day_fault orders ceilings day morning chain ≡ None
-    → evening ≡ state_after orders ceilings day 1 morning chain.passes → IsDayChain orders ceilings day morning chain evening
+    → evening ≡ state_after orders ceilings day 1 morning chain.passes
+    → IsDayChain orders ceilings day morning chain evening
 is_valid law orders ceilings day morning chain evening none is =
     let (last, are) = (law orders ceilings day morning chain).0 none in
-    subst (IsDayChain orders ceilings day morning chain) (evening_is orders ceilings day 1 morning chain.passes last are ∙ sym is) are
+    subst (IsDayChain orders ceilings day morning chain)
+    (evening_is orders ceilings day 1 morning chain.passes last are ∙ sym is) are

@@ -1,5 +1,6 @@
 -- Lines and passes, one after another.
-use Rattle.std.proofs.Common.{◌≡◌, ℕ, suc, ◌+◌, ◌<◌, true, false, cond, List, ◌∷◌, length, drop, get_or, Option, None, sym, ap, ◌∙◌, arith, drop-cons}
+use Rattle.std.proofs.Common.{◌≡◌, ℕ, suc, ◌+◌, ◌<◌, true, false, cond, List, ◌∷◌, length, drop, get_or, Option, None}
+use Rattle.std.proofs.Common.{sym, ap, ◌∙◌, arith, drop-cons}
 use Rattle.std.specs.Prelude.{option_map, slice_set}
 use Rattle.admit_core.specs.declared.chain.CheckReason.{CheckReason}
 use Rattle.admit_core.specs.declared.chain.FallLine.{FallLine}
@@ -8,14 +9,16 @@ use Rattle.admit_core.specs.declared.ranking.CallOrder.{CallOrder}
 use Rattle.admit_core.specs.declared.state.Stamp.{Stamp}
 use Rattle.admit_core.specs.State.{State}
 use Rattle.admit_core.specs.Proposals.{proposed}
-use Rattle.admit_core.specs.Chains.{school_of_line, lowered, bars_by, line_fault, lines_fault, pass_fault, passes_fault, extra_pass, frees_nothing_by, closing_by}
+use Rattle.admit_core.specs.Chains.{school_of_line, lowered, bars_by, line_fault, lines_fault, pass_fault, passes_fault}
+use Rattle.admit_core.specs.Chains.{extra_pass, frees_nothing_by, closing_by}
 use Rattle.linked_demand.specs.Rounds.{Round}
 use Rattle.certificate.specs.declared.stop.Stop.{Stop}
 use Rattle.certificate.specs.Checked.{Stops, state_after}
 use Rattle.certificate.proofs.Testing.{goes_on, stops_at}
 
 -- the items from a place on
-pub drop_item : {X : Type 0} (xs : List X) (i : ℕ) (x : X) → i < length xs → x ≡ get_or xs i x → drop i xs ≡ x ∷ drop (i + 1) xs
+pub drop_item : {X : Type 0} (xs : List X) (i : ℕ) (x : X) → i < length xs → x ≡ get_or xs i x
+    → drop i xs ≡ x ∷ drop (i + 1) xs
 drop_item xs i x lt is =
     let next : suc i ≡ i + 1 = omega arith in
     drop-cons xs i x lt ∙ ap (λ y. y ∷ drop (suc i) xs) (sym is) ∙ ap (λ k. x ∷ drop k xs) next
@@ -26,14 +29,16 @@ module _ (s : State) (now new : Round) (line : FallLine) (h : ℕ) (rest : List 
   bars_are = ap (λ (r : Round). r.bars) fell ∙ ap (λ k. slice_set now.bars k line.to) is
 
   -- a line that is valid
-  pub line_passes : (whole : Option (ℕ × CheckReason)) → whole ≡ lines_fault s now.orders now.ceilings now.bars (line ∷ rest)
+  pub line_passes : (whole : Option (ℕ × CheckReason))
+      → whole ≡ lines_fault s now.orders now.ceilings now.bars (line ∷ rest)
       → option_map {U = ℕ × CheckReason} (λ reason.
       (line.row, reason)) (line_fault s now.orders now.ceilings now.bars line) ≡ None
       → whole ≡ lines_fault s new.orders new.ceilings new.bars rest
   line_passes whole e none =
       goes_on _ (lines_fault s now.orders now.ceilings (lowered s now.bars line) rest) whole e none
       ∙ ap (λ (bs : List ℕ). lines_fault s now.orders now.ceilings bs rest) (sym bars_are)
-      ∙ ap (λ (os : List CallOrder). lines_fault s os now.ceilings new.bars rest) (sym (ap (λ (r : Round). r.orders) fell))
+      ∙ ap (λ (os : List CallOrder). lines_fault s os now.ceilings new.bars rest)
+      (sym (ap (λ (r : Round). r.orders) fell))
       ∙ ap (λ (cs : List ℕ). lines_fault s new.orders cs new.bars rest) (sym (ap (λ (r : Round). r.ceilings) fell))
 
   pub bars_pass : (whole : List ℕ) → whole ≡ bars_by s now.bars (line ∷ rest) → whole ≡ bars_by s new.bars rest
@@ -43,7 +48,12 @@ module _ (s : State) (now new : Round) (line : FallLine) (h : ℕ) (rest : List 
 pub keeps_round : (old now new : Round) (bars : List ℕ) → now ≡ record old { bars = now.bars }
     → new ≡ record now { bars = bars } → new ≡ record old { bars = new.bars }
 keeps_round old now new bars kept fell =
-    let put : Round → List ℕ → Round = λ r bs. record { state = r.state; orders = r.orders; ceilings = r.ceilings; bars = bs } in
+    let put : Round → List ℕ → Round = λ r bs. record {
+      state = r.state;
+      orders = r.orders;
+      ceilings = r.ceilings;
+      bars = bs;
+    } in
     fell ∙ ap (λ (r : Round). put r bars) kept ∙ ap (put old) (sym (ap (λ (r : Round). r.bars) fell))
 
 -- a line that is not valid
@@ -58,8 +68,10 @@ line_stops s now line rest found whole e stops =
     (lines_fault s now.orders now.ceilings (lowered s now.bars line) rest) whole e stops
 
 -- what a round that began at its ceilings proposes after the lines of a pass
-pub offers_told : (s : State) (old new : Round) (lines falls : List FallLine) (items : List ℕ) → old.state ≡ s → old.bars ≡ old.ceilings
-    → new ≡ record old { bars = bars_by s old.bars lines } → lines ≡ falls → items ≡ proposed new.state new.orders new.bars
+pub offers_told : (s : State) (old new : Round) (lines falls : List FallLine) (items : List ℕ) → old.state ≡ s
+    → old.bars ≡ old.ceilings
+    → new ≡ record old { bars = bars_by s old.bars lines } → lines ≡ falls
+    → items ≡ proposed new.state new.orders new.bars
     → items ≡ proposed s old.orders (bars_by s old.ceilings falls)
 offers_told s old new lines falls items same begun new_is are told =
     told ∙ ap (λ (r : Round). proposed r.state r.orders r.bars) new_is
@@ -90,7 +102,8 @@ module _ (orders : List CallOrder) (ceilings : List ℕ) (day end k : ℕ) (s : 
       ∙ ap (λ (t : State). passes_fault orders ceilings day end (k + 1) t rest) (sym is)
 
   -- a valid pass that frees nothing
-  pub pass_is_last : whole ≡ passes_fault orders ceilings day end k s (pass ∷ rest) → pass_fault s orders ceilings pass ≡ None
+  pub pass_is_last : whole ≡ passes_fault orders ceilings day end k s (pass ∷ rest)
+      → pass_fault s orders ceilings pass ≡ None
       → frees_nothing_by s orders ceilings (record { day = day; pass = k }) pass ≡ true → whole ≡ extra_pass rest
   pass_is_last e none frees =
       let after = closing_by s orders ceilings (record { day = day; pass = k }) pass in
@@ -100,6 +113,7 @@ module _ (orders : List CallOrder) (ceilings : List ℕ) (day end k : ℕ) (s : 
 pub state_goes_on : (orders : List CallOrder) (ceilings : List ℕ) (day k : ℕ) (s next : State)
     (pass : PassChain) (rest : List PassChain) (whole : State)
     → whole ≡ state_after orders ceilings day k s (pass ∷ rest)
-    → next ≡ closing_by s orders ceilings (record { day = day; pass = k }) pass → whole ≡ state_after orders ceilings day (k + 1) next rest
+    → next ≡ closing_by s orders ceilings (record { day = day; pass = k }) pass
+    → whole ≡ state_after orders ceilings day (k + 1) next rest
 state_goes_on orders ceilings day k s next pass rest whole e is =
     e ∙ ap (λ (t : State). state_after orders ceilings day (k + 1) t rest) (sym is)

@@ -1,5 +1,7 @@
 -- Wishes that are named by their ids, and ranks by their wishes.
-use Rattle.std.proofs.Common.{◌≡◌, ℕ, suc, ◌+◌, ◌<◌, Bool, true, false, not, ◌&&◌, List, [], ◌∷◌, length, map, filter, get_or, Option, Some, None, refl, sym, ap, ◌∙◌, arith, All, inl, inr, nat_eq, nat_lt, nat_le, zero-add, add-zero}
+use Rattle.std.proofs.Common.{◌≡◌, ℕ, suc, ◌+◌, ◌<◌, Bool, true, false, not, ◌&&◌, List, [], ◌∷◌, length, map, filter}
+use Rattle.std.proofs.Common.{get_or, Option, Some, None, refl, sym, ap, ◌∙◌, arith, All, inl, inr, nat_eq, nat_lt}
+use Rattle.std.proofs.Common.{nat_le, zero-add, add-zero}
 use Rattle.std.specs.Prelude.{◌==◌, position, find, option_map, unwrap_or}
 use Rattle.std.specs.List.{list_any, enumerate_from, IsDistinct}
 use Rattle.std.proofs.lemmas.Bool.{false≢true, and_parts, eqb-true, eq-eqb, cases_Bool, cases_order, lt-ltb}
@@ -71,21 +73,25 @@ module _ (s : State) (long : length s.marks ≡ length s.dossier.wishes) where
       get_or-zip s.dossier.wishes s.marks j d lt marked
       ∙ ap (λ (w : Wish). (w, get_or s.marks j d.1)) (get_or_default s.dossier.wishes j d.0 _ lt
       ∙ sym (unwrap_or-slice_get s.dossier.wishes j _))
-      ∙ ap (λ (m : Mark). (wish_in s.dossier.wishes j, m)) (get_or_default s.marks j d.1 _ marked ∙ sym (unwrap_or-slice_get s.marks j _))
+      ∙ ap (λ (m : Mark). (wish_in s.dossier.wishes j, m))
+      (get_or_default s.marks j d.1 _ marked ∙ sym (unwrap_or-slice_get s.marks j _))
 
-  wish_is : (j : ℕ) (x : Wish × Mark) → j < length s.dossier.wishes → x ≡ get_or (entries s) j x → x.0 ≡ wish_in s.dossier.wishes j
+  wish_is : (j : ℕ) (x : Wish × Mark) → j < length s.dossier.wishes → x ≡ get_or (entries s) j x
+      → x.0 ≡ wish_in s.dossier.wishes j
   wish_is j x lt at = ap (λ (e : Wish × Mark). e.0) (at ∙ entry_at j x lt)
 
   id_is : (j : ℕ) → j < length s.dossier.wishes → get_or (ids s) j 0 ≡ (wish_in s.dossier.wishes j).id
   id_is j lt = get_or-map (λ (w : Wish). w.id) s.dossier.wishes j (wish_in s.dossier.wishes j) 0 lt
-      ∙ ap (λ (w : Wish). w.id) (get_or_default s.dossier.wishes j _ _ lt ∙ sym (unwrap_or-slice_get s.dossier.wishes j _))
+      ∙ ap (λ (w : Wish). w.id) (get_or_default s.dossier.wishes j _ _ lt
+      ∙ sym (unwrap_or-slice_get s.dossier.wishes j _))
 
   module _ (orders : List CallOrder) (bars : List ℕ) (h r id : ℕ) where
     abbrev test : Wish × Mark → Bool
     test e = nat_eq id e.0.id && demands_bed s orders bars h e.0 e.1 && nat_eq r e.0.board_rank
 
     -- an entry that shows the rank has the id
-    has_id : (j : ℕ) (x : Wish × Mark) → j < length s.dossier.wishes → x ≡ get_or (entries s) j x → test x ≡ true → id ≡ get_or (ids s) j 0
+    has_id : (j : ℕ) (x : Wish × Mark) → j < length s.dossier.wishes → x ≡ get_or (entries s) j x → test x ≡ true
+        → id ≡ get_or (ids s) j 0
     has_id j x lt at t =
         let outer = and_parts (nat_eq id x.0.id && demands_bed s orders bars h x.0 x.1) (nat_eq r x.0.board_rank) t in
         eqb-true id x.0.id (and_parts (nat_eq id x.0.id) (demands_bed s orders bars h x.0 x.1) outer.0).0
@@ -133,7 +139,8 @@ module _ (s : State) (long : length s.marks ≡ length s.dossier.wishes) where
         let own : nat_eq id w.id ≡ true = eq-eqb id w.id (at_k ∙ id_is k k_in) in (
           k_in,
           any_only test (entries s) k (w, m) (among_entries k k_in) (λ j x lt at t.
-              let j_in = within j lt in only_place k j distinct at_k (has_id j x j_in at t) place.0 (omega (arith, j_in, as_many)))
+              let j_in = within j lt in only_place k j distinct at_k (has_id j x j_in at t) place.0
+              (omega (arith, j_in, as_many)))
               ∙ ap test (entry_at k (w, m) k_in)
               ∙ ap (λ b. b && demands_bed s orders bars h w m && nat_eq r w.board_rank) own,
         )
@@ -179,7 +186,8 @@ find_numbered {X} t n (x ∷ xs) some =
 -- the name of a demanded rank is the place of a wish that has this rank
 pub name_shows : (s : State) (orders : List CallOrder) (bars : List ℕ) (h r : ℕ)
     → length s.marks ≡ length s.dossier.wishes → is_among r (demanded_ranks s orders bars h) ≡ true
-    → (name_of s orders bars h r < length s.dossier.wishes) × ((wish_in s.dossier.wishes (name_of s orders bars h r)).board_rank ≡ r)
+    → (name_of s orders bars h r < length s.dossier.wishes)
+    × ((wish_in s.dossier.wishes (name_of s orders bars h r)).board_rank ≡ r)
 name_shows s orders bars h r long among =
     let T = λ (e : Wish × Mark). demands_bed s orders bars h e.0 e.1 && (e.0.board_rank == r) in
     let (i, e, e_in, e_at, e_demands) = Any-from_list_any (demands_at s orders bars h r) (entries s)
@@ -187,8 +195,10 @@ name_shows s orders bars h r long among =
     let parts = and_parts (demands_bed s orders bars h e.0 e.1) (nat_eq r e.0.board_rank) e_demands in
     let flipped : T e ≡ true = ap (λ b. b && (e.0.board_rank == r)) parts.0
     ∙ eq-eqb e.0.board_rank r (sym (eqb-true r e.0.board_rank parts.1)) in
-    let (j, x, lt, at, t, found) = find_numbered T 0 (entries s) (list_any_at T (entries s) i e e_in (ap T e_at ∙ flipped)) in
-    let named : name_of s orders bars h r ≡ j = ap (λ o. unwrap_or (option_map (λ (y : ℕ × (Wish × Mark)). y.0) o) 0) found ∙ zero-add j in
+    let (j, x, lt, at, t, found) = find_numbered T 0 (entries s) (list_any_at T (entries s) i e e_in
+    (ap T e_at ∙ flipped)) in
+    let named : name_of s orders bars h r ≡ j =
+    ap (λ o. unwrap_or (option_map (λ (y : ℕ × (Wish × Mark)). y.0) o) 0) found ∙ zero-add j in
     let j_in = within s long j lt in
     let rank : (wish_in s.dossier.wishes j).board_rank ≡ r =
     ap (λ (w : Wish). w.board_rank) (sym (wish_is s long j x j_in (sym at)))
@@ -209,17 +219,21 @@ all_ranks_named s orders bars h long =
     (list_any_at (nat_eq (get_or ranks k d)) ranks k d lt
     (eq-eqb (get_or ranks k d) (get_or ranks k d) refl))
 
-all_named : (s : State) (orders : List CallOrder) (bars : List ℕ) (h most : ℕ) → length s.marks ≡ length s.dossier.wishes
+all_named : (s : State) (orders : List CallOrder) (bars : List ℕ) (h most : ℕ)
+    → length s.marks ≡ length s.dossier.wishes
     → All (IsNamed s orders bars h) (filter (λ rank. nat_le rank most) (demanded_ranks s orders bars h))
 all_named s orders bars h most long =
-    All-filter (λ rank. nat_le rank most) (IsNamed s orders bars h) (demanded_ranks s orders bars h) (all_ranks_named s orders bars h long)
+    All-filter (λ rank. nat_le rank most) (IsNamed s orders bars h) (demanded_ranks s orders bars h)
+    (all_ranks_named s orders bars h long)
 
 -- the places that name ranks are places of wishes
-pub names_are_places : (s : State) (orders : List CallOrder) (bars : List ℕ) (h most : ℕ) → length s.marks ≡ length s.dossier.wishes
+pub names_are_places : (s : State) (orders : List CallOrder) (bars : List ℕ) (h most : ℕ)
+    → length s.marks ≡ length s.dossier.wishes
     → All (λ k. k < length s.dossier.wishes) (map (name_of s orders bars h)
     (filter (λ rank. nat_le rank most) (demanded_ranks s orders bars h)))
 names_are_places s orders bars h most long =
-    All-map (λ k. k < length s.dossier.wishes) (name_of s orders bars h) _ (λ k d lt. (all_named s orders bars h most long k d lt).0)
+    All-map (λ k. k < length s.dossier.wishes) (name_of s orders bars h) _
+    (λ k d lt. (all_named s orders bars h most long k d lt).0)
 
 pub map_back : (f g : ℕ → ℕ) (xs : List ℕ) → All (λ x. f (g x) ≡ x) xs → map f (map g xs) ≡ xs
 map_back f g [] all = refl
@@ -227,7 +241,8 @@ map_back f g (x ∷ xs) all = ap (λ y. y ∷ map f (map g xs)) (All-head (λ y.
     ∙ ap (λ ys. x ∷ ys) (map_back f g xs (All-tail (λ y. f (g y) ≡ y) x xs all))
 
 -- the ranks of the wishes that name ranks are these
-pub ranks_back : (s : State) (orders : List CallOrder) (bars : List ℕ) (h most : ℕ) → length s.marks ≡ length s.dossier.wishes
+pub ranks_back : (s : State) (orders : List CallOrder) (bars : List ℕ) (h most : ℕ)
+    → length s.marks ≡ length s.dossier.wishes
     → map (λ k. (wish_in s.dossier.wishes k).board_rank) (map (name_of s orders bars h)
     (filter (λ rank. nat_le rank most) (demanded_ranks s orders bars h)))
     ≡ filter (λ rank. nat_le rank most) (demanded_ranks s orders bars h)
@@ -247,7 +262,8 @@ demands_by s orders bars h w told m own lives proposed is has same ranked none l
     let no_bed : holds_bed s w.candidate h ≡ false = ap (holds_bed_in s w.candidate) (sym school) ∙ sym live ∙ none in
     wants ∙ sym (ap (λ (o : Option ℕ). is_school o h && nat_lt 0 w.board_rank
     && not (holds_bed s w.candidate h) && is_proposed s orders bars w m) school
-    ∙ ap (λ b. b && nat_lt 0 w.board_rank && not (holds_bed s w.candidate h) && is_proposed s orders bars w m) (eq-eqb h h refl)
+    ∙ ap (λ b. b && nat_lt 0 w.board_rank && not (holds_bed s w.candidate h) && is_proposed s orders bars w m)
+    (eq-eqb h h refl)
     ∙ ap (λ b. b && not (holds_bed s w.candidate h) && is_proposed s orders bars w m) rank
     ∙ ap (λ b. not b && is_proposed s orders bars w m) no_bed)
 
@@ -261,4 +277,5 @@ names_told told s orders ceilings bars h most names same as_many are =
     are
     ∙ ap (λ (bs : List ℕ). map (name_of told orders bs h) (filter (λ rank. nat_le rank most)
     (demanded_ranks told orders bs h))) (bar_each_is ceilings bars as_many)
-    ∙ ap (λ (t : State). map (name_of t orders bars h) (filter (λ rank. nat_le rank most) (demanded_ranks t orders bars h))) same
+    ∙ ap (λ (t : State). map (name_of t orders bars h) (filter (λ rank. nat_le rank most)
+    (demanded_ranks t orders bars h))) same

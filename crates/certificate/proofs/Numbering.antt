@@ -21,14 +21,17 @@ pub word_more : (whole : Option (List ℕ)) (front new word : List ℕ) (words a
     (n : ℕ) → all ≡ word ∷ words → Some n ≡ number word → new ≡ front ++ n ∷ []
     → whole ≡ put_before front (numbers all) → whole ≡ put_before new (numbers words)
 word_more whole front new word words all n first is more e =
-    e ∙ ap (λ ws. put_before front (numbers ws)) first ∙ ap (λ x. put_before front (in_front x (numbers words))) (sym is)
+    e ∙ ap (λ ws. put_before front (numbers ws)) first
+    ∙ ap (λ x. put_before front (in_front x (numbers words))) (sym is)
     ∙ one_more front n (numbers words) ∙ ap (λ f. put_before f (numbers words)) (sym more)
 
 -- one that writes none
-pub no_number : (whole : Option (List ℕ)) (front word : List ℕ) (words all : List (List ℕ)) → all ≡ word ∷ words → None ≡ number word
+pub no_number : (whole : Option (List ℕ)) (front word : List ℕ) (words all : List (List ℕ)) → all ≡ word ∷ words
+    → None ≡ number word
     → whole ≡ put_before front (numbers all) → None ≡ whole
 no_number whole front word words all first is e =
-    sym (e ∙ ap (λ ws. put_before front (numbers ws)) first ∙ ap (λ x. put_before front (in_front x (numbers words))) (sym is))
+    sym (e ∙ ap (λ ws. put_before front (numbers ws)) first
+    ∙ ap (λ x. put_before front (in_front x (numbers words))) (sym is))
 
 -- the last word
 pub last_word : (whole : Option (List ℕ)) (front new word : List ℕ) (all : List (List ℕ)) (n : ℕ)

@@ -1,5 +1,7 @@
 -- The text of days is read as their chain.
-use Rattle.std.proofs.Common.{◌≡◌, ℕ, suc, ◌+◌, ◌<◌, ◌≤◌, true, false, cond, ◌&&◌, List, [], ◌∷◌, ◌++◌, length, map, flat_map, get_or, All, Some, None, Ok, refl, sym, ap, ◌∙◌, subst, arith, append_assoc, append-nil, inl, inr, nat_le, nat_eq, rules}
+use Rattle.std.proofs.Common.{◌≡◌, ℕ, suc, ◌+◌, ◌<◌, ◌≤◌, true, false, cond, ◌&&◌, List, [], ◌∷◌, ◌++◌, length, map}
+use Rattle.std.proofs.Common.{flat_map, get_or, All, Some, None, Ok, refl, sym, ap, ◌∙◌, subst, arith, append_assoc}
+use Rattle.std.proofs.Common.{append-nil, inl, inr, nat_le, nat_eq, rules}
 use Rattle.std.specs.Prelude.{codes, option_and_then, slice_index}
 use Rattle.std.specs.Fmt.{decimal}
 use Rattle.std.specs.List.{enumerate_from}
@@ -23,10 +25,13 @@ use Rattle.report.specs.Words as Words
 use Rattle.certificate.specs.declared.line.Line.{Line}
 use Rattle.certificate.specs.declared.line.Line.TheVariants.{Day, Pass, Fall as FallOf}
 use Rattle.certificate.specs.ChainText.{chain_text, day_lines, pass_lines, passes_lines}
-use Rattle.certificate.specs.Grammar.{chain_of, day_after, end_at, is_end, line_of, line_with, misplaced, nothing, pass_after, parts, read, Said, said_from, said_with}
-use Rattle.certificate.specs.Written.{AreNumbered, CanBeTold, DayCanBeTold, PassCanBeTold, chain_of_days, days_from, fall_at, falls_from, passes_from, row_after, row_after_pass}
+use Rattle.certificate.specs.Grammar.{chain_of, day_after, end_at, is_end, line_of, line_with, misplaced, nothing}
+use Rattle.certificate.specs.Grammar.{pass_after, parts, read, Said, said_from, said_with}
+use Rattle.certificate.specs.Written.{AreNumbered, CanBeTold, DayCanBeTold, PassCanBeTold, chain_of_days, days_from}
+use Rattle.certificate.specs.Written.{fall_at, falls_from, passes_from, row_after, row_after_pass}
 use Rattle.certificate.proofs.Saying.{said_by}
-use Rattle.certificate.proofs.WordLines.{AreWords, IsWord, body_of, line_cut, number_word, numbers_read, numbers_words, words_cut}
+use Rattle.certificate.proofs.WordLines.{AreWords, IsWord, body_of, line_cut, number_word, numbers_read, numbers_words}
+use Rattle.certificate.proofs.WordLines.{words_cut}
 
 -- what a line of words says, with what follows it
 read_line : (day pass row : ℕ) (w : List ℕ) (ws : List (List ℕ)) (line : Line) (rest : List ℕ)
@@ -36,7 +41,8 @@ read_line : (day pass row : ℕ) (w : List ℕ) (ws : List (List ℕ)) (line : L
     (said_with row (Some line) (misplaced day pass (Some line)) (said_from
     (day_after day (Some line)) (pass_after pass (Some line)) (row + 1) (parts 10 rest)))
 read_line day pass row w ws line rest are is =
-    said_by day pass row (body_of w ws) rest (parts 10 (Words.line (w ∷ ws) ++ rest)) (Some line) (line_cut w ws rest are)
+    said_by day pass row (body_of w ws) rest (parts 10 (Words.line (w ∷ ws) ++ rest)) (Some line)
+    (line_cut w ws rest are)
     (sym (ap (line_of row) (words_cut w ws are) ∙ is))
 
 word_fall : IsWord (codes "fall")
@@ -83,7 +89,8 @@ module _ (d : DossierRows) (valid : IsValid d) where
 
   numbers_small : (fall : Fall) → CanBeTold fall → All IsSmall (fall_numbers fall)
   numbers_small fall can =
-      All-cons IsSmall (school_id d fall.school) (fall.from ∷ fall.to ∷ map (wish_id d) fall.wishes) (school_small fall.school)
+      All-cons IsSmall (school_id d fall.school) (fall.from ∷ fall.to ∷ map (wish_id d) fall.wishes)
+      (school_small fall.school)
       (All-cons IsSmall fall.from (fall.to ∷ map (wish_id d) fall.wishes) can.from
       (All-cons IsSmall fall.to (map (wish_id d) fall.wishes) can.to (All-map IsSmall
       (wish_id d) fall.wishes (λ k x lt. wish_small (get_or fall.wishes k x)))))
@@ -118,7 +125,8 @@ module _ (d : DossierRows) (valid : IsValid d) where
       ∙ fall_told row (school_id d fall.school) fall.from fall.to fall.wishes can.some
 
   -- the falls of a pass, and what follows them
-  read_falls : (day pass row : ℕ) (falls : List Fall) (rest : List ℕ) (said : Said) → nat_eq pass 0 ≡ false → All CanBeTold falls
+  read_falls : (day pass row : ℕ) (falls : List Fall) (rest : List ℕ) (said : Said) → nat_eq pass 0 ≡ false
+      → All CanBeTold falls
       → said_from day pass (row + length falls) (parts 10 rest) ≡ Ok said
       → said_from day pass row (parts 10 (flat_map (fall_line d) falls ++ rest))
       ≡ Ok (record said { falls = falls_from d row falls ++ said.falls })
@@ -132,7 +140,8 @@ module _ (d : DossierRows) (valid : IsValid d) where
       let next : row + suc (length falls) ≡ row + 1 + length falls = omega arith in
       let later = read_falls day pass (row + 1) falls rest said open_pass others
       (subst (λ k. said_from day pass k (parts 10 rest) ≡ Ok said) next follows) in
-      ap (λ (bs : List ℕ). said_from day pass row (parts 10 bs)) (append_assoc (fall_line d fall) (flat_map (fall_line d) falls) rest)
+      ap (λ (bs : List ℕ). said_from day pass row (parts 10 bs))
+      (append_assoc (fall_line d fall) (flat_map (fall_line d) falls) rest)
       ∙ ap (λ (bs : List ℕ). said_from day pass row (parts 10 (bs ++ after))) (fall_line_words fall)
       ∙ read_line day pass row (codes "fall") (map decimal (fall_numbers fall))
       (FallOf (fall_at d row fall)) after (
@@ -166,7 +175,8 @@ module _ (d : DossierRows) (valid : IsValid d) where
   read_passes : (day k row : ℕ) (ends : List PassEnd) (rest : List ℕ) (days : List DayChain)
       → nat_eq day 0 ≡ false → All PassCanBeTold ends → k + length ends ≤ 4294967295
       → ((pass : ℕ) → said_from day pass (row_after row ends) (parts 10 rest) ≡ Ok (ends_day (row_after row ends) days))
-      → said_from day k row (parts 10 (flat_map (pass_lines d) (enumerate_from (k + 1) ends) ++ rest)) ≡ Ok (passes_said row ends days)
+      → said_from day k row (parts 10 (flat_map (pass_lines d) (enumerate_from (k + 1) ends) ++ rest))
+      ≡ Ok (passes_said row ends days)
   read_passes day k row [] rest days open_day can few follows = follows k
   read_passes day k row (end ∷ ends) rest days open_day can few follows =
       let first = All-head PassCanBeTold end ends can in
@@ -202,7 +212,8 @@ module _ (d : DossierRows) (valid : IsValid d) where
   last_line day pass row = refl
 
   -- days from one number on, to the end
-  read_days : (day pass row : ℕ) (days : List DayRecord) → AreNumbered (day + 1) days → day + length days ≤ 366 → All DayCanBeTold days
+  read_days : (day pass row : ℕ) (days : List DayRecord) → AreNumbered (day + 1) days → day + length days ≤ 366
+      → All DayCanBeTold days
       → said_from day pass row (parts 10 (flat_map (day_lines d) days
       ++ Words.line (codes "end" ∷ []))) ≡ Ok (ends_day row (days_from d row days))
   read_days day pass row [] numbered few can = last_line day pass row
@@ -227,14 +238,17 @@ module _ (d : DossierRows) (valid : IsValid d) where
       subst (λ k. said_from k p end_row (parts 10 rest)
       ≡ Ok (ends_day end_row (days_from d end_row days))) (sym is)
       (read_days (day + 1) p end_row days numbered.1 within others) in
-      let passed = read_passes n 0 (row + 1) this.passes rest (days_from d end_row days) some first.passes few_passes later in
+      let passed = read_passes n 0 (row + 1) this.passes rest
+      (days_from d end_row days) some first.passes few_passes later in
       let all = passes ++ rest in
       let follows : (nat_eq n (day + 1) && nat_le n 366) ≡ true = and_from (nat_eq n (day + 1))
       (nat_le n 366) (eq-eqb n (day + 1) is) (le-leb n 366 year) in
       ap (λ (bs : List ℕ). said_from day pass row (parts 10 bs))
       (append_assoc (number ++ passes) more last ∙ append_assoc number passes rest)
-      ∙ read_line day pass row (codes "day") (decimal n ∷ []) (Day n) all (word_day, (number_word n fits, tt)) (day_line_is row n fits)
-      ∙ ap (λ b. said_with row (Some (Day n)) (cond b None (Some WrongNumber)) (said_from n 0 (row + 1) (parts 10 all))) follows
+      ∙ read_line day pass row (codes "day") (decimal n ∷ []) (Day n) all (word_day, (number_word n fits, tt))
+      (day_line_is row n fits)
+      ∙ ap (λ b. said_with row (Some (Day n)) (cond b None (Some WrongNumber)) (said_from n 0 (row + 1) (parts 10 all)))
+      follows
       ∙ ap (said_with row (Some (Day n)) None) passed
 
   -- the text of days is read as their chain

@@ -1,5 +1,6 @@
 -- A text is read as a chain exactly where it writes it.
-use Rattle.std.proofs.Common.{◌≡◌, ◌∙◌, ℕ, ◌+◌, ◌≤◌, false, List, [], ◌∷◌, ◌++◌, Option, Some, None, Result, Ok, Err, ap, append_assoc, arith, inl, inr, length, map, nat_eq, nat_le, refl, subst, sym}
+use Rattle.std.proofs.Common.{◌≡◌, ◌∙◌, ℕ, ◌+◌, ◌≤◌, false, List, [], ◌∷◌, ◌++◌, Option, Some, None, Result, Ok, Err}
+use Rattle.std.proofs.Common.{ap, append_assoc, arith, inl, inr, length, map, nat_eq, nat_le, refl, subst, sym}
 use Rattle.std.specs.Prelude.{◌&&◌, flat_map, if◌then◌else◌}
 use Rattle.std.specs.List.{enumerate_from}
 use Rattle.std.proofs.lemmas.Bool.{and_parts, cases_Bool, eq-eqb, eqb-true, false≢true, le-leb, leb-true}
@@ -8,7 +9,8 @@ use Rattle.admit_core.specs.declared.chain.ChainFault.{ChainFault}
 use Rattle.admit_core.specs.declared.chain.DayChain.{DayChain}
 use Rattle.admit_core.specs.declared.chain.FallLine.{FallLine}
 use Rattle.admit_core.specs.declared.chain.PassChain.{PassChain}
-use Rattle.certificate.specs.Grammar.{Said, chain_of, day_after, end_at, is_end, line_of, misplaced, nothing, parts, pass_after, said_from, said_with, with_line}
+use Rattle.certificate.specs.Grammar.{Said, chain_of, day_after, end_at, is_end, line_of, misplaced, nothing, parts}
+use Rattle.certificate.specs.Grammar.{pass_after, said_from, said_with, with_line}
 use Rattle.certificate.specs.declared.line.Line.{Line}
 use Rattle.certificate.specs.declared.line.Line.TheVariants.{Day, End, Fall, Pass}
 use Rattle.certificate.specs.TextGrammar.{FollowFrom, ReadsWhatIsWritten, StandFrom, WriteLines, day_lines, pass_lines}

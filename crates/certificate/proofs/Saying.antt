@@ -1,5 +1,6 @@
 -- What lines say, line by line.
-use Rattle.std.proofs.Common.{◌≡◌, ℕ, suc, zero, ◌+◌, ◌<◌, Bool, true, false, cond, List, [], ◌∷◌, ◌++◌, length, Option, Some, None, Result, Ok, Err, refl, sym, ap, ◌∙◌, arith, append_assoc, append-nil}
+use Rattle.std.proofs.Common.{◌≡◌, ℕ, suc, zero, ◌+◌, ◌<◌, Bool, true, false, cond, List, [], ◌∷◌, ◌++◌, length, Option}
+use Rattle.std.proofs.Common.{Some, None, Result, Ok, Err, refl, sym, ap, ◌∙◌, arith, append_assoc, append-nil}
 use Rattle.std.specs.Prelude.{◌==◌, nat_eq, nat_le, ◌&&◌, option_and_then}
 use Rattle.std.specs.List.{onto_first}
 use Rattle.std.proofs.lemmas.Bool.Decides.{nat_tests}
@@ -12,7 +13,9 @@ use Rattle.admit_core.specs.declared.chain.ChainReason.{ChainReason}
 use Rattle.admit_core.specs.declared.chain.ChainReason.TheVariants.{NotLine, WrongNumber, AfterEnd}
 use Rattle.certificate.specs.declared.line.Line.{Line}
 use Rattle.certificate.specs.declared.line.Line.TheVariants.{Day, Pass, Fall, End}
-use Rattle.certificate.specs.Grammar.{parts, numbers, line_of, line_with, misplaced, day_after, pass_after, Said, nothing, with_line, fault_at, end_at, unended_at, said_with, said_from, is_end, chain_of}
+use Rattle.certificate.specs.Grammar.{parts, numbers, line_of, line_with, misplaced, day_after, pass_after, Said}
+use Rattle.certificate.specs.Grammar.{nothing, with_line, fault_at, end_at, unended_at, said_with, said_from, is_end}
+use Rattle.certificate.specs.Grammar.{chain_of}
 use Rattle.certificate.specs.Open.{Open, passes_until, days_until, opened, passes_with, days_with, chain_with}
 
 abbrev pub empty : Open
@@ -31,7 +34,8 @@ said_first : (day pass row : ℕ) (text : List ℕ) (others : List (List ℕ)) �
     → said_from day pass row (text ∷ others)
     ≡ cond (is_end (line_of row (parts 32 text))) (end_at row others)
     (said_with row (line_of row (parts 32 text)) (misplaced day pass (line_of row (parts 32 text)))
-    (said_from (day_after day (line_of row (parts 32 text))) (pass_after pass (line_of row (parts 32 text))) (row + 1) others))
+    (said_from (day_after day (line_of row (parts 32 text))) (pass_after pass (line_of row (parts 32 text)))
+    (row + 1) others))
 unfolding said_from
 said_first day pass row text [] h = absurd (omega arith)
 said_first day pass row text (next ∷ others) h = refl
@@ -51,12 +55,14 @@ said_by day pass row text after all line first is =
 pub not_line : (o : Open) (row : ℕ) (text after : List ℕ) (all : List (List ℕ))
     (whole : Result Chain ChainFault) → all ≡ text ∷ parts 10 after → None ≡ line_of row (parts 32 text)
     → whole ≡ chain_with o (said_from o.day o.pass row all) → whole ≡ Err (fault_at row NotLine)
-not_line o row text after all whole first is e = e ∙ ap (chain_with o) (said_by o.day o.pass row text after all None first is)
+not_line o row text after all whole first is e =
+    e ∙ ap (chain_with o) (said_by o.day o.pass row text after all None first is)
 
 pub has_ended : (o : Open) (row : ℕ) (text after : List ℕ) (all : List (List ℕ)) (line : Line)
     (whole : Result Chain ChainFault) → all ≡ text ∷ parts 10 after
     → Some line ≡ line_of row (parts 32 text)
-    → is_end (Some line) ≡ true → whole ≡ chain_with o (said_from o.day o.pass row all) → whole ≡ chain_with o (end_at row (parts 10 after))
+    → is_end (Some line) ≡ true → whole ≡ chain_with o (said_from o.day o.pass row all)
+    → whole ≡ chain_with o (end_at row (parts 10 after))
 has_ended o row text after all line whole first is ends e =
     e ∙ ap (chain_with o) (said_by o.day o.pass row text after all (Some line) first is
     ∙ ap (λ b. cond b (end_at row (parts 10 after))
@@ -67,13 +73,15 @@ has_ended o row text after all line whole first is ends e =
 goes_by : (o : Open) (row : ℕ) (text after : List ℕ) (all : List (List ℕ)) (line : Line)
     (why : Option ChainReason) (whole : Result Chain ChainFault) → all ≡ text ∷ parts 10 after
     → Some line ≡ line_of row (parts 32 text)
-    → is_end (Some line) ≡ false → why ≡ misplaced o.day o.pass (Some line) → whole ≡ chain_with o (said_from o.day o.pass row all)
+    → is_end (Some line) ≡ false → why ≡ misplaced o.day o.pass (Some line)
+    → whole ≡ chain_with o (said_from o.day o.pass row all)
     → whole ≡ chain_with o (said_with row (Some line) why (said_from (day_after o.day (Some line))
     (pass_after o.pass (Some line)) (row + 1) (parts 10 after)))
 goes_by o row text after all line why whole first is ends placed e =
     let rest = said_from (day_after o.day (Some line)) (pass_after o.pass (Some line)) (row + 1) (parts 10 after) in
     e ∙ ap (chain_with o) (said_by o.day o.pass row text after all (Some line) first is
-    ∙ ap (λ b. cond b (end_at row (parts 10 after)) (said_with row (Some line) (misplaced o.day o.pass (Some line)) rest)) ends
+    ∙ ap (λ b. cond b (end_at row (parts 10 after))
+    (said_with row (Some line) (misplaced o.day o.pass (Some line)) rest)) ends
     ∙ ap (λ w. said_with row (Some line) w rest) (sym placed))
 
 pub is_misplaced : (o : Open) (row : ℕ) (text after : List ℕ) (all : List (List ℕ)) (line : Line)
@@ -85,7 +93,8 @@ is_misplaced o row text after all line reason whole first is ends placed e =
     goes_by o row text after all line (Some reason) whole first is ends placed e
 
 -- an item more, behind one that may stand at the end
-joins : {A : Type 0} (xs : List A) (b : Bool) (x : A) (ys : List A) → xs ++ cond b ys (x ∷ ys) ≡ (xs ++ cond b [] (x ∷ [])) ++ ys
+joins : {A : Type 0} (xs : List A) (b : Bool) (x : A) (ys : List A)
+    → xs ++ cond b ys (x ∷ ys) ≡ (xs ++ cond b [] (x ∷ [])) ++ ys
 joins xs true x ys = ap (λ l. l ++ ys) (sym (append-nil xs))
 joins xs false x ys = sym (append_assoc xs (x ∷ []) ys)
 
@@ -132,7 +141,8 @@ pass_opened o row k said some =
     ∙ ap (λ b. passes_until row o ++ cond b said.passes (pass ∷ said.passes)) (sym some)
 
 -- the pass line's number is one more, and a day is open
-numbered : (b : Bool) (k pass : ℕ) → cond b (Some NotLine) (cond (nat_eq k (pass + 1)) None (Some WrongNumber)) ≡ None → nat_eq k 0 ≡ false
+numbered : (b : Bool) (k pass : ℕ) → cond b (Some NotLine) (cond (nat_eq k (pass + 1)) None (Some WrongNumber)) ≡ None
+    → nat_eq k 0 ≡ false
 numbered true k pass e = cc
 numbered false zero pass e = let apart = rw (no_follower pass) at e in cc
 numbered false (suc k) pass e = some_suc k
@@ -182,12 +192,14 @@ goes_on o new row text after all line whole first is ends placed opens e =
     let same = numbers_opened o row line ends in
     goes_by o row text after all line None whole first is ends placed e
     ∙ said_opened o row line _ ends placed
-    ∙ ap (λ d. chain_with (opened row line o) (said_from d (pass_after o.pass (Some line)) (row + 1) (parts 10 after))) same.0
+    ∙ ap (λ d. chain_with (opened row line o) (said_from d (pass_after o.pass (Some line)) (row + 1) (parts 10 after)))
+    same.0
     ∙ ap (λ p. chain_with (opened row line o) (said_from (opened row line o).day p (row + 1) (parts 10 after))) same.1
     ∙ ap (λ (x : Open). chain_with x (said_from x.day x.pass (row + 1) (parts 10 after))) (sym opens)
 
 -- the text ends before an `end` line
-pub is_unended : (o : Open) (row : ℕ) (rest : List ℕ) (all : List (List ℕ)) (whole : Result Chain ChainFault) → all ≡ rest ∷ []
+pub is_unended : (o : Open) (row : ℕ) (rest : List ℕ) (all : List (List ℕ)) (whole : Result Chain ChainFault)
+    → all ≡ rest ∷ []
     → whole ≡ chain_with o (said_from o.day o.pass row all) → whole ≡ Err (fault_at row (unended_at rest))
 unfolding said_from
 is_unended o row rest all whole first e = e ∙ ap (λ ps. chain_with o (said_from o.day o.pass row ps)) first
@@ -199,7 +211,8 @@ follow_by row byte b [] h = absurd (omega arith)
 follow_by row byte true (p ∷ ps) h = refl
 follow_by row byte false (p ∷ ps) h = refl
 
-pub bytes_follow : (row : ℕ) (after : List ℕ) → 0 < length after → end_at row (parts 10 after) ≡ Err (fault_at (row + 1) AfterEnd)
+pub bytes_follow : (row : ℕ) (after : List ℕ) → 0 < length after
+    → end_at row (parts 10 after) ≡ Err (fault_at (row + 1) AfterEnd)
 bytes_follow row [] h = absurd (omega arith)
 bytes_follow row (byte ∷ bytes) h = follow_by row byte (byte == 10) (parts 10 bytes) (some_parts 10 bytes)
 

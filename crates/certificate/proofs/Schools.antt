@@ -1,5 +1,6 @@
 -- A school that a day's fault tells is one of the dossier.
-use Rattle.std.proofs.Common.{◌≡◌, ℕ, ◌+◌, Bool, true, false, cond, not, List, [], ◌∷◌, length, Option, Some, None, IfSome, inl, inr, subst, nat_lt, slice_index}
+use Rattle.std.proofs.Common.{◌≡◌, ℕ, ◌+◌, Bool, true, false, cond, not, List, [], ◌∷◌, length, Option, Some, None}
+use Rattle.std.proofs.Common.{IfSome, inl, inr, subst, nat_lt, slice_index}
 use Rattle.std.specs.Prelude.{find, option_map, if◌then◌else◌}
 use Rattle.std.specs.List.{range_with_len}
 use Rattle.std.specs.Option.{option_or}
@@ -13,7 +14,9 @@ use Rattle.admit_core.specs.declared.ranking.CallOrder.{CallOrder}
 use Rattle.admit_core.specs.State.{State}
 use Rattle.admit_core.specs.Boarding.{boarding}
 use Rattle.admit_core.specs.Falls.{FallingSystem, fall_of, ranks_up_to_over, is_overfilled}
-use Rattle.admit_core.specs.Chains.{bars_by, closing_by, day_fault, extra_pass, first_overfilled, frees_nothing_by, lines_fault, lowered, pass_fault, passes_fault, school_of_line, shows_ranks, tells_bars}
+use Rattle.admit_core.specs.Chains.{bars_by, closing_by, day_fault, extra_pass, first_overfilled, frees_nothing_by}
+use Rattle.admit_core.specs.Chains.{lines_fault, lowered, pass_fault, passes_fault, school_of_line, shows_ranks}
+use Rattle.admit_core.specs.Chains.{tells_bars}
 use Rattle.certificate.specs.Verdicts.{IfRejected, KeepsSchool, fault_told}
 use Rattle.certificate.specs.declared.check.Verdict.{Verdict}
 use Rattle.certificate.specs.declared.check.Verdict.TheVariants.{Proved, Rejected}
@@ -25,7 +28,8 @@ or_tells : (n : ℕ) (a b : Option (ℕ × CheckReason)) → Tells n a → Tells
 or_tells n None b one other = other
 or_tells n (Some x) b one other = one
 
-cond_tells : (n : ℕ) (b : Bool) (one other : Option (ℕ × CheckReason)) → Tells n one → Tells n other → Tells n (cond b one other)
+cond_tells : (n : ℕ) (b : Bool) (one other : Option (ℕ × CheckReason)) → Tells n one → Tells n other
+    → Tells n (cond b one other)
 cond_tells n true one other is are = is
 cond_tells n false one other is are = are
 
@@ -45,7 +49,8 @@ found_passes p (x ∷ xs) =
       | inr fails ↦ rw fails (found_passes p xs)
     ]
 
-over_tells : (sys : FallingSystem) (bars : List ℕ) (row : ℕ) (found : Option ℕ) → IfSome found (λ h. is_overfilled sys bars h ≡ true)
+over_tells : (sys : FallingSystem) (bars : List ℕ) (row : ℕ) (found : Option ℕ)
+    → IfSome found (λ h. is_overfilled sys bars h ≡ true)
     → Tells (length sys.ceilings) (option_map (λ h. (row, StillOver h)) found)
 over_tells sys bars row None passes = tt
 over_tells sys bars row (Some h) passes =
@@ -53,7 +58,8 @@ over_tells sys bars row (Some h) passes =
     (nat_lt (slice_index sys.free h) (length (sys.ranks bars h))) passes).0
 
 module _ (orders : List CallOrder) (ceilings : List ℕ) where
-  lines_tell : (s : State) (bars : List ℕ) (lines : List FallLine) → Tells (length ceilings) (lines_fault s orders ceilings bars lines)
+  lines_tell : (s : State) (bars : List ℕ) (lines : List FallLine)
+      → Tells (length ceilings) (lines_fault s orders ceilings bars lines)
   lines_tell s bars [] = tt
   lines_tell s bars (line ∷ lines) =
       let sys = boarding s orders ceilings in
@@ -67,7 +73,8 @@ module _ (orders : List CallOrder) (ceilings : List ℕ) where
   pass_tells s pass =
       let sys = boarding s orders ceilings in
       let bars = bars_by s ceilings pass.falls in
-      or_tells (length ceilings) (lines_fault s orders ceilings ceilings pass.falls) _ (lines_tell s ceilings pass.falls)
+      or_tells (length ceilings) (lines_fault s orders ceilings ceilings pass.falls) _
+      (lines_tell s ceilings pass.falls)
       (over_tells sys bars pass.next_row (first_overfilled sys bars)
       (found_passes (is_overfilled sys bars) (range_with_len 0 (length ceilings))))
 
@@ -93,7 +100,8 @@ verdict_keeps n (Rejected row reason) tells = tells
 -- a rejected day keeps a school of the dossier, if it keeps one
 pub rejects_school : (orders : List CallOrder) (ceilings : List ℕ) (day : ℕ) (morning : State)
     (chain : DayChain) (v : Verdict) → length ceilings ≡ length morning.dossier.schools
-    → day_fault orders ceilings day morning chain ≡ fault_told v → IfRejected v (KeepsSchool (length morning.dossier.schools))
+    → day_fault orders ceilings day morning chain ≡ fault_told v
+    → IfRejected v (KeepsSchool (length morning.dossier.schools))
 rejects_school orders ceilings day morning chain v as_many is =
     subst (λ n. IfRejected v (KeepsSchool n)) as_many
     (verdict_keeps (length ceilings) v (subst (Tells (length ceilings)) is

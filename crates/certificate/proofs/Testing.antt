@@ -1,5 +1,7 @@
 -- Lines of falls, tested at the present bars.
-use Rattle.std.proofs.Common.{◌≡◌, ℕ, suc, ◌+◌, ◌-◌, ◌<◌, ◌≤◌, Bool, true, false, cond, not, ◌&&◌, List, length, map, filter, Option, Some, None, refl, sym, ap, ◌∙◌, arith, nat_le, slice_index, zero-add, inl, inr}
+use Rattle.std.proofs.Common.{◌≡◌, ℕ, suc, ◌+◌, ◌-◌, ◌<◌, ◌≤◌, Bool, true, false, cond, not, ◌&&◌, List, length, map}
+use Rattle.std.proofs.Common.{filter, Option, Some, None, refl, sym, ap, ◌∙◌, arith, nat_le, slice_index, zero-add, inl}
+use Rattle.std.proofs.Common.{inr}
 use Rattle.std.specs.Prelude.{◌==◌, find, nat_lt, option_map, position, nat_eq, slice_get, slice_set, if◌then◌else◌}
 use Rattle.std.specs.Option.{is_some, option_or}
 use Rattle.std.specs.List.{range_with_len}
@@ -49,10 +51,13 @@ rank_told s orders ceilings bars h lt = ap (slice_get (demanded_ranks s orders b
     (get_or-map-range_with_len (free_beds s) 0 (length ceilings) h h 0 lt (zero-add h))
 
 -- a school is overfilled where there is such a rank
-pub over_by_rank : (s : State) (orders : List CallOrder) (ceilings bars : List ℕ) (h : ℕ) (found : Option ℕ) → h < length ceilings
-    → found ≡ slice_get (demanded_ranks s orders bars h) (free_beds s h) → is_overfilled (boarding s orders ceilings) bars h ≡ is_some found
+pub over_by_rank : (s : State) (orders : List CallOrder) (ceilings bars : List ℕ) (h : ℕ) (found : Option ℕ)
+    → h < length ceilings
+    → found ≡ slice_get (demanded_ranks s orders bars h) (free_beds s h)
+    → is_overfilled (boarding s orders ceilings) bars h ≡ is_some found
 over_by_rank s orders ceilings bars h found lt told =
-    overfilled_by_rank (boarding s orders ceilings) bars h lt ∙ ap is_some (rank_told s orders ceilings bars h lt ∙ sym told)
+    overfilled_by_rank (boarding s orders ceilings) bars h lt
+    ∙ ap is_some (rank_told s orders ceilings bars h lt ∙ sym told)
 
 module _ (s : State) (orders : List CallOrder) (ceilings bars : List ℕ) (line : FallLine) (h : ℕ)
     (is : school_of_line s line ≡ h) (lt : h < length ceilings) where
@@ -81,7 +86,8 @@ module _ (s : State) (orders : List CallOrder) (ceilings bars : List ℕ) (line 
       (tells_bars line (fall_of (boarding s orders ceilings) bars h)))
       (over_by_rank s orders ceilings bars h None lt told)
 
-  module _ (under : IsAtMost bars ceilings) (over : ℕ) (told : Some over ≡ slice_get (demanded_ranks s orders bars h) (free_beds s h)) where
+  module _ (under : IsAtMost bars ceilings) (over : ℕ)
+      (told : Some over ≡ slice_get (demanded_ranks s orders bars h) (free_beds s h)) where
     is_over : is_overfilled (boarding s orders ceilings) bars h ≡ true
     is_over = over_by_rank s orders ceilings bars h (Some over) lt told
 
@@ -106,7 +112,8 @@ module _ (s : State) (orders : List CallOrder) (ceilings bars : List ℕ) (line 
         → filter (λ rank. nat_le rank over) (demanded_ranks s orders bars h)
         ≡ ranks_up_to_over (boarding s orders ceilings) bars h
     front_is long =
-        let names = map (name_of s orders bars h) (filter (λ rank. nat_le rank over) (demanded_ranks s orders bars h)) in
+        let names = map (name_of s orders bars h)
+        (filter (λ rank. nat_le rank over) (demanded_ranks s orders bars h)) in
         let made =
         fall_made (boarding s orders ceilings) (boarding_is_lawful s orders ceilings) bars h
         under is_over (Some over) over (slice_index bars h) names names answered refl refl refl
@@ -122,7 +129,8 @@ module _ (s : State) (orders : List CallOrder) (ceilings bars : List ℕ) (line 
         ≡ filter (λ rank. nat_le rank over) (demanded_ranks s orders bars h)) (shows : Bool)
         (shown : shows ≡ shows_ranks s orders bars h ranks line.wishes) where
       shows_is : shows_ranks s orders bars h (ranks_up_to_over (boarding s orders ceilings) bars h) line.wishes ≡ shows
-      shows_is = ap (λ (rs : List ℕ). shows_ranks s orders bars h rs line.wishes) (sym (are ∙ front_is long)) ∙ sym shown
+      shows_is = ap (λ (rs : List ℕ). shows_ranks s orders bars h rs line.wishes) (sym (are ∙ front_is long))
+          ∙ sym shown
 
       tests_are : (tells : Bool) → tells_bars line (fall_of (boarding s orders ceilings) bars h)
           ≡ tells → line_fault s orders ceilings bars line ≡ line_tests true shows tells
@@ -165,7 +173,8 @@ module _ (s : State) (orders : List CallOrder) (ceilings bars : List ℕ) (line 
           ∙ ap (λ b. line_tests true b tells) good ∙ ap (line_tests true true) holds
 
 -- the overfilled school of least place, place by place
-from_place : (p : ℕ → Bool) (i m n : ℕ) → n ≡ suc m → find p (range_with_len i n) ≡ cond (p i) (Some i) (find p (range_with_len (i + 1) m))
+from_place : (p : ℕ → Bool) (i m n : ℕ) → n ≡ suc m
+    → find p (range_with_len i n) ≡ cond (p i) (Some i) (find p (range_with_len (i + 1) m))
 from_place p i m n e = ap (λ (k : ℕ). find p (range_with_len i k)) e
 
 pub none_at : (p : ℕ → Bool) (i n : ℕ) → i < n → p i ≡ false
@@ -190,7 +199,8 @@ line_place s index line h are found =
 pub top_told : (told s : State) (orders : List CallOrder) (bars : List ℕ) (h : ℕ) (found : Option ℕ)
     → told ≡ s → found ≡ slice_get (demanded_ranks told orders bars h) (free_beds told h)
     → found ≡ slice_get (demanded_ranks s orders bars h) (free_beds s h)
-top_told told s orders bars h found same is = is ∙ ap (λ (t : State). slice_get (demanded_ranks t orders bars h) (free_beds t h)) same
+top_told told s orders bars h found same is =
+    is ∙ ap (λ (t : State). slice_get (demanded_ranks t orders bars h) (free_beds t h)) same
 
 -- what a check of a line has found first: the place of its school, and the rank there that finds no
 -- bed
@@ -302,7 +312,8 @@ stops_unknown s orders ceilings bars index line are as_many none =
     (tells_bars line (fall_of sys bars h)))) idle
 
 -- a fault at a line, or none there
-pub stops_at : (found : Stop) (fault rest all : Option (ℕ × CheckReason)) → all ≡ option_or fault rest → Stops found fault → Stops found all
+pub stops_at : (found : Stop) (fault rest all : Option (ℕ × CheckReason)) → all ≡ option_or fault rest
+    → Stops found fault → Stops found all
 stops_at stop.OutOfMemory fault rest all is stops = tt
 stops_at (stop.Rejected row reason) fault rest all is stops = is ∙ ap (λ o. option_or o rest) stops
 

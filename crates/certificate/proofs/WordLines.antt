@@ -1,5 +1,6 @@
 -- Lines of words that hold no space and no line feed are cut into these words again.
-use Rattle.std.proofs.Common.{◌≡◌, ℕ, ◌<◌, ◌≤◌, ◌^◌, true, false, cond, ◌&&◌, List, [], ◌∷◌, ◌++◌, length, map, All, Option, Some, None, refl, sym, ap, ◌∙◌, arith, append_assoc, append-nil, nat_le, nat_lt}
+use Rattle.std.proofs.Common.{◌≡◌, ℕ, ◌<◌, ◌≤◌, ◌^◌, true, false, cond, ◌&&◌, List, [], ◌∷◌, ◌++◌, length, map, All}
+use Rattle.std.proofs.Common.{Option, Some, None, refl, sym, ap, ◌∙◌, arith, append_assoc, append-nil, nat_le, nat_lt}
 use Rattle.std.specs.Prelude.{◌==◌, option_and_then}
 use Rattle.std.specs.Char.{digit_value, is_ascii_digit}
 use Rattle.std.specs.Fmt.{decimal}
@@ -41,13 +42,15 @@ not_byte byte b low high = grind (arith, nat_tests)
 
 word_fails : (byte : ℕ) (w : List ℕ) → byte ≤ 32 → IsWord w → All (λ (b : ℕ). (b == byte) ≡ false) w
 word_fails byte [] low is = All-nil (λ (b : ℕ). (b == byte) ≡ false)
-word_fails byte (b ∷ bs) low is = All-cons (λ (b : ℕ). (b == byte) ≡ false) b bs (not_byte byte b low is.0) (word_fails byte bs low is.1)
+word_fails byte (b ∷ bs) low is = All-cons (λ (b : ℕ). (b == byte) ≡ false) b bs (not_byte byte b low is.0)
+    (word_fails byte bs low is.1)
 
 tail_fails : (ws : List (List ℕ)) → AreWords ws → All (λ (b : ℕ). (b == 10) ≡ false) (tail_of ws)
 tail_fails [] are = All-nil (λ (b : ℕ). (b == 10) ≡ false)
 tail_fails (w ∷ ws) are =
     All-cons (λ (b : ℕ). (b == 10) ≡ false) 32 (w ++ tail_of ws) refl
-    (All-append (λ (b : ℕ). (b == 10) ≡ false) w (tail_of ws) (word_fails 10 w (omega arith) are.0) (tail_fails ws are.1))
+    (All-append (λ (b : ℕ). (b == 10) ≡ false) w (tail_of ws) (word_fails 10 w (omega arith) are.0)
+    (tail_fails ws are.1))
 
 -- a line is cut off at its line feed
 pub line_cut : (w : List ℕ) (ws : List (List ℕ)) (rest : List ℕ) → AreWords (w ∷ ws)
@@ -57,11 +60,13 @@ line_cut w ws rest are =
     ∙ ap (λ (bs : List ℕ). parts 10 (bs ++ rest)) (sym (append_assoc w (tail_of ws) (10 ∷ [])))
     ∙ ap (parts 10) (append_assoc (w ++ tail_of ws) (10 ∷ []) rest)
     ∙ slice_split_at (λ (b : ℕ). b == 10) (w ++ tail_of ws) 10 rest
-    (All-append (λ (b : ℕ). (b == 10) ≡ false) w (tail_of ws) (word_fails 10 w (omega arith) are.0) (tail_fails ws are.1)) refl
+    (All-append (λ (b : ℕ). (b == 10) ≡ false) w (tail_of ws) (word_fails 10 w (omega arith) are.0)
+    (tail_fails ws are.1)) refl
 
 -- its words are parted by the spaces
 pub words_cut : (w : List ℕ) (ws : List (List ℕ)) → AreWords (w ∷ ws) → parts 32 (body_of w ws) ≡ w ∷ ws
-words_cut w [] are = ap (parts 32) (append-nil w) ∙ slice_split_none (λ (b : ℕ). b == 32) w (word_fails 32 w (omega arith) are.0)
+words_cut w [] are = ap (parts 32) (append-nil w) ∙ slice_split_none (λ (b : ℕ). b == 32) w
+    (word_fails 32 w (omega arith) are.0)
 words_cut w (next ∷ ws) are =
     slice_split_at (λ (b : ℕ). b == 32) w 32 (body_of next ws) (word_fails 32 w (omega arith) are.0) refl
     ∙ ap (λ (ps : List (List ℕ)). w ∷ ps) (words_cut next ws are.1)
@@ -79,7 +84,8 @@ digits_word (b ∷ bs) are = ((digit_in b are.0).0, digits_word bs are.1)
 
 digits_pass : (ds : List ℕ) → AllDigits 10 ds → list_all is_ascii_digit ds ≡ true
 digits_pass [] are = refl
-digits_pass (b ∷ bs) are = and_from (is_ascii_digit b) (list_all is_ascii_digit bs) (digit_in b are.0).1 (digits_pass bs are.1)
+digits_pass (b ∷ bs) are = and_from (is_ascii_digit b) (list_all is_ascii_digit bs) (digit_in b are.0).1
+    (digits_pass bs are.1)
 
 all_digits : (n : ℕ) → n ≤ 4294967295 → AllDigits 10 (decimal n)
 all_digits n few = let big : n < 2 ^ 64 = omega arith in (decimal_is_IsNumeral n big).0.1
@@ -114,5 +120,6 @@ numbers_words (n ∷ ns) few = (
 pub numbers_read : (ns : List ℕ) → All (λ n. n ≤ 4294967295) ns → numbers (map decimal ns) ≡ Some ns
 numbers_read [] few = refl
 numbers_read (n ∷ ns) few =
-    ap (λ (o : Option ℕ). in_front o (numbers (map decimal ns))) (number_read n (All-head (λ (k : ℕ). k ≤ 4294967295) n ns few))
+    ap (λ (o : Option ℕ). in_front o (numbers (map decimal ns)))
+    (number_read n (All-head (λ (k : ℕ). k ≤ 4294967295) n ns few))
     ∙ ap (in_front (Some n)) (numbers_read ns (All-tail (λ (k : ℕ). k ≤ 4294967295) n ns few))

@@ -1,7 +1,8 @@
 -- What a verdict tells.
 use Rattle.std.specs.Prelude.{ℕ, ◌<◌, Option, Some, None}
 use Rattle.admit_core.specs.declared.chain.CheckReason.{CheckReason}
-use Rattle.admit_core.specs.declared.chain.CheckReason.TheVariants.{NotOver, WrongWishes, WrongBar, StillOver, PassMissing, PassExtra}
+use Rattle.admit_core.specs.declared.chain.CheckReason.TheVariants.{NotOver, WrongWishes, WrongBar, StillOver}
+use Rattle.admit_core.specs.declared.chain.CheckReason.TheVariants.{PassMissing, PassExtra}
 use Rattle.admit_core.specs.State.{State}
 use Rattle.certificate.specs.declared.check.Verdict.{Verdict}
 use Rattle.certificate.specs.declared.check.Verdict.TheVariants.{Proved, Rejected}

@@ -1,5 +1,6 @@
 -- Answers in person: given in both campaigns, or in the kinder one alone.
-use Rattle.std.proofs.Common.{ℕ, ◌+◌, ◌<◌, ◌≡◌, ◌≢◌, ◌⊎◌, Bool, true, false, ◌&&◌, ◌||◌, List, [], ◌∷◌, length, map, get_or, None, inl, inr, refl, sym, ◌∙◌, ap, subst, arith, nat_eq, nat_lt, set}
+use Rattle.std.proofs.Common.{ℕ, ◌+◌, ◌<◌, ◌≡◌, ◌≢◌, ◌⊎◌, Bool, true, false, ◌&&◌, ◌||◌, List, [], ◌∷◌, length, map}
+use Rattle.std.proofs.Common.{get_or, None, inl, inr, refl, sym, ◌∙◌, ap, subst, arith, nat_eq, nat_lt, set}
 use Rattle.std.specs.Prelude.{All, ◌==◌, if◌then◌else◌, slice_index}
 use Rattle.std.specs.List.{AllByRecursion}
 use Rattle.std.proofs.lemmas.Bool.{and_parts, both_ways, cases_Bool, cases_eq, false_from_ne_true, false≢true, ltb-true}
@@ -15,7 +16,8 @@ use Rattle.admit_core.specs.declared.state.Mark.{Mark}
 use Rattle.admit_core.specs.declared.state.Stamp.{Stamp}
 use Rattle.admit_core.specs.declared.state.Status.{Status}
 use Rattle.admit_core.specs.declared.state.Status.TheVariants.{Accepted, Quit as HasQuit, Refused, Withdrawn}
-use Rattle.admit_core.specs.Answers.{after, after_all, after_kind, candidate_at, first_unfit, fits, mark_at, refuse_live}
+use Rattle.admit_core.specs.Answers.{after, after_all, after_kind, candidate_at, first_unfit, fits, mark_at}
+use Rattle.admit_core.specs.Answers.{refuse_live}
 use Rattle.admit_core.specs.CallOrder.{AreCallOrders}
 use Rattle.admit_core.specs.Days.{answers_of}
 use Rattle.admit_core.specs.DossierRows.{DossierRows, candidate_of}

@@ -1,14 +1,17 @@
 -- A state in which each wish has come further than in another, and the steps that keep it so.
-use Rattle.std.proofs.Common.{ℕ, ◌<◌, ◌≡◌, ◌⊎◌, Bool, true, false, not, ◌&&◌, ◌||◌, List, Option, Some, None, inl, inr, refl, sym, ◌∙◌, ap, arith, nat_eq, nat_lt}
+use Rattle.std.proofs.Common.{ℕ, ◌<◌, ◌≡◌, ◌⊎◌, Bool, true, false, not, ◌&&◌, ◌||◌, List, Option, Some, None, inl, inr}
+use Rattle.std.proofs.Common.{refl, sym, ◌∙◌, ap, arith, nat_eq, nat_lt}
 use Rattle.std.specs.Prelude.{◌==◌}
 use Rattle.std.specs.List.{list_any}
-use Rattle.std.proofs.lemmas.Bool.{and_from, and_parts, both_ways, cases_Bool, eq-eqb, eqb-true, false_from_ne_true, false≢true, lt-ltb, ltb-true, ne_eqb}
+use Rattle.std.proofs.lemmas.Bool.{and_from, and_parts, both_ways, cases_Bool, eq-eqb, eqb-true, false_from_ne_true}
+use Rattle.std.proofs.lemmas.Bool.{false≢true, lt-ltb, ltb-true, ne_eqb}
 use Rattle.admit_core.specs.declared.dossier.Wish.{Wish}
 use Rattle.admit_core.specs.declared.ranking.CallOrder.{CallOrder}
 use Rattle.admit_core.specs.declared.state.Mark.{Mark}
 use Rattle.admit_core.specs.declared.state.Stamp.{Stamp}
 use Rattle.admit_core.specs.declared.state.Status.{Status}
-use Rattle.admit_core.specs.declared.state.Status.TheVariants.{Waiting, Offered, Accepted, Refused, Withdrawn, Quit, AutoRefused, AutoWithdrawn, Lapsed}
+use Rattle.admit_core.specs.declared.state.Status.TheVariants.{Waiting, Offered, Accepted, Refused, Withdrawn, Quit}
+use Rattle.admit_core.specs.declared.state.Status.TheVariants.{AutoRefused, AutoWithdrawn, Lapsed}
 use Rattle.admit_core.specs.AutoAnswer.{auto_all, auto_mark, auto_status, best_live}
 use Rattle.admit_core.specs.Lists.{is_among}
 use Rattle.admit_core.specs.Proposals.{before}
@@ -19,7 +22,8 @@ use Rattle.admit_core.proofs.Tests.{any_implied}
 use Rattle.campaign_laws.proofs.GoneStays.{live_waits_not}
 use Rattle.campaign_laws.proofs.Kept.{ranked_live}
 use Rattle.campaign_laws.proofs.Matchings.{false_ne, gone_by_answer, gone_status}
-use Rattle.change_laws.proofs.Places.{IsAt, IsOver, any_here, any_there, best_found, best_is_least, mark_given, mark_in, none_lives, over_given}
+use Rattle.change_laws.proofs.Places.{IsAt, IsOver, any_here, any_there, best_found, best_is_least, mark_given, mark_in}
+use Rattle.change_laws.proofs.Places.{none_lives, over_given}
 
 -- ---- marks
 pub gone_from : (a b : Bool) → a ≡ false → b ≡ false → not (a || b) ≡ true

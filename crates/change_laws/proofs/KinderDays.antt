@@ -1,8 +1,10 @@
 -- Days of a kinder dossier: in each evening every wish has come at least as far.
-use Rattle.std.proofs.Common.{ℕ, suc, ◌+◌, ◌<◌, ◌≡◌, true, false, ◌&&◌, List, [], ◌∷◌, length, map, get_or, None, inl, inr, refl, sym, ◌∙◌, ap, subst, arith, nat_eq, nat_lt, zip}
+use Rattle.std.proofs.Common.{ℕ, suc, ◌+◌, ◌<◌, ◌≡◌, true, false, ◌&&◌, List, [], ◌∷◌, length, map, get_or, None, inl}
+use Rattle.std.proofs.Common.{inr, refl, sym, ◌∙◌, ap, subst, arith, nat_eq, nat_lt, zip}
 use Rattle.std.specs.Prelude.{All, nat_le}
 use Rattle.std.specs.List.{AllByRecursion, AllZip}
-use Rattle.std.proofs.lemmas.Bool.{and_from, and_parts, both_ways, eqb-true, false_from_ne_true, leb-true, le-leb, ltb-true}
+use Rattle.std.proofs.lemmas.Bool.{and_from, and_parts, both_ways, eqb-true, false_from_ne_true, leb-true, le-leb}
+use Rattle.std.proofs.lemmas.Bool.{ltb-true}
 use Rattle.std.proofs.lemmas.List.{get_or_default, length-map}
 use Rattle.admit_core.specs.declared.dossier.Answer.{Answer}
 use Rattle.admit_core.specs.declared.dossier.Wish.{Wish}
@@ -17,7 +19,8 @@ use Rattle.admit_core.specs.declared.state.Status.TheVariants.{Waiting}
 use Rattle.admit_core.specs.AutoAnswer.{auto_all}
 use Rattle.admit_core.specs.Boarding.{boarding}
 use Rattle.admit_core.specs.CallOrder.{AreCallOrders}
-use Rattle.admit_core.specs.Days.{Days, Passes, answers_of, ceilings_of, closing, first_evening, first_mark, morning, offered}
+use Rattle.admit_core.specs.Days.{Days, Passes, answers_of, ceilings_of, closing, first_evening, first_mark, morning}
+use Rattle.admit_core.specs.Days.{offered}
 use Rattle.admit_core.specs.DossierRows.{DossierRows}
 use Rattle.admit_core.specs.Falls.{IsGreatest}
 use Rattle.admit_core.specs.Lists.{ascending}
@@ -33,7 +36,8 @@ use Rattle.campaign_laws.proofs.Kept.{ranked_live}
 use Rattle.campaign_laws.proofs.Matchings.{none_placed}
 use Rattle.change_laws.specs.Kinder.{HasAlso, IsKinder, IsNotHurt, IsSilent, MoreSeatsAndAnswersHurtNobody, RanksWishes}
 use Rattle.change_laws.proofs.Answering.{IsGivers, IsPair, all_givers, answers_ahead}
-use Rattle.change_laws.proofs.Further.{ahead_of_answers, answers_behind, gone_lives_not, has_better, live_or_gone, nothing_worse, waits_lives_not}
+use Rattle.change_laws.proofs.Further.{ahead_of_answers, answers_behind, gone_lives_not, has_better, live_or_gone}
+use Rattle.change_laws.proofs.Further.{nothing_worse, waits_lives_not}
 use Rattle.change_laws.proofs.Passing.{ahead_of_offers, offers_behind, ranked, unranked}
 use Rattle.change_laws.proofs.Places.{IsAt, IsOver, any_here, any_there, entry_there, mark_in}
 

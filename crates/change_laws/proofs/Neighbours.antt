@@ -1,5 +1,6 @@
 -- Where two neighbours change places in a call order and the one who moves up gets no seat, nobody gets or loses one.
-use Rattle.std.proofs.Common.{ℕ, ◌+◌, ◌<◌, ◌≤◌, ◌≡◌, Bool, true, false, ◌||◌, List, [], ◌∷◌, ◌++◌, length, length-append, cond, inl, inr, refl, sym, ◌∙◌, ap, subst, arith, nat_eq, nat_lt, count_by}
+use Rattle.std.proofs.Common.{ℕ, ◌+◌, ◌<◌, ◌≤◌, ◌≡◌, Bool, true, false, ◌||◌, List, [], ◌∷◌, ◌++◌, length}
+use Rattle.std.proofs.Common.{length-append, cond, inl, inr, refl, sym, ◌∙◌, ap, subst, arith, nat_eq, nat_lt, count_by}
 use Rattle.std.specs.Prelude.{nat_le}
 use Rattle.std.specs.List.{IsDistinct, before_first}
 use Rattle.std.proofs.lemmas.Bool.{cases_eq, false_from_ne_true, leb-true, ltb-true, ne_eqb, or_from, or_parts}

@@ -1,8 +1,10 @@
 -- One place up in a programme's own call order: until the wish is offered, the days are the same.
-use Rattle.std.proofs.Common.{ℕ, suc, zero, ◌+◌, ◌<◌, ◌≡◌, ◌⊎◌, Bool, true, false, ◌&&◌, filter, List, [], ◌∷◌, length, map, get_or, Option, Some, None, inl, inr, refl, sym, ◌∙◌, ap, subst, arith, zip}
+use Rattle.std.proofs.Common.{ℕ, suc, zero, ◌+◌, ◌<◌, ◌≡◌, ◌⊎◌, Bool, true, false, ◌&&◌, filter, List, [], ◌∷◌, length}
+use Rattle.std.proofs.Common.{map, get_or, Option, Some, None, inl, inr, refl, sym, ◌∙◌, ap, subst, arith, zip}
 use Rattle.std.specs.Prelude.{ℤ, All, if◌then◌else◌, slice_get}
 use Rattle.std.specs.List.{enumerate_from, list_any}
-use Rattle.std.proofs.lemmas.Bool.{both_ways, cases_Bool, cases_lt, eq-eqb, false_from_ne_true, ne_eqb, not-true, or_from, or_left, or_right}
+use Rattle.std.proofs.lemmas.Bool.{both_ways, cases_Bool, cases_lt, eq-eqb, false_from_ne_true, ne_eqb, not-true}
+use Rattle.std.proofs.lemmas.Bool.{or_from, or_left, or_right}
 use Rattle.std.proofs.lemmas.List.{length-map}
 use Rattle.std.proofs.lemmas.Option.{get_or_from_slice_get, slice_get-get_or, slice_get_past}
 use Rattle.std.proofs.lemmas.Slice.Zip.{length-zip}
@@ -18,7 +20,8 @@ use Rattle.admit_core.specs.declared.state.Status.TheVariants.{Lapsed, Offered}
 use Rattle.admit_core.specs.Answers.{after, after_all}
 use Rattle.admit_core.specs.AutoAnswer.{auto_all, auto_mark, best_live, freed}
 use Rattle.admit_core.specs.Boarding.{boarding}
-use Rattle.admit_core.specs.Days.{Days, IsPassEnd, Passes, after_lapse, answers_of, ceilings_of, closing, frees_nothing, morning, offered, unfit_on}
+use Rattle.admit_core.specs.Days.{Days, IsPassEnd, Passes, after_lapse, answers_of, ceilings_of, closing, frees_nothing}
+use Rattle.admit_core.specs.Days.{morning, offered, unfit_on}
 use Rattle.admit_core.specs.DossierRows.{DossierRows}
 use Rattle.admit_core.specs.Falls.{IsGreatest}
 use Rattle.admit_core.specs.Lapses.{AreTermsFor, lapses}

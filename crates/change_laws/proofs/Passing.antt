@@ -1,8 +1,12 @@
 -- The offers of passes: without boarding, whoever comes further with more seats does so after the offers too.
-use Rattle.std.proofs.Common.{ℕ, zero, suc, ◌+◌, ◌≤◌, ◌<◌, ◌≡◌, Bool, true, false, not, ◌&&◌, ◌||◌, filter, List, [], ◌∷◌, ◌++◌, length, map, get_or, None, inl, inr, refl, sym, ◌∙◌, ap, subst, arith, nat_eq, nat_lt}
+use Rattle.std.proofs.Common.{ℕ, zero, suc, ◌+◌, ◌≤◌, ◌<◌, ◌≡◌, Bool, true, false, not, ◌&&◌, ◌||◌, filter, List, []}
+use Rattle.std.proofs.Common.{◌∷◌, ◌++◌, length, map, get_or, None, inl, inr, refl, sym, ◌∙◌, ap, subst, arith, nat_eq}
+use Rattle.std.proofs.Common.{nat_lt}
 use Rattle.std.specs.Prelude.{All, nat_le, option_map, slice_get, slice_index, unwrap_or}
 use Rattle.std.specs.List.{AllByRecursion, AllZip, IsDistinct, before_first, position_or_len}
-use Rattle.std.proofs.lemmas.Bool.{and_from, and_parts, both_ways, cases_Bool, cases_order, eq-eqb, eqb-true, false_from_ne_true, false≢true, leb-true, ltb-true, not-true, not_from_false, or_cases, or_left, or_parts, or_right}
+use Rattle.std.proofs.lemmas.Bool.{and_from, and_parts, both_ways, cases_Bool, cases_order, eq-eqb, eqb-true}
+use Rattle.std.proofs.lemmas.Bool.{false_from_ne_true, false≢true, leb-true, ltb-true, not-true, not_from_false}
+use Rattle.std.proofs.lemmas.Bool.{or_cases, or_left, or_parts, or_right}
 use Rattle.std.proofs.lemmas.Cmp.{nat_eq_equiv}
 use Rattle.std.proofs.lemmas.List.{get_or_default, length-append}
 use Rattle.std.proofs.lemmas.List.Folds.{list_any-append}
@@ -19,12 +23,14 @@ use Rattle.admit_core.specs.CallOrder.{AreCallOrders}
 use Rattle.admit_core.specs.Days.{offered}
 use Rattle.admit_core.specs.DossierRows.{DossierRows, candidates_of, limit_of, seats_of}
 use Rattle.admit_core.specs.Lists.{is_among}
-use Rattle.admit_core.specs.Proposals.{ahead, before, has_open_wish, is_behind_bar, is_open, is_open_in, is_proposed, needs_no_seat, order_of, position_of, wants_seat}
+use Rattle.admit_core.specs.Proposals.{ahead, before, has_open_wish, is_behind_bar, is_open, is_open_in, is_proposed}
+use Rattle.admit_core.specs.Proposals.{needs_no_seat, order_of, position_of, wants_seat}
 use Rattle.admit_core.specs.State.{State, holds_seat, is_gone, is_live, is_waiting, seat_holders, seats_left}
 use Rattle.admit_core.specs.Validity.{IsApart, IsValid}
 use Rattle.admit_core.proofs.ClosedEvenings.{among_filter}
 use Rattle.admit_core.proofs.Counting.{distinct_kept}
-use Rattle.admit_core.proofs.FilledSeats.{front_distinct, live_or_offered, live_stays, offer_if, offered_lives, order_distinct, waits_still}
+use Rattle.admit_core.proofs.FilledSeats.{front_distinct, live_or_offered, live_stays, offer_if, offered_lives}
+use Rattle.admit_core.proofs.FilledSeats.{order_distinct, waits_still}
 use Rattle.admit_core.proofs.Holders.{holder_has_wish}
 use Rattle.admit_core.proofs.Plain.{waits_open}
 use Rattle.admit_core.proofs.Statuses.{changed_status}
@@ -35,7 +41,8 @@ use Rattle.campaign_laws.proofs.Matchings.{gone_status}
 use Rattle.campaign_laws.proofs.OneMark.{proposed_open}
 use Rattle.campaign_laws.proofs.PassedOver.{is_new_holder}
 use Rattle.change_laws.specs.Kinder.{IsKinder, IsNoSmaller, IsSilent}
-use Rattle.change_laws.proofs.Further.{IsAhead, gone_lives_not, gone_waits_not, has_better, live_or_gone, waits_lives_not}
+use Rattle.change_laws.proofs.Further.{IsAhead, gone_lives_not, gone_waits_not, has_better, live_or_gone}
+use Rattle.change_laws.proofs.Further.{waits_lives_not}
 use Rattle.change_laws.proofs.Places.{IsAt, IsOver, any_here, any_there, mark_given, mark_in, over_given}
 
 -- ---- lists

@@ -1,5 +1,6 @@
 -- States over the same wishes, looked at place by place.
-use Rattle.std.proofs.Common.{ℕ, ◌≤◌, ◌<◌, ◌≡◌, Bool, true, ◌&&◌, filter, List, length, Some, None, refl, sym, ◌∙◌, ap, arith, nat_eq, get_or}
+use Rattle.std.proofs.Common.{ℕ, ◌≤◌, ◌<◌, ◌≡◌, Bool, true, ◌&&◌, filter, List, length, Some, None, refl, sym, ◌∙◌, ap}
+use Rattle.std.proofs.Common.{arith, nat_eq, get_or}
 use Rattle.std.specs.Prelude.{nat_le}
 use Rattle.std.specs.List.{list_any}
 use Rattle.std.proofs.lemmas.Bool.{and_from, eq-eqb, false≢true, le-leb}

@@ -1,5 +1,6 @@
 -- What days read of wishes but their preference numbers is the same with others.
-use Rattle.std.proofs.Common.{ℕ, ◌+◌, ◌-◌, ◌≡◌, Bool, not, ◌&&◌, ◌||◌, filter, List, [], ◌∷◌, length, map, Option, Some, None, refl, ◌∙◌, ap, nat_lt, nat_le, zip, count_by, option_map, set, inl, inr}
+use Rattle.std.proofs.Common.{ℕ, ◌+◌, ◌-◌, ◌≡◌, Bool, not, ◌&&◌, ◌||◌, filter, List, [], ◌∷◌, length, map, Option, Some}
+use Rattle.std.proofs.Common.{None, refl, ◌∙◌, ap, nat_lt, nat_le, zip, count_by, option_map, set, inl, inr}
 use Rattle.std.specs.Prelude.{◌==◌, if◌then◌else◌, slice_index, sum, unwrap_or}
 use Rattle.std.specs.List.{enumerate_from, find, list_any, range_with_len}
 use Rattle.std.proofs.lemmas.Bool.{cases_Bool}
@@ -20,8 +21,11 @@ use Rattle.admit_core.specs.Days.{after_lapse, answers_of, lapsed_on, morning, o
 use Rattle.admit_core.specs.DossierRows.{beds_of, limit_of, seats_of}
 use Rattle.admit_core.specs.Falls.{FallingSystem}
 use Rattle.admit_core.specs.Lists.{ascending, distinct}
-use Rattle.admit_core.specs.Proposals.{ahead, before, demanded_ranks, demands_bed, has_open_wish, is_behind_bar, is_open, is_open_in, is_proposed, needs_no_seat, position_of, proposed, wants_seat}
-use Rattle.admit_core.specs.State.{State, changed_to, entries, free_beds, has_school, holds_bed, holds_seat, is_live, is_waiting, seats_left}
+use Rattle.admit_core.specs.Proposals.{ahead, before, demanded_ranks, demands_bed, has_open_wish, is_behind_bar}
+use Rattle.admit_core.specs.Proposals.{is_open, is_open_in, is_proposed, needs_no_seat, position_of, proposed}
+use Rattle.admit_core.specs.Proposals.{wants_seat}
+use Rattle.admit_core.specs.State.{State, changed_to, entries, free_beds, has_school, holds_bed, holds_seat, is_live}
+use Rattle.admit_core.specs.State.{is_waiting, seats_left}
 use Rattle.admit_core.proofs.Plain.{any-map}
 use Rattle.cut_laws.proofs.Unstamped.{enumerated_map, filter_of_map, placed}
 use Rattle.change_laws.specs.Unread.{reranked, with_preference}

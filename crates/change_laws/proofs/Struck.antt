@@ -1,8 +1,11 @@
 -- A state in which a waiting wish was given up: the same is offered under bars that do not stop it.
-use Rattle.std.proofs.Common.{ℕ, ◌-◌, ◌≤◌, ◌<◌, ◌≡◌, ◌≢◌, Bool, true, false, not, ◌&&◌, ◌||◌, filter, List, [], ◌∷◌, length, map, take, cond, get_or, Option, Some, None, inl, inr, refl, sym, ◌∙◌, ap, subst, arith, nat_eq, nat_lt, count_by, option_map, set}
+use Rattle.std.proofs.Common.{ℕ, ◌-◌, ◌≤◌, ◌<◌, ◌≡◌, ◌≢◌, Bool, true, false, not, ◌&&◌, ◌||◌, filter, List, [], ◌∷◌}
+use Rattle.std.proofs.Common.{length, map, take, cond, get_or, Option, Some, None, inl, inr, refl, sym, ◌∙◌, ap, subst}
+use Rattle.std.proofs.Common.{arith, nat_eq, nat_lt, count_by, option_map, set}
 use Rattle.std.specs.Prelude.{◌==◌, if◌then◌else◌, nat_le, slice_index, unwrap_or}
 use Rattle.std.specs.List.{before_first, enumerate_from, find, list_any, position_or_len}
-use Rattle.std.proofs.lemmas.Bool.{both_ways, cases_eq, cases_lt, eq-eqb, eqb-true, false_from_ne_true, ltb-true, ne_eqb, or_parts}
+use Rattle.std.proofs.lemmas.Bool.{both_ways, cases_eq, cases_lt, eq-eqb, eqb-true, false_from_ne_true, ltb-true}
+use Rattle.std.proofs.lemmas.Bool.{ne_eqb, or_parts}
 use Rattle.std.proofs.lemmas.List.{get_or-take, get_or_default, length-take-le}
 use Rattle.std.proofs.lemmas.List.Folds.{Any-from_list_any}
 use Rattle.std.proofs.lemmas.List.Sums.{sum_by-cons}
@@ -11,14 +14,17 @@ use Rattle.admit_core.specs.declared.ranking.CallOrder.{CallOrder}
 use Rattle.admit_core.specs.declared.state.Mark.{Mark}
 use Rattle.admit_core.specs.declared.state.Stamp.{Stamp}
 use Rattle.admit_core.specs.declared.state.Status.{Status}
-use Rattle.admit_core.specs.declared.state.Status.TheVariants.{Waiting, Offered, Accepted, Refused, Withdrawn, Quit, AutoRefused, AutoWithdrawn, Lapsed}
+use Rattle.admit_core.specs.declared.state.Status.TheVariants.{Waiting, Offered, Accepted, Refused, Withdrawn, Quit}
+use Rattle.admit_core.specs.declared.state.Status.TheVariants.{AutoRefused, AutoWithdrawn, Lapsed}
 use Rattle.admit_core.specs.AutoAnswer.{auto_all, auto_mark, auto_status, best_live}
 use Rattle.admit_core.specs.Boarding.{name_of}
 use Rattle.admit_core.specs.Days.{first_mark, offered}
 use Rattle.admit_core.specs.DossierRows.{beds_of, candidates_of, limit_of, seats_of}
 use Rattle.admit_core.specs.Lists.{ascending, is_among, least_by}
-use Rattle.admit_core.specs.Proposals.{demanded_ranks, demands_bed, has_open_wish, is_behind_bar, is_open, is_open_in, is_proposed, order_of, position_of, proposed, wants_seat}
-use Rattle.admit_core.specs.State.{State, changed_to, entries, free_beds, has_school, holds_bed, holds_seat, is_gone, is_live, is_waiting, seats_left}
+use Rattle.admit_core.specs.Proposals.{demanded_ranks, demands_bed, has_open_wish, is_behind_bar, is_open, is_open_in}
+use Rattle.admit_core.specs.Proposals.{is_proposed, order_of, position_of, proposed, wants_seat}
+use Rattle.admit_core.specs.State.{State, changed_to, entries, free_beds, has_school, holds_bed, holds_seat, is_gone}
+use Rattle.admit_core.specs.State.{is_live, is_waiting, seats_left}
 use Rattle.admit_core.proofs.Counting.{count_front, first_at_most}
 use Rattle.admit_core.proofs.Plain.{same_test}
 use Rattle.fairness.proofs.PassedOver.{place_at_most, refused_by}

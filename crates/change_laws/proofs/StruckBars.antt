@@ -1,5 +1,6 @@
 -- The bars fall alike where a wish that they do not stop, and that is not proposed, was given up before.
-use Rattle.std.proofs.Common.{ℕ, ◌+◌, ◌-◌, ◌<◌, ◌≡◌, true, false, not, ◌&&◌, List, [], ◌∷◌, length, map, take, inl, inr, refl, sym, ◌∙◌, ap, subst, arith, nat_lt}
+use Rattle.std.proofs.Common.{ℕ, ◌+◌, ◌-◌, ◌<◌, ◌≡◌, true, false, not, ◌&&◌, List, [], ◌∷◌, length, map, take, inl, inr}
+use Rattle.std.proofs.Common.{refl, sym, ◌∙◌, ap, subst, arith, nat_lt}
 use Rattle.std.specs.Prelude.{slice_index}
 use Rattle.std.specs.List.{list_all, range_with_len}
 use Rattle.std.proofs.lemmas.Bool.{and_from, and_parts, both_ways, false_from_ne_true}
@@ -9,7 +10,8 @@ use Rattle.admit_core.specs.declared.ranking.CallOrder.{CallOrder}
 use Rattle.admit_core.specs.declared.records.Fall.{Fall}
 use Rattle.admit_core.specs.declared.state.Mark.{Mark}
 use Rattle.admit_core.specs.Boarding.{boarding}
-use Rattle.admit_core.specs.Falls.{AreFalls, FallingSystem, IsAtMost, IsRunOfFalls, bars_after, fall_of, fallen, is_overfilled}
+use Rattle.admit_core.specs.Falls.{AreFalls, FallingSystem, IsAtMost, IsRunOfFalls, bars_after, fall_of, fallen}
+use Rattle.admit_core.specs.Falls.{is_overfilled}
 use Rattle.admit_core.specs.Proposals.{is_open, is_proposed}
 use Rattle.admit_core.specs.State.{State, is_gone}
 use Rattle.admit_core.proofs.DemandLaws.{boarding_is_lawful, open_under_higher, seat_stays}

@@ -1,5 +1,6 @@
 -- A campaign in which a wish that no bar stops, and that waits to the end, was given up before.
-use Rattle.std.proofs.Common.{ℕ, ◌+◌, ◌<◌, ◌≡◌, ◌≢◌, Bool, true, false, not, ◌&&◌, ◌||◌, List, [], ◌∷◌, length, map, get_or, Option, Some, None, inl, inr, refl, sym, ◌∙◌, ap, subst, arith, set, count_by}
+use Rattle.std.proofs.Common.{ℕ, ◌+◌, ◌<◌, ◌≡◌, ◌≢◌, Bool, true, false, not, ◌&&◌, ◌||◌, List, [], ◌∷◌, length, map}
+use Rattle.std.proofs.Common.{get_or, Option, Some, None, inl, inr, refl, sym, ◌∙◌, ap, subst, arith, set, count_by}
 use Rattle.std.specs.Prelude.{ℤ, pos, ◌==◌, All, if◌then◌else◌, sum}
 use Rattle.std.specs.List.{AllByRecursion, range_with_len}
 use Rattle.std.proofs.lemmas.Bool.{both_ways, cases_Bool, cases_lt, eq-eqb, not-true}
@@ -17,34 +18,41 @@ use Rattle.admit_core.specs.declared.records.Terms.{Terms}
 use Rattle.admit_core.specs.declared.state.Mark.{Mark}
 use Rattle.admit_core.specs.declared.state.Stamp.{Stamp}
 use Rattle.admit_core.specs.declared.state.Status.{Status}
-use Rattle.admit_core.specs.declared.state.Status.TheVariants.{Waiting, Offered, Accepted, Refused, Withdrawn, Quit as HasQuit, AutoRefused, AutoWithdrawn, Lapsed}
-use Rattle.admit_core.specs.Answers.{after, after_all, after_kind, candidate_at, first_unfit, fits, kind_fits, mark_at, refuse_live}
+use Rattle.admit_core.specs.declared.state.Status.TheVariants.{Waiting, Offered, Accepted, Refused, Withdrawn}
+use Rattle.admit_core.specs.declared.state.Status.TheVariants.{Quit as HasQuit, AutoRefused, AutoWithdrawn, Lapsed}
+use Rattle.admit_core.specs.Answers.{after, after_all, after_kind, candidate_at, first_unfit, fits, kind_fits, mark_at}
+use Rattle.admit_core.specs.Answers.{refuse_live}
 use Rattle.admit_core.specs.AutoAnswer.{auto_all, auto_mark, best_live, freed}
 use Rattle.admit_core.specs.Boarding.{boarding}
-use Rattle.admit_core.specs.Days.{Days, IsDay, IsPassEnd, Passes, after_lapse, answers_of, ceilings_of, changes, closing, first_mark, lapsed_on, morning, offered}
+use Rattle.admit_core.specs.Days.{Days, IsDay, IsPassEnd, Passes, after_lapse, answers_of, ceilings_of, changes}
+use Rattle.admit_core.specs.Days.{closing, first_mark, lapsed_on, morning, offered}
 use Rattle.admit_core.specs.DossierRows.{DossierRows, candidates_of}
 use Rattle.admit_core.specs.Falls.{IsGreatest}
 use Rattle.admit_core.specs.Lapses.{AreTermsFor, is_offered, lapses, offer_day}
 use Rattle.admit_core.specs.Proposals.{is_behind_bar, is_open, is_proposed}
-use Rattle.admit_core.specs.State.{State, changed_to, entries, is_gone, is_live, is_waiting, is_waiting_status, status_number, with_mark_at}
+use Rattle.admit_core.specs.State.{State, changed_to, entries, is_gone, is_live, is_waiting, is_waiting_status}
+use Rattle.admit_core.specs.State.{status_number, with_mark_at}
 use Rattle.admit_core.proofs.DemandLaws.{boarding_is_lawful}
 use Rattle.admit_core.proofs.Evenings.{entry_wish}
 use Rattle.admit_core.proofs.FallsLaw.{run_is_greatest}
 use Rattle.admit_core.proofs.FilledSeats.{offer_if, waits_still}
 use Rattle.admit_core.proofs.Plain.{waits_open}
 use Rattle.admit_core.proofs.Statuses.{changed_status, waiting_is}
-use Rattle.campaign_laws.specs.Moments.{after_each, after_passes, day_moments, day_openings, evening_after, evening_of, moments, openings, pass_openings}
+use Rattle.campaign_laws.specs.Moments.{after_each, after_passes, day_moments, day_openings, evening_after, evening_of}
+use Rattle.campaign_laws.specs.Moments.{moments, openings, pass_openings}
 use Rattle.campaign_laws.specs.OneMark.{IsLater}
 use Rattle.campaign_laws.specs.PassedOver.{IsUnbarred, WaitsAt}
 use Rattle.campaign_laws.proofs.GoneStays.{gone_stays_gone, later_steps}
 use Rattle.campaign_laws.proofs.Matchings.{gone_status}
 use Rattle.campaign_laws.proofs.PassedOver.{waited_at}
-use Rattle.campaign_laws.proofs.Walks.{Nothing, SameDossier, Steps, all_both, all_imply, all_split, evening_dossier, evening_is, morning_of, plain_steps, same_dossier, throughout}
+use Rattle.campaign_laws.proofs.Walks.{Nothing, SameDossier, Steps, all_both, all_imply, all_split, evening_dossier}
+use Rattle.campaign_laws.proofs.Walks.{evening_is, morning_of, plain_steps, same_dossier, throughout}
 use Rattle.change_laws.proofs.Answering.{after_over, set_mark}
 use Rattle.change_laws.proofs.Further.{gone_lives_not}
 use Rattle.change_laws.proofs.OnePlaceUp.{over_lapse}
 use Rattle.change_laws.proofs.Places.{IsAt, IsOver, entry_there, mark_given, mark_in, over_given}
-use Rattle.change_laws.proofs.Struck.{IsWaiting, same_after_offers, same_answers, same_bed, same_free, same_left, same_offers, same_seat, struck}
+use Rattle.change_laws.proofs.Struck.{IsWaiting, same_after_offers, same_answers, same_bed, same_free, same_left}
+use Rattle.change_laws.proofs.Struck.{same_offers, same_seat, struck}
 use Rattle.change_laws.proofs.StruckBars.{run_too}
 use Rattle.change_laws.proofs.StruckLists.{both_struck, map_struck, placed_struck, set_set}
 use Rattle.change_laws.proofs.UnreadDays.{to_the_end}

@@ -1,5 +1,6 @@
 -- Lists in which one mark is another, that passes no test.
-use Rattle.std.proofs.Common.{ℕ, suc, zero, ◌+◌, ◌<◌, ◌≡◌, ◌≢◌, Bool, false, filter, List, [], ◌∷◌, length, map, get_or, refl, ◌∙◌, ap, arith, set, zip, inl, inr}
+use Rattle.std.proofs.Common.{ℕ, suc, zero, ◌+◌, ◌<◌, ◌≡◌, ◌≢◌, Bool, false, filter, List, [], ◌∷◌, length, map, get_or}
+use Rattle.std.proofs.Common.{refl, ◌∙◌, ap, arith, set, zip, inl, inr}
 use Rattle.std.specs.List.{enumerate_from, find}
 use Rattle.std.proofs.lemmas.Bool.{cases_Bool}
 use Rattle.admit_core.specs.declared.state.Mark.{Mark}

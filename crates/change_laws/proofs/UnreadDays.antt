@@ -1,5 +1,6 @@
 -- Days in which the order above what a candidate has at last is another one.
-use Rattle.std.proofs.Common.{ℕ, suc, zero, ◌+◌, ◌≡◌, List, [], ◌∷◌, length, map, get_or, Option, inl, inr, refl, sym, ◌∙◌, ap, subst, arith}
+use Rattle.std.proofs.Common.{ℕ, suc, zero, ◌+◌, ◌≡◌, List, [], ◌∷◌, length, map, get_or, Option, inl, inr, refl, sym}
+use Rattle.std.proofs.Common.{◌∙◌, ap, subst, arith}
 use Rattle.std.specs.Prelude.{All, AllPairs}
 use Rattle.std.specs.List.{AllByRecursion, range_with_len}
 use Rattle.std.proofs.lemmas.Bool.{cases_lt}
@@ -11,7 +12,8 @@ use Rattle.admit_core.specs.declared.records.PassEnd.{PassEnd}
 use Rattle.admit_core.specs.declared.records.Terms.{Terms}
 use Rattle.admit_core.specs.declared.state.Stamp.{Stamp}
 use Rattle.admit_core.specs.AutoAnswer.{auto_all, freed}
-use Rattle.admit_core.specs.Days.{Days, IsDay, IsPassEnd, Passes, after_lapse, answers_of, ceilings_of, changes, closing, morning, offered}
+use Rattle.admit_core.specs.Days.{Days, IsDay, IsPassEnd, Passes, after_lapse, answers_of, ceilings_of, changes}
+use Rattle.admit_core.specs.Days.{closing, morning, offered}
 use Rattle.admit_core.specs.Falls.{FallingSystem, IsGreatest, IsRunOfFalls}
 use Rattle.admit_core.specs.Lapses.{AreTermsFor}
 use Rattle.admit_core.specs.State.{State, entries}
@@ -20,9 +22,11 @@ use Rattle.campaign_laws.specs.Moments.{after_each, after_passes, day_moments, e
 use Rattle.campaign_laws.specs.OneMark.{IsLater}
 use Rattle.campaign_laws.proofs.GoneStays.{gone_stays_gone, later_steps}
 use Rattle.campaign_laws.proofs.Kept.{automatic_answers_climb}
-use Rattle.campaign_laws.proofs.Walks.{Nothing, SameDossier, Walk, all_both, all_imply, all_split, evening_is, plain_steps, same_dossier}
+use Rattle.campaign_laws.proofs.Walks.{Nothing, SameDossier, Walk, all_both, all_imply, all_split, evening_is}
+use Rattle.campaign_laws.proofs.Walks.{plain_steps, same_dossier}
 use Rattle.change_laws.specs.Unread.{IsUnread, reranked}
-use Rattle.change_laws.proofs.Reranked.{over, same_after_offers, same_fits, same_free, same_freed, same_lapsed, same_left, same_morning, same_offers, same_system}
+use Rattle.change_laws.proofs.Reranked.{over, same_after_offers, same_fits, same_free, same_freed, same_lapsed}
+use Rattle.change_laws.proofs.Reranked.{same_left, same_morning, same_offers, same_system}
 use Rattle.change_laws.proofs.Unread.{AllUnread, same_answers, unread_before}
 
 -- ---- what relates any two moments relates each to the last

@@ -10,7 +10,8 @@ use Rattle.desk_day.specs.DeskStates.{DeskStates}
 use Rattle.desk_day.specs.RunDay.{Moment, IsDayDone}
 
 -- where it came about
-pub next_ran : (old p : Progress) (terms : Option Terms) (shown ceilings bars : List ℕ) (d : DossierRows) (desk : DeskStates)
+pub next_ran : (old p : Progress) (terms : Option Terms) (shown ceilings bars : List ℕ) (d : DossierRows)
+    (desk : DeskStates)
     (told told_after : List ℕ)
     (choice choice_after : List ℕ → List ℕ → ℕ) (done : DayRecord) → p ≡ old → terms ≡ p.terms → shown ≡ ceilings
     → ceilings ≡ ceilings_of d (p.day + 1) → d ≡ p.present.dossier
@@ -24,7 +25,8 @@ pub next_ran : (old p : Progress) (terms : Option Terms) (shown ceilings bars : 
       choice = choice_after;
     })
     (Ok done)
-next_ran old p terms shown ceilings bars d desk told told_after choice choice_after done is terms_are shown_are ceilings_are of_dossier day
+next_ran old p terms shown ceilings bars d desk told told_after choice choice_after done is terms_are shown_are
+    ceilings_are of_dossier day
     same bars_are kept =
     let before : Stage = record { course = p; told = told; choice = choice } in
     let after : Moment = record { desk = desk; told = told_after; choice = choice_after } in
@@ -32,8 +34,10 @@ next_ran old p terms shown ceilings bars d desk told told_after choice choice_af
     ∙ ap (λ (x : DossierRows). ceilings_of x (p.day + 1)) of_dossier in
     let by_terms : IsDayDone p.terms p.orders shown (p.day + 1) (moment_of before) done after =
     subst (λ (t : Option Terms). IsDayDone t p.orders shown (p.day + 1) (moment_of before) done after) terms_are day in
-    let is_done : IsDayDone p.terms p.orders (ceilings_of p.present.dossier (p.day + 1)) (p.day + 1) (moment_of before) done after =
-    subst (λ (cs : List ℕ). IsDayDone p.terms p.orders cs (p.day + 1) (moment_of before) done after) (shown_are ∙ own) by_terms in
+    let is_done : IsDayDone p.terms p.orders (ceilings_of p.present.dossier (p.day + 1)) (p.day + 1)
+    (moment_of before) done after =
+    subst (λ (cs : List ℕ). IsDayDone p.terms p.orders cs (p.day + 1) (moment_of before) done after)
+    (shown_are ∙ own) by_terms in
     let now = progress p.orders p.terms (p.day + 1) true desk bars ceilings in
     subst (λ (q : Progress). EndsNextDay (record { course = q; told = told; choice = choice })
     (record { course = now; told = told_after; choice = choice_after }) (Ok done)) is

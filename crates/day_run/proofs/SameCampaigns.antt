@@ -14,7 +14,8 @@ use Rattle.desk_day.specs.DayLaws.{SameDayButFalls}
 use Rattle.desk_day.proofs.SameDays.{only_falls_differ}
 
 -- days of a campaign by different picks
-days_differ_in_falls : (terms : Option Terms) (orders : List CallOrder) (first : ℕ) (old : State) (days twins : List DayRecord)
+days_differ_in_falls : (terms : Option Terms) (orders : List CallOrder) (first : ℕ) (old : State)
+    (days twins : List DayRecord)
     (evening night : State)
     → length days ≡ length twins → Days terms orders first old days evening → Days terms orders first old twins night
     → (evening ≡ night) × AllZip SameDayButFalls days twins
@@ -22,14 +23,16 @@ days_differ_in_falls terms orders first old [] [] evening night same one other =
 days_differ_in_falls terms orders first old [] (twin ∷ twins) evening night same one other = absurd (omega arith)
 days_differ_in_falls terms orders first old (day ∷ days) [] evening night same one other = absurd (omega arith)
 days_differ_in_falls terms orders first old (day ∷ days) (twin ∷ twins) evening night same one other =
-    let here = only_falls_differ terms orders (ceilings_of old.dossier first) old day twin one.0 other.0 (one.1 ∙ sym other.1) one.2
+    let here = only_falls_differ terms orders (ceilings_of old.dossier first) old day twin one.0 other.0
+    (one.1 ∙ sym other.1) one.2
     other.2 in
     let later = subst (λ (s : State). Days terms orders (first + 1) s twins night) (sym here.0) other.3 in
     let rest = days_differ_in_falls terms orders (first + 1) one.0 days twins evening night (omega arith) one.3 later in
     (rest.0, (here.1, rest.1))
 
 -- the groups of a dossier have one list of call orders
-pub same_orders : (groups : List RankGroup) (one other : List CallOrder) → AreCallOrders groups one → AreCallOrders groups other
+pub same_orders : (groups : List RankGroup) (one other : List CallOrder) → AreCallOrders groups one
+    → AreCallOrders groups other
     → one ≡ other
 same_orders [] [] [] a b = refl
 same_orders [] [] (y ∷ ys) a b = absurd b
@@ -37,7 +40,8 @@ same_orders [] (x ∷ xs) other a b = absurd a
 same_orders (g ∷ gs) [] other a b = absurd a
 same_orders (g ∷ gs) (x ∷ xs) [] a b = absurd b
 same_orders (g ∷ gs) (x ∷ xs) (y ∷ ys) a b =
-    ap (λ (o : CallOrder). o ∷ xs) (same_order g x y a.0 b.0) ∙ ap (λ (os : List CallOrder). y ∷ os) (same_orders gs xs ys a.1 b.1)
+    ap (λ (o : CallOrder). o ∷ xs) (same_order g x y a.0 b.0)
+    ∙ ap (λ (os : List CallOrder). y ∷ os) (same_orders gs xs ys a.1 b.1)
 
 pub campaigns_are_fixed : CampaignsAreFixed
 campaigns_are_fixed terms orders others first old days twins evening night called called_too same one other =

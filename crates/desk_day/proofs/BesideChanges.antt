@@ -1,5 +1,6 @@
 -- What changed, looked for among all wishes of some candidates alone.
-use Rattle.std.proofs.Common.{ℕ, zero, suc, ◌+◌, ◌≤◌, ◌<◌, ◌≡◌, Bool, true, false, ◌&&◌, ◌||◌, List, [], ◌∷◌, ◌++◌, map, length, take, get_or, inl, inr, refl, sym, ◌∙◌, ap, arith, nat_eq, filter, zip, eqb}
+use Rattle.std.proofs.Common.{ℕ, zero, suc, ◌+◌, ◌≤◌, ◌<◌, ◌≡◌, Bool, true, false, ◌&&◌, ◌||◌, List, [], ◌∷◌, ◌++◌, map}
+use Rattle.std.proofs.Common.{length, take, get_or, inl, inr, refl, sym, ◌∙◌, ap, arith, nat_eq, filter, zip, eqb}
 use Rattle.std.specs.Prelude.{◌==◌, All}
 use Rattle.std.specs.List.{enumerate_from, range_with_len, flat_map, dedup, AllByRecursion}
 use Rattle.std.specs.List.Sorted.{IsStrictlyIncreasing, IsPermutation, IsSorted}
@@ -12,7 +13,8 @@ use Rattle.std.proofs.lemmas.List.Elements.{All-filter}
 use Rattle.std.proofs.lemmas.List.Concat.{flat_map-cons}
 use Rattle.std.proofs.lemmas.List.Folds.{list_any-append}
 use Rattle.std.proofs.lemmas.List.FromFn.{get_or-range_with_len, length-range_with_len}
-use Rattle.std.proofs.lemmas.List.Kept.{AllPairs-from_increasing, IsStrictlyIncreasing-filter, Contains-dedup_nat, Contains-from_dedup}
+use Rattle.std.proofs.lemmas.List.Kept.{AllPairs-from_increasing, IsStrictlyIncreasing-filter, Contains-dedup_nat}
+use Rattle.std.proofs.lemmas.List.Kept.{Contains-from_dedup}
 use Rattle.std.proofs.lemmas.List.Sorted.{list_any-IsPermutation}
 use Rattle.std.proofs.lemmas.Map.Keys.{IsStrictlyIncreasing-dedup}
 use Rattle.std.proofs.lemmas.Map.Views.{any-filter_same, list_any-from_Contains, Contains-from_any}
@@ -50,7 +52,8 @@ range_rises : (a n : ℕ) → IsStrictlyIncreasing (range_with_len a n)
 range_rises a n k lt =
     let long = length-range_with_len a n in
     let here : get_or (range_with_len a n) k 0 ≡ a + k = get_or-range_with_len a n k 0 (omega (arith, lt, long)) in
-    let next : get_or (range_with_len a n) (k + 1) 0 ≡ a + (k + 1) = get_or-range_with_len a n (k + 1) 0 (omega (arith, lt, long)) in
+    let next : get_or (range_with_len a n) (k + 1) 0 ≡ a + (k + 1) =
+    get_or-range_with_len a n (k + 1) 0 (omega (arith, lt, long)) in
     rw (here, next) (omega arith)
 
 or_and : (r t u : Bool) → ((t && r) || (u && r)) ≡ ((t || u) && r)
@@ -71,7 +74,8 @@ among_own d (k ∷ ks) q =
     let x = candidate_of d k in
     let all = range_with_len 0 (length d.wishes) in
     let first : is_among q (own_places d x) ≡ ((c == x) && is_among q all) =
-    any-filter_same (nat_eq q) (λ j. candidate_of d j == x) (c == x) (λ j t. ap (λ (i : ℕ). candidate_of d i == x) (sym (eqb-true q j t)))
+    any-filter_same (nat_eq q) (λ j. candidate_of d j == x) (c == x)
+    (λ j t. ap (λ (i : ℕ). candidate_of d i == x) (sym (eqb-true q j t)))
     all in
     let own = λ (i : ℕ). own_places d (candidate_of d i) in
     ap (is_among q) (flat_map-cons own k ks)
@@ -86,16 +90,19 @@ among_beside d places q =
     any-filter_same (nat_eq q) t (t q) (λ j e. ap t (sym (eqb-true q j e))) (range_with_len 0 (length d.wishes))
 
 -- put in order, each once
-pub in_order : (d : DossierRows) (places own sorted once : List ℕ) → own ≡ flat_map (λ k. own_places d (candidate_of d k)) places
+pub in_order : (d : DossierRows) (places own sorted once : List ℕ)
+    → own ≡ flat_map (λ k. own_places d (candidate_of d k)) places
     → IsPermutation own sorted → IsSorted nat_cmp sorted → once ≡ dedup eqb sorted → once ≡ wishes_beside d places
 in_order d places own sorted once own_is moved rises once_is =
     once_is
     ∙ same_members (dedup eqb sorted) (wishes_beside d places)
     (ascends_from (dedup eqb sorted) (IsStrictlyIncreasing-dedup sorted rises))
     (ascends_from (wishes_beside d places)
-    (IsStrictlyIncreasing-filter (λ k. is_among (candidate_of d k) (map (candidate_of d) places)) (range_with_len 0 (length d.wishes))
+    (IsStrictlyIncreasing-filter (λ k. is_among (candidate_of d k) (map (candidate_of d) places))
+    (range_with_len 0 (length d.wishes))
     (range_rises 0 (length d.wishes))))
-    (λ q. once_among q ∙ sym (list_any-IsPermutation (nat_eq q) own sorted moved) ∙ ap (is_among q) own_is ∙ among_own d places q
+    (λ q. once_among q ∙ sym (list_any-IsPermutation (nat_eq q) own sorted moved) ∙ ap (is_among q) own_is
+    ∙ among_own d places q
     ∙ sym (among_beside d places q))
   where
     once_among : (q : ℕ) → is_among q (dedup eqb sorted) ≡ is_among q sorted
@@ -116,7 +123,8 @@ change_at ns k = record { wish = k; status = (mark_in ns k).status }
 by_place : (test : ℕ → Bool) (give : ℕ → Change) (a : ℕ) (ms ns : List Mark) → length ns ≡ length ms
     → ((k : ℕ) → k < length ms → test (a + k) ≡ changed_at ms ns k)
     → ((k : ℕ) → k < length ms → give (a + k) ≡ record { wish = a + k; status = (mark_in ns k).status })
-    → map change_of (filter is_answered (enumerate_from a (zip ms ns))) ≡ map give (filter test (range_with_len a (length ms)))
+    → map change_of (filter is_answered (enumerate_from a (zip ms ns)))
+    ≡ map give (filter test (range_with_len a (length ms)))
 by_place test give a [] ns long tests gives = refl
 by_place test give a (m ∷ ms) [] long tests gives = absurd (omega arith)
 by_place test give a (m ∷ ms) (n ∷ ns) long tests gives =
@@ -128,7 +136,8 @@ by_place test give a (m ∷ ms) (n ∷ ns) long tests gives =
     (λ k lt. let on : a + suc k ≡ a + 1 + k = omega arith in rw on at (tests (suc k) (omega arith)))
     (λ k lt. let on : a + suc k ≡ a + 1 + k = omega arith in rw on at (gives (suc k) (omega arith))) in
     elim (cases_Bool (is_answered_change m.status n.status)) [
-      | inl passes ↦ rw (here, passes, given) (ap (λ (l : List Change). record { wish = a; status = n.status } ∷ l) rest)
+      | inl passes ↦ rw (here, passes, given) (ap (λ (l : List Change). record { wish = a; status = n.status } ∷ l)
+          rest)
       | inr fails ↦ rw (here, fails) rest
     ]
 
@@ -150,7 +159,8 @@ same_not_changed : (m : Mark) → is_answered_change m.status m.status ≡ false
 same_not_changed m = rw (eq-eqb (status_number m.status) (status_number m.status) refl) refl
 
 -- THE LIST: where all others have the same marks, the changes among these candidates' wishes are all changes
-pub all_beside : (s t : State) (places own : List ℕ) → length s.marks ≡ length s.dossier.wishes → length t.marks ≡ length s.dossier.wishes
+pub all_beside : (s t : State) (places own : List ℕ) → length s.marks ≡ length s.dossier.wishes
+    → length t.marks ≡ length s.dossier.wishes
     → SameOthers places s t → own ≡ wishes_beside s.dossier places
     → map (change_at t.marks) (filter (changed_at s.marks t.marks) own) ≡ answered_changes s t
 all_beside s t places own long long_too others own_is =
@@ -178,36 +188,45 @@ all_beside s t places own long long_too others own_is =
 abbrev pub own_so_far : DossierRows → List ℕ → ℕ → List ℕ
 own_so_far d places i = flat_map (λ k. own_places d (candidate_of d k)) (take i places)
 
-pub own_more : (d : DossierRows) (places : List ℕ) (i : ℕ) (now own next : List ℕ) → now ≡ own_so_far d places i → i < length places
+pub own_more : (d : DossierRows) (places : List ℕ) (i : ℕ) (now own next : List ℕ) → now ≡ own_so_far d places i
+    → i < length places
     → own ≡ own_places d (candidate_of d (get_or places i 0)) → next ≡ now ++ own → next ≡ own_so_far d places (i + 1)
 own_more d places i now own next so_far lt own_is next_is =
     let f = λ (k : ℕ). own_places d (candidate_of d k) in
-    next_is ∙ rw (so_far, own_is) (flat_map_more f [] (take i places) (get_or places i 0) ∙ ap (flat_map f) (sym (take_more places i 0 lt)))
+    next_is ∙ rw (so_far, own_is) (flat_map_more f [] (take i places) (get_or places i 0)
+    ∙ ap (flat_map f) (sym (take_more places i 0 lt)))
 
-pub own_all : (d : DossierRows) (places : List ℕ) (i : ℕ) (now : List ℕ) → now ≡ own_so_far d places i → length places ≤ i
+pub own_all : (d : DossierRows) (places : List ℕ) (i : ℕ) (now : List ℕ) → now ≡ own_so_far d places i
+    → length places ≤ i
     → now ≡ flat_map (λ k. own_places d (candidate_of d k)) places
-own_all d places i now so_far le = so_far ∙ ap (flat_map (λ (k : ℕ). own_places d (candidate_of d k))) (take_all i places le)
+own_all d places i now so_far le = so_far ∙ ap (flat_map (λ (k : ℕ). own_places d (candidate_of d k)))
+    (take_all i places le)
 
 pub beside_within : (d : DossierRows) (places own : List ℕ) (i : ℕ) → own ≡ wishes_beside d places → i < length own
     → get_or own i 0 < length d.wishes
 beside_within d places own i own_is lt =
     let n = length d.wishes in
     let all : All (λ (k : ℕ). k < n) (range_with_len 0 n) = λ k e within.
-    let in_range : k < n = omega (arith, within, length-range_with_len 0 n) in rw (get_or-range_with_len 0 n k e in_range) (omega arith) in
-    rw own_is (All-filter (λ k. is_among (candidate_of d k) (map (candidate_of d) places)) (λ (k : ℕ). k < n) (range_with_len 0 n) all i 0
+    let in_range : k < n = omega (arith, within, length-range_with_len 0 n) in
+    rw (get_or-range_with_len 0 n k e in_range) (omega arith) in
+    rw own_is (All-filter (λ k. is_among (candidate_of d k) (map (candidate_of d) places)) (λ (k : ℕ). k < n)
+    (range_with_len 0 n) all i 0
     (rw own_is at lt))
 
 -- and one more of their wishes
 pub beside_some : (ms ns : List Mark) (own : List ℕ) (i : ℕ) (x y : Status) (now : List Change)
     → now ≡ listed (change_at ns) (changed_at ms ns) own i
-    → i < length own → x ≡ (mark_in ms (get_or own i 0)).status → y ≡ (mark_in ns (get_or own i 0)).status → is_answered_change x y ≡ true
+    → i < length own → x ≡ (mark_in ms (get_or own i 0)).status → y ≡ (mark_in ns (get_or own i 0)).status
+    → is_answered_change x y ≡ true
     → now ++ record { wish = get_or own i 0; status = y } ∷ [] ≡ listed (change_at ns) (changed_at ms ns) own (i + 1)
 beside_some ms ns own i x y now so_far lt x_is y_is passes =
     rw y_is (listed_some (change_at ns) (changed_at ms ns) own i 0 now so_far lt (rw (x_is, y_is) at passes))
 
 pub beside_none : (ms ns : List Mark) (own : List ℕ) (i : ℕ) (x y : Status) (now : List Change)
     → now ≡ listed (change_at ns) (changed_at ms ns) own i
-    → i < length own → x ≡ (mark_in ms (get_or own i 0)).status → y ≡ (mark_in ns (get_or own i 0)).status → is_answered_change x y ≡ false
+    → i < length own → x ≡ (mark_in ms (get_or own i 0)).status → y ≡ (mark_in ns (get_or own i 0)).status
+    → is_answered_change x y ≡ false
     → now ≡ listed (change_at ns) (changed_at ms ns) own (i + 1)
-beside_none ms ns own i x y now so_far lt x_is y_is fails = listed_none (change_at ns) (changed_at ms ns) own i 0 now so_far lt
+beside_none ms ns own i x y now so_far lt x_is y_is fails =
+    listed_none (change_at ns) (changed_at ms ns) own i 0 now so_far lt
     (rw (x_is, y_is) at fails)

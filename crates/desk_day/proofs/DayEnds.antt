@@ -16,13 +16,15 @@ use Rattle.desk_day.specs.declared.refusal.DayRefusal.{DayRefusal}
 use Rattle.desk_day.specs.declared.refusal.DayRefusal.TheVariants as refusals
 
 -- where memory ran out, what is said of that
-pub ran_out : {T : Type 0} (P : DayRefusal → Type 0) (r : Result T DayRefusal) → IsErrAnd r (λ e. e ≡ refusals.OutOfMemory)
+pub ran_out : {T : Type 0} (P : DayRefusal → Type 0) (r : Result T DayRefusal)
+    → IsErrAnd r (λ e. e ≡ refusals.OutOfMemory)
     → P refusals.OutOfMemory → IfErr r P
 ran_out P (Ok x) is p = tt
 ran_out P (Err e) is p = subst P (sym is) p
 
 -- a picker that ran out of memory told more
-pub tells_on : {T E : Type 0} (r : Result T E) (before after picks : List ℕ) → after ≡ before ++ picks → OnErr r (TellsMore before after)
+pub tells_on : {T E : Type 0} (r : Result T E) (before after picks : List ℕ) → after ≡ before ++ picks
+    → OnErr r (TellsMore before after)
 tells_on (Ok x) before after picks more = tt
 tells_on (Err e) before after picks more = (picks, more)
 
@@ -59,7 +61,8 @@ not_begun terms day before after (Err e) refusal is unfit opening told =
 module _ (terms : Option Terms) (orders : List CallOrder) (ceilings : List ℕ) (day : ℕ) (desk : DeskStates)
     (was new noted : RunningStates) (evening now : State) (told told_after : List ℕ)
     (choice choice_after : List ℕ → List ℕ → ℕ)
-    (is : record { present = was.present; evening = evening; opening = was.opening } ≡ desk) (now_is : now ≡ was.present)
+    (is : record { present = was.present; evening = evening; opening = was.opening } ≡ desk)
+    (now_is : now ≡ was.present)
     (kept : choice_after ≡ choice) where
   abbrev Ends : DeskStates → RunningStates → Result DayRecord DayRefusal → Type 0
   Ends before after r = EndsDay terms orders ceilings day (record { desk = before; told = told; choice = choice })
@@ -71,7 +74,8 @@ module _ (terms : Option Terms) (orders : List CallOrder) (ceilings : List ℕ) 
       → new.present.dossier ≡ was.present.dossier → Ends desk noted (Ok done)
   ends_done done noted_is came same =
       subst (λ (d : DeskStates). Ends d noted (Ok done)) is
-      (subst (λ (r : RunningStates). Ends (record { present = was.present; evening = evening; opening = was.opening }) r (Ok done))
+      (subst (λ (r : RunningStates). Ends (record { present = was.present; evening = evening; opening = was.opening }) r
+      (Ok done))
       (sym noted_is) (record {
         done = record {
           rule = record {
@@ -93,7 +97,8 @@ module _ (terms : Option Terms) (orders : List CallOrder) (ceilings : List ℕ) 
       }))
 
   pub ends_undone : (refusal : DayRefusal) → noted.present ≡ was.present → noted.opening ≡ new.opening
-      → IsUndone terms day (moment_on was was.present told choice) (moment_on new was.present told_after choice_after) refusal
+      → IsUndone terms day (moment_on was was.present told choice)
+      (moment_on new was.present told_after choice_after) refusal
       → Ends desk noted (Err refusal)
   ends_undone refusal restored opened undone = subst (λ (d : DeskStates). Ends d noted (Err refusal)) is (record {
     done = tt;

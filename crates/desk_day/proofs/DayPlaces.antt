@@ -1,5 +1,6 @@
 -- The places in the record of a day are those of the dossier.
-use Rattle.std.proofs.Common.{◌≡◌, ◌∙◌, ℕ, ◌+◌, ◌<◌, ◌≤◌, Bool, List, [], ◌∷◌, Option, None, Some, All, IsTrue, ap, arith, filter, find, get_or, inl, inr, length, map, refl, subst, sym, take}
+use Rattle.std.proofs.Common.{◌≡◌, ◌∙◌, ℕ, ◌+◌, ◌<◌, ◌≤◌, Bool, List, [], ◌∷◌, Option, None, Some, All, IsTrue, ap}
+use Rattle.std.proofs.Common.{arith, filter, find, get_or, inl, inr, length, map, refl, subst, sym, take}
 use Rattle.std.specs.Prelude.{ℤ, option_map, unwrap_or, zip}
 use Rattle.std.specs.List.{enumerate_from, range_with_len}
 use Rattle.std.proofs.lemmas.Bool.{and_parts, cases_Bool, ltb-true}
@@ -31,7 +32,8 @@ use Rattle.desk_day.proofs.SameDossier.{morning_dossier, evening_dossier}
 places_in : {X : Type 0} (n : ℕ) (xs : List X) → length xs ≤ n → All (λ (x : ℕ × X). x.0 < n) (enumerate_from 0 xs)
 places_in {X} n xs le k d lt =
     let within : k < length xs = omega (arith, length-enumerate_from 0 xs) in
-    let place : (get_or (enumerate_from 0 xs) k d).0 ≡ 0 + k = ap (λ (x : ℕ × X). x.0) (get_or-enumerate_from 0 xs k d within) in
+    let place : (get_or (enumerate_from 0 xs) k d).0 ≡ 0 + k =
+    ap (λ (x : ℕ × X). x.0) (get_or-enumerate_from 0 xs k d within) in
     omega arith
 
 -- what is chosen of an enumerated list
@@ -49,21 +51,28 @@ first_found {X} n test (y ∷ ys) all some =
     ]
 
 -- the places by which ranks are named; where nothing is listed there is no rank
-names_in : {X : Type 0} (n : ℕ) (es : List X) (test : ℕ → ℕ × X → Bool) (ranks : List ℕ) → (es ≡ [] → ranks ≡ []) → length es ≤ n
-    → All (λ (w : ℕ). w < n) (map (λ r. unwrap_or (option_map (λ (x : ℕ × X). x.0) (find (test r) (enumerate_from 0 es))) 0) ranks)
+names_in : {X : Type 0} (n : ℕ) (es : List X) (test : ℕ → ℕ × X → Bool) (ranks : List ℕ) → (es ≡ [] → ranks ≡ [])
+    → length es ≤ n
+    → All (λ (w : ℕ). w < n)
+    (map (λ r. unwrap_or (option_map (λ (x : ℕ × X). x.0) (find (test r) (enumerate_from 0 es))) 0) ranks)
 names_in n [] test ranks none le = rw (none refl) (All-nil (λ (w : ℕ). w < n))
 names_in {X} n (e ∷ es) test ranks none le =
-    All-map (λ (w : ℕ). w < n) (λ r. unwrap_or (option_map (λ (x : ℕ × X). x.0) (find (test r) (enumerate_from 0 (e ∷ es)))) 0) ranks
-    (λ i d lt. first_found n (test (get_or ranks i d)) (enumerate_from 0 (e ∷ es)) (places_in n (e ∷ es) le) (omega arith))
+    All-map (λ (w : ℕ). w < n)
+    (λ r. unwrap_or (option_map (λ (x : ℕ × X). x.0) (find (test r) (enumerate_from 0 (e ∷ es)))) 0) ranks
+    (λ i d lt. first_found n (test (get_or ranks i d)) (enumerate_from 0 (e ∷ es)) (places_in n (e ∷ es) le)
+    (omega arith))
 
 few_entries : (s : State) → length (entries s) ≤ length s.dossier.wishes
 few_entries s = omega (arith, length-zip s.dossier.wishes s.marks)
 
-no_ranks : (s : State) (orders : List CallOrder) (bars : List ℕ) (h k : ℕ) → entries s ≡ [] → take k (demanded_ranks s orders bars h) ≡ []
+no_ranks : (s : State) (orders : List CallOrder) (bars : List ℕ) (h k : ℕ) → entries s ≡ []
+    → take k (demanded_ranks s orders bars h) ≡ []
 no_ranks s orders bars h k none = rw none (take_all k [] (omega arith))
 
-fall_in : (s : State) (orders : List CallOrder) (ceilings bars : List ℕ) (f : Fall) → length ceilings ≡ length s.dossier.schools
-    → IsTrue (is_overfilled (boarding s orders ceilings) bars f.school) → f ≡ fall_of (boarding s orders ceilings) bars f.school
+fall_in : (s : State) (orders : List CallOrder) (ceilings bars : List ℕ) (f : Fall)
+    → length ceilings ≡ length s.dossier.schools
+    → IsTrue (is_overfilled (boarding s orders ceilings) bars f.school)
+    → f ≡ fall_of (boarding s orders ceilings) bars f.school
     → IsFallIn s.dossier f
 fall_in s orders ceilings bars f same over is = record {
   school =
@@ -77,7 +86,8 @@ fall_in s orders ceilings bars f same over is = record {
       (names_in n (entries s) _ ranks (no_ranks s orders bars h _) (few_entries s));
 }
 
-falls_in : (s : State) (orders : List CallOrder) (ceilings bars : List ℕ) (falls : List Fall) → length ceilings ≡ length s.dossier.schools
+falls_in : (s : State) (orders : List CallOrder) (ceilings bars : List ℕ) (falls : List Fall)
+    → length ceilings ≡ length s.dossier.schools
     → AreFalls (boarding s orders ceilings) bars falls → All (IsFallIn s.dossier) falls
 falls_in s orders ceilings bars [] same are = All-nil (IsFallIn s.dossier)
 falls_in s orders ceilings bars (f ∷ fs) same are =
@@ -103,20 +113,24 @@ pass_in s orders ceilings stamp end same is =
           (All-map (λ (w : ℕ). w < n) (λ (x : ℕ × (Wish × Mark)). x.0) _ (chosen_in n _ (entries s) (few_entries s)));
       autos =
           All-same (λ (c : Change). c.wish < n) end.autos _ is.autos
-          (All-map (λ (c : Change). c.wish < n) (λ (x : ℕ × (Mark × Mark)). record { wish = x.0; status = x.1.1.status }) _
+          (All-map (λ (c : Change). c.wish < n) (λ (x : ℕ × (Mark × Mark)).
+          record { wish = x.0; status = x.1.1.status }) _
           (chosen_in n _ (zip (offered s orders end.pass.bars stamp).marks (closing s orders end.pass.bars stamp).marks)
           (few_offered s orders end.pass.bars stamp _)));
     }
 
-passes_in : (orders : List CallOrder) (ceilings : List ℕ) (day k : ℕ) (s : State) (passes : List PassEnd) (evening : State)
+passes_in : (orders : List CallOrder) (ceilings : List ℕ) (day k : ℕ) (s : State) (passes : List PassEnd)
+    (evening : State)
     → length ceilings ≡ length s.dossier.schools
     → Passes orders ceilings day k s passes evening → All (IsPassIn s.dossier) passes
 passes_in orders ceilings day k s [] evening same p = absurd p
 passes_in orders ceilings day k s (pass ∷ []) evening same p =
-    All-cons (IsPassIn s.dossier) pass [] (pass_in s orders ceilings (stamp_of day k) pass same p.0) (All-nil (IsPassIn s.dossier))
+    All-cons (IsPassIn s.dossier) pass [] (pass_in s orders ceilings (stamp_of day k) pass same p.0)
+    (All-nil (IsPassIn s.dossier))
 passes_in orders ceilings day k s (pass ∷ next ∷ rest) evening same p =
     All-cons (IsPassIn s.dossier) pass (next ∷ rest) (pass_in s orders ceilings (stamp_of day k) pass same p.0)
-    (passes_in orders ceilings day (k + 1) (closing s orders pass.pass.bars (stamp_of day k)) (next ∷ rest) evening same p.2)
+    (passes_in orders ceilings day (k + 1) (closing s orders pass.pass.bars (stamp_of day k))
+    (next ∷ rest) evening same p.2)
 
 pub lapsed_in : (terms : Option Terms) (day : ℕ) (s : State) → AreTermsFor s.dossier terms
     → All (λ (l : Lapse). l.wish < length s.dossier.wishes) (lapsed_on terms day s)
@@ -125,11 +139,13 @@ lapsed_in (Some terms) day s one_each =
     let n = length s.dossier.wishes in
     let each : length terms.before ≡ n = one_each in
     let pairs : length (zip terms.before s.marks) ≤ n = omega (arith, length-zip terms.before s.marks, each) in
-    All-map (λ (l : Lapse). l.wish < n) (λ (x : ℕ × (ℤ × Mark)). record { wish = x.0; offered = offer_day x.1.0 x.1.1 }) _
+    All-map (λ (l : Lapse). l.wish < n) (λ (x : ℕ × (ℤ × Mark)). record { wish = x.0; offered = offer_day x.1.0 x.1.1 })
+    _
     (chosen_in n (λ (x : ℕ × (ℤ × Mark)). lapses terms.term day x.1.0 x.1.1) (zip terms.before s.marks) pairs)
 
 -- a day's record speaks of the dossier's wishes, schools and programmes
-pub day_in : (terms : Option Terms) (orders : List CallOrder) (ceilings : List ℕ) (old : State) (day : DayRecord) (evening : State)
+pub day_in : (terms : Option Terms) (orders : List CallOrder) (ceilings : List ℕ) (old : State) (day : DayRecord)
+    (evening : State)
     → AreTermsFor old.dossier terms → length ceilings ≡ length old.dossier.schools
     → IsDay terms orders ceilings old day evening → IsDayIn old.dossier day
 day_in terms orders ceilings old day evening before one_each is =
@@ -137,14 +153,19 @@ day_in terms orders ceilings old day evening before one_each is =
     let stays : s.dossier ≡ old.dossier = morning_dossier terms day.day old in
     let same : evening.dossier ≡ old.dossier = evening_dossier terms orders ceilings old day evening is in
     let P : DossierRows → Type 0 = λ d. All (IsPassIn d) day.passes in
-    let each : length ceilings ≡ length s.dossier.schools = one_each ∙ ap (λ (d : DossierRows). length d.schools) (sym stays) in
+    let each : length ceilings ≡ length s.dossier.schools =
+    one_each ∙ ap (λ (d : DossierRows). length d.schools) (sym stays) in
     record {
-      lapsed = All-same (λ (l : Lapse). l.wish < length old.dossier.wishes) day.lapsed _ is.lapsed (lapsed_in terms day.day old before);
+      lapsed = All-same (λ (l : Lapse). l.wish < length old.dossier.wishes) day.lapsed _ is.lapsed
+          (lapsed_in terms day.day old before);
       passes = subst P stays (passes_in orders ceilings day.day 1 s day.passes evening each is.passes);
       left =
-          ap (λ (l : List ℕ). length l) is.left ∙ length-map (range_with_len 0 (length evening.dossier.programmes)) (seats_left evening)
-          ∙ length-range_with_len 0 (length evening.dossier.programmes) ∙ ap (λ (d : DossierRows). length d.programmes) same;
+          ap (λ (l : List ℕ). length l) is.left ∙ length-map (range_with_len 0 (length evening.dossier.programmes))
+          (seats_left evening)
+          ∙ length-range_with_len 0 (length evening.dossier.programmes)
+          ∙ ap (λ (d : DossierRows). length d.programmes) same;
       free =
-          ap (λ (l : List ℕ). length l) is.free ∙ length-map (range_with_len 0 (length evening.dossier.schools)) (free_beds evening)
+          ap (λ (l : List ℕ). length l) is.free ∙ length-map (range_with_len 0 (length evening.dossier.schools))
+          (free_beds evening)
           ∙ length-range_with_len 0 (length evening.dossier.schools) ∙ ap (λ (d : DossierRows). length d.schools) same;
     }

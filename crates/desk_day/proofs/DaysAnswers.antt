@@ -1,5 +1,6 @@
 -- The answers of a day stand together in the dossier.
-use Rattle.std.proofs.Common.{ℕ, ◌+◌, ◌-◌, ◌≤◌, ◌<◌, ◌≡◌, true, false, List, [], ◌∷◌, map, length, take, drop, get_or, inl, inr, refl, sym, ◌∙◌, ap, arith, ltb, leb, Option, Some, None, Ok, Err}
+use Rattle.std.proofs.Common.{ℕ, ◌+◌, ◌-◌, ◌≤◌, ◌<◌, ◌≡◌, true, false, List, [], ◌∷◌, map, length, take, drop, get_or}
+use Rattle.std.proofs.Common.{inl, inr, refl, sym, ◌∙◌, ap, arith, ltb, leb, Option, Some, None, Ok, Err}
 use Rattle.std.specs.Prelude.{◌==◌, slice_index}
 use Rattle.std.specs.List.{enumerate_from}
 use Rattle.std.specs.List.Sorted.{IsPartitionPoint, IsNonDecreasingBy}
@@ -43,9 +44,11 @@ answers_found d day from to valid from_in to_in lower upper =
     let long : length rows ≡ length xs = length-enumerate_from 0 xs in
     let at : (k : ℕ) (e : ℕ × Answer) → k < length xs → get_or rows k e ≡ (0 + k, get_or xs k e.1) =
     λ k e lt. get_or-enumerate_from 0 xs k e lt in
-    let below : (k : ℕ) (e : ℕ × Answer) → k < length rows → ltb (key (get_or rows k e)) day ≡ ltb (get_or xs k e.1).day day =
+    let below : (k : ℕ) (e : ℕ × Answer) → k < length rows
+    → ltb (key (get_or rows k e)) day ≡ ltb (get_or xs k e.1).day day =
     λ k e lt. ap (λ (x : ℕ × Answer). ltb (key x) day) (at k e (omega (arith, long, lt))) in
-    let until : (k : ℕ) (e : ℕ × Answer) → k < length rows → leb (key (get_or rows k e)) day ≡ leb (get_or xs k e.1).day day =
+    let until : (k : ℕ) (e : ℕ × Answer) → k < length rows
+    → leb (key (get_or rows k e)) day ≡ leb (get_or xs k e.1).day day =
     λ k e lt. ap (λ (x : ℕ × Answer). leb (key x) day) (at k e (omega (arith, long, lt))) in
     let span_rows = (between key rows day from to (omega (arith, long, from_in)) (omega (arith, long, to_in)) (
       λ k e low high. below k e (omega (arith, long, high, from_in)) ∙ lower.0 k e.1 low high,
@@ -72,7 +75,8 @@ answers_found d day from to valid from_in to_in lower upper =
           ∙ ap (λ (x : ℕ × Answer). x.0) (get_or-take (to - from) (drop from rows) k e k_in ∙ get_or-drop from rows k e
           ∙ at (from + k) e (omega arith))
           ∙ zero_plus (from + k);
-      targets = rw span (All-filter p (λ (a : Answer). IsTarget d a.kind a.target) xs (λ k a lt. (valid.answers k a lt).target));
+      targets = rw span (All-filter p (λ (a : Answer). IsTarget d a.kind a.target) xs
+          (λ k a lt. (valid.answers k a lt).target));
       few = omega (arith, count, valid.size.answers);
     }
   where
@@ -80,7 +84,8 @@ answers_found d day from to valid from_in to_in lower upper =
     zero_plus n = omega arith
 
 -- the first answer that does not fit is one of the list
-index_within : (k : ℕ) (s : State) (stamp : Stamp) (answers : List Answer) (x : ℕ × Status) → first_unfit k s stamp answers ≡ Some x
+index_within : (k : ℕ) (s : State) (stamp : Stamp) (answers : List Answer) (x : ℕ × Status)
+    → first_unfit k s stamp answers ≡ Some x
     → (k ≤ x.0) × (x.0 < k + length answers)
 index_within k s stamp [] x e = absurd (cc)
 index_within k s stamp (a ∷ rest) x e =
@@ -126,7 +131,8 @@ unfit_applied s t day first answers u refusal are e is =
     let here : first_unfit 0 s (answers_stamp day) (answers_of d day) ≡ Some x = ap
     (λ (l : List Answer). first_unfit 0 s (answers_stamp day) l) (sym are.all) ∙ found.1 in
     let within = index_within 0 s (answers_stamp day) answers x found.1 in
-    some_and (first_unfit 0 s (answers_stamp day) (answers_of d day)) x (λ y. refusal ≡ refusals.Unfit (unfit_refusal d day y)) here
+    some_and (first_unfit 0 s (answers_stamp day) (answers_of d day)) x
+    (λ y. refusal ≡ refusals.Unfit (unfit_refusal d day y)) here
     (refused_there d day first x u.index u.status refusal (are.place x.0 (omega (arith, within.1))) found.2 found.3 is)
 
 none_refused : (o : Option (ℕ × Status)) → Ok tt ≡ refused_at o → o ≡ None
@@ -141,11 +147,13 @@ pub fit_applied : (s t : State) (day first : ℕ) (answers : List Answer) → Ar
 fit_applied s t day first answers are e end =
     let none = none_refused (first_unfit 0 s (answers_stamp day) answers) e in (
       ap (λ (l : List Answer). first_unfit 0 s (answers_stamp day) l) (sym are.all) ∙ none,
-      end ∙ front_all 0 s (answers_stamp day) answers none ∙ ap (λ (l : List Answer). after_all s (answers_stamp day) l) are.all,
+      end ∙ front_all 0 s (answers_stamp day) answers none
+          ∙ ap (λ (l : List Answer). after_all s (answers_stamp day) l) are.all,
     )
 
 -- the dossier stays
-pub front_dossier : (s : State) (stamp : Stamp) (answers : List Answer) → (after_fitting_front s stamp answers).dossier ≡ s.dossier
+pub front_dossier : (s : State) (stamp : Stamp) (answers : List Answer)
+    → (after_fitting_front s stamp answers).dossier ≡ s.dossier
 front_dossier s stamp [] = refl
 front_dossier s stamp (a ∷ rest) =
     elim (cases_Bool (fits s a)) [

@@ -1,5 +1,6 @@
 -- A day on which nothing happens leaves all three states of a desk alike.
-use Rattle.std.proofs.Common.{ℕ, ◌+◌, ◌≡◌, ◌&&◌, true, List, [], ◌∷◌, Option, length, refl, sym, ◌∙◌, ap, subst, arith, nat_eq}
+use Rattle.std.proofs.Common.{ℕ, ◌+◌, ◌≡◌, ◌&&◌, true, List, [], ◌∷◌, Option, length, refl, sym, ◌∙◌, ap, subst, arith}
+use Rattle.std.proofs.Common.{nat_eq}
 use Rattle.std.specs.List.{flat_map, list_all}
 use Rattle.std.proofs.lemmas.Bool.{and_parts, eqb-true}
 use Rattle.admit_core.specs.declared.dossier.Answer.{Answer}

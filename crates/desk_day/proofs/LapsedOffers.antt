@@ -20,5 +20,6 @@ before_the_end term day o late le = grind (arith, ints)
 pub early_offer : (term day : ℕ) (m : Mark) (before : ℤ) → lapses term day before m ≡ true → day ≤ 366
     → offer_day before m ≤ℤ pos 2147483647
 early_offer term day m before t le =
-    before_the_end term day (offer_day before m) (and_parts (is_offered m.status) (int_lt (offer_day before m +ℤ pos term) (pos day)) t).1
+    before_the_end term day (offer_day before m)
+    (and_parts (is_offered m.status) (int_lt (offer_day before m +ℤ pos term) (pos day)) t).1
     le

@@ -14,18 +14,21 @@ use Rattle.admit_core.specs.EveningLaws.{last_bars}
 use Rattle.desk_day.specs.DayPasses.{stamp_of}
 
 -- there is one bar for each ceiling
-pub last_bars_long : (orders : List CallOrder) (ceilings : List ℕ) (day k : ℕ) (s evening : State) (passes : List PassEnd)
+pub last_bars_long : (orders : List CallOrder) (ceilings : List ℕ) (day k : ℕ) (s evening : State)
+    (passes : List PassEnd)
     → Passes orders ceilings day k s passes evening
     → length (last_bars passes) ≡ length ceilings
 last_bars_long orders ceilings day k s evening [] are = absurd are
 last_bars_long orders ceilings day k s evening (pass ∷ []) are = are.0.pass.greatest.fits.under_ceilings.as_many
 last_bars_long orders ceilings day k s evening (pass ∷ next ∷ rest) are =
-    last_bars_long orders ceilings day (k + 1) (closing s orders pass.pass.bars (stamp_of day k)) evening (next ∷ rest) are.2
+    last_bars_long orders ceilings day (k + 1) (closing s orders pass.pass.bars (stamp_of day k)) evening
+    (next ∷ rest) are.2
 
 -- and one ceiling for each school
 pub length-ceilings_of : (d : DossierRows) (day : ℕ) → length (ceilings_of d day) ≡ length d.schools
 length-ceilings_of d day =
-    length-map (enumerate_from 0 d.schools) (λ (x : ℕ × School). ceiling_on d day x.0 x.1) ∙ length-enumerate_from 0 d.schools
+    length-map (enumerate_from 0 d.schools) (λ (x : ℕ × School). ceiling_on d day x.0 x.1)
+    ∙ length-enumerate_from 0 d.schools
 
 some_same : (x y : PassEnd) → Some x ≡ Some y → x ≡ y
 some_same x y e = (cc)

@@ -1,5 +1,7 @@
--- Where all have been answered for but those who have one of some wishes, only they and those with an offer are answered for, and change.
-use Rattle.std.proofs.Common.{ℕ, ◌<◌, ◌≡◌, false, List, [], ◌++◌, arith, map, length, inl, inr, refl, sym, ◌∙◌, ap, subst, nat_eq}
+-- Where all have been answered for but those who have one of some wishes, only they and those with an offer are
+-- answered for, and change.
+use Rattle.std.proofs.Common.{ℕ, ◌<◌, ◌≡◌, false, List, [], ◌++◌, arith, map, length, inl, inr, refl, sym, ◌∙◌, ap}
+use Rattle.std.proofs.Common.{subst, nat_eq}
 use Rattle.std.specs.Prelude.{All, if◌then◌else◌}
 use Rattle.std.proofs.lemmas.Bool.{cases_Bool, false≢true, or_parts}
 use Rattle.std.proofs.lemmas.List.{map-append}
@@ -35,7 +37,8 @@ in_neither f c xs ys none =
     or_parts (is_among c (map f xs)) (is_among c (map f ys))
     (sym (ap (is_among c) (map-append f xs ys) ∙ list_any-append (nat_eq c) (map f xs) (map f ys)) ∙ none)
 
-module _ (s : State) (orders : List CallOrder) (bars : List ℕ) (stamp : Stamp) (long : length s.marks ≡ length s.dossier.wishes) where
+module _ (s : State) (orders : List CallOrder) (bars : List ℕ) (stamp : Stamp)
+    (long : length s.marks ≡ length s.dossier.wishes) where
   abbrev after : State
   after = offered s orders bars stamp
 
@@ -58,14 +61,16 @@ module _ (s : State) (orders : List CallOrder) (bars : List ℕ) (stamp : Stamp)
           | inr other ↦
               let within : All (λ j. j < length s.marks) ks = rw long (proposed_are_wishes s orders bars) in
               let apart = apart_places (λ (e : Wish × Mark). is_proposed s orders bars e.0 e.1) 0 (entries s) in
-              let given : mark_in (change_along give ks s).marks k ≡ mark_in s.marks k = along_at give ks s apart within k
+              let given : mark_in (change_along give ks s).marks k ≡ mark_in s.marks k =
+              along_at give ks s apart within k
               ∙ rw other refl in
               sym given ∙ ap (λ (t : State). mark_in t.marks k) (offers_made s orders bars stamp long)
         ];
   }
 
   -- and in the automatic answers that follow it, where they had been answered for
-  not_changed : (c : ℕ) → SameOwnMarks c s (auto_all s stamp) → is_among c (map (candidate_of s.dossier) (proposed s orders bars)) ≡ false
+  not_changed : (c : ℕ) → SameOwnMarks c s (auto_all s stamp)
+      → is_among c (map (candidate_of s.dossier) (proposed s orders bars)) ≡ false
       → Agrees c s (auto_all after stamp)
   not_changed c answered none =
       joined c s (auto_all s stamp) (auto_all after stamp)
@@ -77,7 +82,8 @@ module _ (s : State) (orders : List CallOrder) (bars : List ℕ) (stamp : Stamp)
     others_answered c none =
         let parts = in_neither (candidate_of s.dossier) c beside (proposed s orders bars) none in
         same_own c after (auto_all after stamp)
-        (joined c after s (auto_all after stamp) (turned c s after (not_offered c parts.1)) (not_changed c (answered c parts.0) parts.1))
+        (joined c after s (auto_all after stamp) (turned c s after (not_offered c parts.1))
+        (not_changed c (answered c parts.0) parts.1))
 
     others_same : SameOthers (beside ++ proposed s orders bars) s (auto_all after stamp)
     others_same c none =
@@ -89,37 +95,43 @@ module _ (s : State) (orders : List CallOrder) (bars : List ℕ) (stamp : Stamp)
   closing_answered again = answered_once after stamp (length-with_marks offer s long ∙ long) again
 
 -- the same of the states and the offers that a pass has left
-pub offers_within : (s t : State) (orders : List CallOrder) (bars offers : List ℕ) → t.dossier ≡ s.dossier → offers ≡ proposed s orders bars
+pub offers_within : (s t : State) (orders : List CallOrder) (bars offers : List ℕ) → t.dossier ≡ s.dossier
+    → offers ≡ proposed s orders bars
     → All (λ k. k < length t.dossier.wishes) offers
 offers_within s t orders bars offers same are = rw (same, are) (proposed_are_wishes s orders bars)
 
 pub answered_but : (s off : State) (orders : List CallOrder) (bars beside offers asked : List ℕ) (stamp : Stamp)
     → length s.marks ≡ length s.dossier.wishes
-    → off ≡ offered s orders bars stamp → offers ≡ proposed s orders bars → asked ≡ beside ++ offers → AreAnsweredBut beside s stamp
+    → off ≡ offered s orders bars stamp → offers ≡ proposed s orders bars → asked ≡ beside ++ offers
+    → AreAnsweredBut beside s stamp
     → AreAnsweredBut asked off stamp
 answered_but s off orders bars beside offers asked stamp long off_is are asked_are answered =
     rw (off_is, asked_are, are) (others_answered s orders bars stamp long beside answered)
 
-pub same_but : (s off close opening : State) (orders : List CallOrder) (bars beside offers asked : List ℕ) (stamp : Stamp)
+pub same_but : (s off close opening : State) (orders : List CallOrder) (bars beside offers asked : List ℕ)
+    (stamp : Stamp)
     → length s.marks ≡ length s.dossier.wishes
     → off ≡ offered s orders bars stamp → close ≡ auto_all off stamp → opening ≡ s → offers ≡ proposed s orders bars
     → asked ≡ beside ++ offers
     → AreAnsweredBut beside s stamp → SameOthers asked opening close
-same_but s off close opening orders bars beside offers asked stamp long off_is close_is opening_is are asked_are answered =
+same_but s off close opening orders bars beside offers asked stamp long off_is close_is opening_is are asked_are
+    answered =
     rw (opening_is, close_is, off_is, asked_are, are) (others_same s orders bars stamp long beside answered)
 
 -- the opening of a pass, and what its steps lead to
 offered_there : (s opening : State) (orders : List CallOrder) (bars offers : List ℕ) (stamp : Stamp)
     → length s.marks ≡ length s.dossier.wishes
     → opening ≡ s → offers ≡ proposed s orders bars → offered_along offers stamp opening ≡ offered s orders bars stamp
-offered_there s opening orders bars offers stamp long opening_is are = rw (opening_is, are) (offers_made s orders bars stamp long)
+offered_there s opening orders bars offers stamp long opening_is are =
+    rw (opening_is, are) (offers_made s orders bars stamp long)
 
 pub steps_taken : (s opening close : State) (orders : List CallOrder) (bars offers : List ℕ) (stamp : Stamp)
     → length s.marks ≡ length s.dossier.wishes
     → opening ≡ s → close ≡ closing s orders bars stamp → offers ≡ proposed s orders bars
     → close ≡ auto_all (offered_along offers stamp opening) stamp
 steps_taken s opening close orders bars offers stamp long opening_is close_is are =
-    close_is ∙ ap (λ (t : State). auto_all t stamp) (sym (offered_there s opening orders bars offers stamp long opening_is are))
+    close_is ∙ ap (λ (t : State). auto_all t stamp)
+    (sym (offered_there s opening orders bars offers stamp long opening_is are))
 
 pub answered_along : (s opening : State) (orders : List CallOrder) (bars beside offers asked : List ℕ) (stamp : Stamp)
     → length s.marks ≡ length s.dossier.wishes
@@ -132,7 +144,8 @@ answered_along s opening orders bars beside offers asked stamp long opening_is a
 -- where all have been answered for, no wish has to be named
 pub answered_all : (s : State) → IsAnswered s → (none : List ℕ) → IsAnsweredBut none s
 answered_all s answered none stamp c apart =
-    subst (λ (t : State). SameOwnMarks c s t) (sym (answered stamp)) (record { dossier = refl; each = λ place lt own. refl })
+    subst (λ (t : State). SameOwnMarks c s t) (sym (answered stamp))
+    (record { dossier = refl; each = λ place lt own. refl })
 
 -- where nobody is left out, all have been answered for
 pub settled : (s : State) (beside : List ℕ) → length s.marks ≡ length s.dossier.wishes → beside ≡ []

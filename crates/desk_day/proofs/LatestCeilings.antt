@@ -1,9 +1,11 @@
 -- Changes in the order of their days leave the latest ceiling of each school.
-use Rattle.std.proofs.Common.{ℕ, zero, suc, ◌+◌, ◌-◌, ◌≤◌, ◌<◌, ◌≡◌, Bool, true, false, ◌&&◌, List, [], ◌∷◌, map, length, set, get_or, inl, inr, refl, sym, ◌∙◌, ap, arith, filter, Option, Some, None}
+use Rattle.std.proofs.Common.{ℕ, zero, suc, ◌+◌, ◌-◌, ◌≤◌, ◌<◌, ◌≡◌, Bool, true, false, ◌&&◌, List, [], ◌∷◌, map}
+use Rattle.std.proofs.Common.{length, set, get_or, inl, inr, refl, sym, ◌∙◌, ap, arith, filter, Option, Some, None}
 use Rattle.std.specs.Prelude.{◌==◌, nat_le, slice_index, All, unwrap_or, option_map, if◌then◌else◌}
 use Rattle.std.specs.List.{enumerate_from}
 use Rattle.std.proofs.lemmas.Bool.{cases_Bool, cases_eq, eqb-true, eq-eqb, ne_eqb, and_parts, leb-true, lt-leb}
-use Rattle.std.proofs.lemmas.List.{length-map, length-set, get_or-map, get_or-set_same, get_or-set_other, same_lists, get_or_default}
+use Rattle.std.proofs.lemmas.List.{length-map, length-set, get_or-map, get_or-set_same, get_or-set_other, same_lists}
+use Rattle.std.proofs.lemmas.List.{get_or_default}
 use Rattle.std.proofs.lemmas.List.Elements.{All-filter, filter_passes}
 use Rattle.std.proofs.lemmas.List.FromFn.{length-enumerate_from, get_or-enumerate_from}
 use Rattle.admit_core.specs.declared.dossier.School.{School}
@@ -59,7 +61,8 @@ AreLater (c ∷ cs) = All (λ y. y.school ≡ c.school → c.day < y.day) cs × 
 
 pub later_from : (cs : List CeilingChange)
     →
-    ((i j : ℕ) (d : CeilingChange) → i < j → j < length cs → (get_or cs j d).school ≡ (get_or cs i d).school → (get_or cs i d).day <
+    ((i j : ℕ) (d : CeilingChange) → i < j → j < length cs → (get_or cs j d).school ≡ (get_or cs i d).school
+    → (get_or cs i d).day <
     (get_or cs j d).day)
     → AreLater cs
 later_from [] each = tt
@@ -68,7 +71,8 @@ later_from (c ∷ cs) each = (
   later_from cs (λ i j d lt j_lt same. each (suc i) (suc j) d (omega arith) (omega arith) same),
 )
 
-lesser_has : (key : CeilingChange → ℕ) (P : CeilingChange → Type 0) (x : CeilingChange) (o : Option CeilingChange) (y : CeilingChange)
+lesser_has : (key : CeilingChange → ℕ) (P : CeilingChange → Type 0) (x : CeilingChange) (o : Option CeilingChange)
+    (y : CeilingChange)
     → P x → ((z : CeilingChange) → o ≡ Some z → P z) → Some (lesser key x o) ≡ Some y → P y
 lesser_has key P x None y here rest e = let same : x ≡ y = (cc) in rw (← same) here
 lesser_has key P x (Some z) y here rest e =
@@ -78,11 +82,13 @@ lesser_has key P x (Some z) y here rest e =
     ]
 
 -- what all have, the one of least key has
-least_has : (key : CeilingChange → ℕ) (P : CeilingChange → Type 0) (xs : List CeilingChange) (y : CeilingChange) → All P xs
+least_has : (key : CeilingChange → ℕ) (P : CeilingChange → Type 0) (xs : List CeilingChange) (y : CeilingChange)
+    → All P xs
     → least_by key xs ≡ Some y → P y
 least_has key P [] y all e = absurd (cc)
 least_has key P (x ∷ xs) y all e =
-    lesser_has key P x (least_by key xs) y (all zero x (omega arith)) (λ z f. least_has key P xs z (λ k d lt. all (suc k) d (omega arith))
+    lesser_has key P x (least_by key xs) y (all zero x (omega arith))
+    (λ z f. least_has key P xs z (λ k d lt. all (suc k) d (omega arith))
     f) e
 
 step : (day h : ℕ) (c : CeilingChange) (kept : List CeilingChange) → counts day h c ≡ true
@@ -92,7 +98,8 @@ step : (day h : ℕ) (c : CeilingChange) (kept : List CeilingChange) → counts 
 step day h c kept here all later None e = refl
 step day h c kept here all later (Some y) e =
     let counts_too : counts day h y ≡ true = least_has (λ x. day - x.day) (λ z. counts day h z ≡ true) kept y all e in
-    let is_later : y.school ≡ c.school → c.day < y.day = least_has (λ x. day - x.day) (λ z. z.school ≡ c.school → c.day < z.day) kept y
+    let is_later : y.school ≡ c.school → c.day < y.day =
+    least_has (λ x. day - x.day) (λ z. z.school ≡ c.school → c.day < z.day) kept y
     later e in
     let mine = and_parts (c.school == h) (nat_le c.day day) here in
     let its = and_parts (y.school == h) (nat_le y.day day) counts_too in
@@ -103,14 +110,16 @@ step day h c kept here all later (Some y) e =
 
 -- the ceiling after changes is that of the latest one that counts
 latest : (day h : ℕ) (cs : List CeilingChange) (own : ℕ) → AreLater cs
-    → one_changed day h cs own ≡ unwrap_or (option_map (λ c. c.ceiling) (least_by (λ c. day - c.day) (filter (counts day h) cs))) own
+    → one_changed day h cs own ≡ unwrap_or (option_map (λ c. c.ceiling)
+    (least_by (λ c. day - c.day) (filter (counts day h) cs))) own
 latest day h [] own later = refl
 latest day h (c ∷ cs) own later =
     elim (cases_Bool (counts day h c)) [
       | inl here ↦
           let kept = filter (counts day h) cs in
           rw here (latest day h cs c.ceiling later.1
-          ∙ step day h c kept here (filter_passes (counts day h) cs) (All-filter (counts day h) (λ y. y.school ≡ c.school → c.day < y.day)
+          ∙ step day h c kept here (filter_passes (counts day h) cs)
+          (All-filter (counts day h) (λ y. y.school ≡ c.school → c.day < y.day)
           cs later.0) (least_by (λ x. day - x.day) kept) refl)
       | inr not_here ↦ rw not_here (latest day h cs own later.1)
     ]
@@ -137,7 +146,8 @@ ceilings_changed d day valid =
     let places = enumerate_from 0 d.schools in
     let long = length-map d.schools ceiling in
     let long_places = length-enumerate_from 0 d.schools in
-    same_lists (changed day cs own) (ceilings_of d day) (omega (arith, length-changed day cs own, long, length-map places f, long_places))
+    same_lists (changed day cs own) (ceilings_of d day)
+    (omega (arith, length-changed day cs own, long, length-map places f, long_places))
     (λ h e lt.
     let h_own : h < length own = omega (arith, length-changed day cs own) in
     let h_in : h < length d.schools = omega (arith, long) in

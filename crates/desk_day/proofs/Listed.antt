@@ -1,5 +1,6 @@
 -- A loop that lists what passes a test.
-use Rattle.std.proofs.Common.{ℕ, ◌+◌, ◌≤◌, ◌<◌, ◌≡◌, Bool, true, false, cond, List, [], ◌∷◌, ◌++◌, map, length, take, get_or, inl, inr, refl, sym, ◌∙◌, ap, arith, filter}
+use Rattle.std.proofs.Common.{ℕ, ◌+◌, ◌≤◌, ◌<◌, ◌≡◌, Bool, true, false, cond, List, [], ◌∷◌, ◌++◌, map, length, take}
+use Rattle.std.proofs.Common.{get_or, inl, inr, refl, sym, ◌∙◌, ap, arith, filter}
 use Rattle.std.proofs.lemmas.Bool.{cases_Bool}
 use Rattle.std.proofs.lemmas.List.{append-nil, map-append, take_more, take_all}
 use Rattle.std.specs.List.{range_with_len}
@@ -17,7 +18,8 @@ filter-append p (x ∷ xs) ys =
 abbrev pub listed : {X Y : Type 0} → (X → Y) → (X → Bool) → List X → ℕ → List Y
 listed g p xs i = map g (filter p (take i xs))
 
-pub listed_some : {X Y : Type 0} (g : X → Y) (p : X → Bool) (xs : List X) (i : ℕ) (d : X) (now : List Y) → now ≡ listed g p xs i
+pub listed_some : {X Y : Type 0} (g : X → Y) (p : X → Bool) (xs : List X) (i : ℕ) (d : X) (now : List Y)
+    → now ≡ listed g p xs i
     → i < length xs → p (get_or xs i d) ≡ true
     → now ++ g (get_or xs i d) ∷ [] ≡ listed g p xs (i + 1)
 listed_some g p xs i d now so_far lt passes =
@@ -27,7 +29,8 @@ listed_some g p xs i d now so_far lt passes =
     ∙ map-append g (filter p (take i xs)) (filter p (x ∷ []))
     ∙ ap (λ b. map g (filter p (take i xs)) ++ map g (cond b (x ∷ []) [])) passes))
 
-pub listed_none : {X Y : Type 0} (g : X → Y) (p : X → Bool) (xs : List X) (i : ℕ) (d : X) (now : List Y) → now ≡ listed g p xs i
+pub listed_none : {X Y : Type 0} (g : X → Y) (p : X → Bool) (xs : List X) (i : ℕ) (d : X) (now : List Y)
+    → now ≡ listed g p xs i
     → i < length xs → p (get_or xs i d) ≡ false
     → now ≡ listed g p xs (i + 1)
 listed_none g p xs i d now so_far lt fails =
@@ -38,9 +41,11 @@ listed_none g p xs i d now so_far lt fails =
     ∙ ap (λ b. map g (filter p (take i xs)) ++ map g (cond b (x ∷ []) [])) fails
     ∙ append-nil (map g (filter p (take i xs))))
 
-pub listed_all : {X Y : Type 0} (g : X → Y) (p : X → Bool) (xs : List X) (i : ℕ) → length xs ≤ i → listed g p xs i ≡ map g (filter p xs)
+pub listed_all : {X Y : Type 0} (g : X → Y) (p : X → Bool) (xs : List X) (i : ℕ) → length xs ≤ i
+    → listed g p xs i ≡ map g (filter p xs)
 listed_all g p xs i le = ap (λ l. map g (filter p l)) (take_all i xs le)
 
 -- a number for each place
-pub made_more : (f : ℕ → ℕ) (n : ℕ) (now : List ℕ) → now ≡ map f (range_with_len 0 n) → now ++ f n ∷ [] ≡ map f (range_with_len 0 (n + 1))
+pub made_more : (f : ℕ → ℕ) (n : ℕ) (now : List ℕ) → now ≡ map f (range_with_len 0 n)
+    → now ++ f n ∷ [] ≡ map f (range_with_len 0 (n + 1))
 made_more f n now so_far = rw so_far (sym (map-range_with_len_more f 0 n n (omega arith)))

@@ -1,5 +1,6 @@
 -- The pairs of marks that a loop goes along.
-use Rattle.std.proofs.Common.{ℕ, ◌+◌, ◌≤◌, ◌<◌, ◌≡◌, true, false, List, [], ◌∷◌, ◌++◌, length, get_or, refl, ◌∙◌, ap, arith, zip}
+use Rattle.std.proofs.Common.{ℕ, ◌+◌, ◌≤◌, ◌<◌, ◌≡◌, true, false, List, [], ◌∷◌, ◌++◌, length, get_or, refl, ◌∙◌, ap}
+use Rattle.std.proofs.Common.{arith, zip}
 use Rattle.std.specs.Prelude.{ℤ, pos}
 use Rattle.std.specs.List.{enumerate_from}
 use Rattle.std.proofs.lemmas.Option.{unwrap_or-slice_get}
@@ -30,7 +31,8 @@ pairs_long xs ms = omega (arith, length-enumerate_from 0 (zip xs ms), length-zip
 
 pair_of_marks : (ms ns : List Mark) (k : ℕ) → k < length ms → k < length ns
     → get_or (enumerate_from 0 (zip ms ns)) k (0, (mark_in [] 0, mark_in [] 0)) ≡ (k, (mark_in ms k, mark_in ns k))
-pair_of_marks ms ns k lt lt_too = pair_at ms ns k (mark_in [] 0) lt lt_too ∙ rw (← unwrap_or-slice_get ms k (mark_in [] 0)) refl
+pair_of_marks ms ns k lt lt_too = pair_at ms ns k (mark_in [] 0) lt lt_too
+    ∙ rw (← unwrap_or-slice_get ms k (mark_in [] 0)) refl
 
 all_pairs_long : {X : Type 0} (xs : List X) (ms : List Mark) (k : ℕ) → k < length xs → k < length ms
     → k < length (enumerate_from 0 (zip xs ms))
@@ -38,7 +40,8 @@ all_pairs_long xs ms k lt lt_too = omega (arith, length-enumerate_from 0 (zip xs
 
 pub changed_here : (ms ns : List Mark) (k : ℕ) (x y : Status) (now : List Change)
     → now ≡ listed change_of is_answered (enumerate_from 0 (zip ms ns)) k
-    → k < length ms → k < length ns → x ≡ (mark_in ms k).status → y ≡ (mark_in ns k).status → is_answered_change x y ≡ true
+    → k < length ms → k < length ns → x ≡ (mark_in ms k).status → y ≡ (mark_in ns k).status
+    → is_answered_change x y ≡ true
     → now ++ record { wish = k; status = y } ∷ [] ≡ listed change_of is_answered (enumerate_from 0 (zip ms ns)) (k + 1)
 changed_here ms ns k x y now so_far lt lt_too x_is y_is passes =
     let pairs = enumerate_from 0 (zip ms ns) in
@@ -48,22 +51,28 @@ changed_here ms ns k x y now so_far lt lt_too x_is y_is passes =
 
 pub unchanged_here : (ms ns : List Mark) (k : ℕ) (x y : Status) (now : List Change)
     → now ≡ listed change_of is_answered (enumerate_from 0 (zip ms ns)) k
-    → k < length ms → k < length ns → x ≡ (mark_in ms k).status → y ≡ (mark_in ns k).status → is_answered_change x y ≡ false
+    → k < length ms → k < length ns → x ≡ (mark_in ms k).status → y ≡ (mark_in ns k).status
+    → is_answered_change x y ≡ false
     → now ≡ listed change_of is_answered (enumerate_from 0 (zip ms ns)) (k + 1)
 unchanged_here ms ns k x y now so_far lt lt_too x_is y_is fails =
     let pairs = enumerate_from 0 (zip ms ns) in
     let e = pair_of_marks ms ns k lt lt_too in
-    listed_none change_of is_answered pairs k (0, (mark_in [] 0, mark_in [] 0)) now so_far (all_pairs_long ms ns k lt lt_too)
+    listed_none change_of is_answered pairs k (0, (mark_in [] 0, mark_in [] 0)) now so_far
+    (all_pairs_long ms ns k lt lt_too)
     (ap is_answered e ∙ rw (x_is, y_is) at fails)
 
-pub lapsed_here : (term day : ℕ) (xs : List ℤ) (ms : List Mark) (k : ℕ) (x : ℤ) (m : Mark) (offered : ℤ) (now : List Lapse)
+pub lapsed_here : (term day : ℕ) (xs : List ℤ) (ms : List Mark) (k : ℕ) (x : ℤ) (m : Mark) (offered : ℤ)
+    (now : List Lapse)
     → now ≡ listed lapse_of (is_lapse term day) (enumerate_from 0 (zip xs ms)) k
-    → k < length xs → k < length ms → x ≡ get_or xs k (pos 0) → m ≡ mark_in ms k → lapses term day x m ≡ true → offered ≡ offer_day x m
-    → now ++ record { wish = k; offered = offered } ∷ [] ≡ listed lapse_of (is_lapse term day) (enumerate_from 0 (zip xs ms)) (k + 1)
+    → k < length xs → k < length ms → x ≡ get_or xs k (pos 0) → m ≡ mark_in ms k → lapses term day x m ≡ true
+    → offered ≡ offer_day x m
+    → now ++ record { wish = k; offered = offered } ∷ []
+    ≡ listed lapse_of (is_lapse term day) (enumerate_from 0 (zip xs ms)) (k + 1)
 lapsed_here term day xs ms k x m offered now so_far lt lt_too x_is m_is passes offered_is =
     let pairs = enumerate_from 0 (zip xs ms) in
     let e = pair_at xs ms k (pos 0) lt lt_too in
-    rw (offered_is, x_is, m_is) (rw e at (listed_some lapse_of (is_lapse term day) pairs k (0, (pos 0, mark_in [] 0)) now so_far
+    rw (offered_is, x_is, m_is)
+    (rw e at (listed_some lapse_of (is_lapse term day) pairs k (0, (pos 0, mark_in [] 0)) now so_far
     (all_pairs_long xs ms k lt lt_too) (ap (is_lapse term day) e ∙ rw (x_is, m_is) at passes)))
 
 pub kept_here : (term day : ℕ) (xs : List ℤ) (ms : List Mark) (k : ℕ) (x : ℤ) (m : Mark) (now : List Lapse)
@@ -73,5 +82,6 @@ pub kept_here : (term day : ℕ) (xs : List ℤ) (ms : List Mark) (k : ℕ) (x :
 kept_here term day xs ms k x m now so_far lt lt_too x_is m_is fails =
     let pairs = enumerate_from 0 (zip xs ms) in
     let e = pair_at xs ms k (pos 0) lt lt_too in
-    listed_none lapse_of (is_lapse term day) pairs k (0, (pos 0, mark_in [] 0)) now so_far (all_pairs_long xs ms k lt lt_too)
+    listed_none lapse_of (is_lapse term day) pairs k (0, (pos 0, mark_in [] 0)) now so_far
+    (all_pairs_long xs ms k lt lt_too)
     (ap (is_lapse term day) e ∙ rw (x_is, m_is) at fails)

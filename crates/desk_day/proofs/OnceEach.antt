@@ -1,5 +1,6 @@
 -- Lists that have wishes of the same candidates.
-use Rattle.std.proofs.Common.{ℕ, ◌<◌, ◌≡◌, Bool, true, false, List, [], ◌∷◌, ◌++◌, filter, map, length, get_or, sym, ◌∙◌, ap, arith, nat_eq, inl, inr, eqb, subst}
+use Rattle.std.proofs.Common.{ℕ, ◌<◌, ◌≡◌, Bool, true, false, List, [], ◌∷◌, ◌++◌, filter, map, length, get_or, sym}
+use Rattle.std.proofs.Common.{◌∙◌, ap, arith, nat_eq, inl, inr, eqb, subst}
 use Rattle.std.specs.Prelude.{All, Contains, ◌==◌}
 use Rattle.std.specs.List.{list_any, dedup, range_with_len}
 use Rattle.std.specs.List.Sorted.{IsPermutation}
@@ -27,7 +28,8 @@ use Rattle.admit_core.specs.declared.state.Stamp.{Stamp}
 use Rattle.desk_day.specs.DayPlaces.{AreWishesOf}
 use Rattle.desk_day.specs.Once.{NamesSame}
 
-any_in : (p : ℕ → Bool) (xs ys : List ℕ) → ((x : ℕ) → Contains xs x → Contains ys x) → list_any p xs ≡ true → list_any p ys ≡ true
+any_in : (p : ℕ → Bool) (xs ys : List ℕ) → ((x : ℕ) → Contains xs x → Contains ys x) → list_any p xs ≡ true
+    → list_any p ys ≡ true
 any_in p xs ys in_both found =
     let (k, x, within, at, passes) = Any-from_list_any p xs found in
     let there = in_both x (k, within, at) in
@@ -40,7 +42,8 @@ any_dedup p xs =
     (any_in p xs (dedup eqb xs) (λ x. Contains-dedup_nat xs x))
 
 -- wishes of the same candidates, put in order, each once
-pub once_each : (d : DossierRows) (old firsts sorted once : List ℕ) → NamesSame d old firsts → IsPermutation firsts sorted
+pub once_each : (d : DossierRows) (old firsts sorted once : List ℕ) → NamesSame d old firsts
+    → IsPermutation firsts sorted
     → once ≡ dedup eqb sorted → NamesSame d old once
 once_each d old firsts sorted once names moved once_is =
     let n = length d.wishes in
@@ -88,16 +91,19 @@ pub record AreLed (d : DossierRows) (old now : List ℕ) : Type 0 where
   pub long : length now ≡ length old
 
 pub led_one : (d : DossierRows) (old now next : List ℕ) (i first : ℕ) → AreLed d old now → i < length now
-    → first < length d.wishes → candidate_of d first ≡ candidate_of d (get_or now i 0) → next ≡ set now i first → AreLed d old next
+    → first < length d.wishes → candidate_of d first ≡ candidate_of d (get_or now i 0) → next ≡ set now i first
+    → AreLed d old next
 led_one d old now next i first led lt in_range same is = record {
   within = λ k e k_in. elim (cases_eq k i) [
     | inl here ↦
-        let read : get_or next k e ≡ first = ap (λ (l : List ℕ). get_or l k e) is ∙ ap (λ j. get_or (set now i first) j e) here
+        let read : get_or next k e ≡ first = ap (λ (l : List ℕ). get_or l k e) is
+        ∙ ap (λ j. get_or (set now i first) j e) here
         ∙ get_or-set_same now i first e lt in
         rw read in_range
     | inr other ↦
         let k_now : k < length now = omega (arith, k_in, ap (λ (l : List ℕ). length l) is, length-set now i first) in
-        let read : get_or next k e ≡ get_or now k e = ap (λ (l : List ℕ). get_or l k e) is ∙ get_or-set_other now i k first e other in
+        let read : get_or next k e ≡ get_or now k e =
+        ap (λ (l : List ℕ). get_or l k e) is ∙ get_or-set_other now i k first e other in
         rw read (led.within k e k_now)
   ];
   candidates = ap (map (candidate_of d)) is ∙ map-set_same (candidate_of d) now i first 0 same ∙ led.candidates;
@@ -108,7 +114,8 @@ pub led_names : (d : DossierRows) (old now : List ℕ) → AreLed d old now → 
 led_names d old now led = record { within = led.within; same = λ c. ap (is_among c) led.candidates }
 
 -- the same of the wishes of a pass
-pub names_itself : (d : DossierRows) (old offers now : List ℕ) → AreWishesOf d old → AreWishesOf d offers → now ≡ old ++ offers
+pub names_itself : (d : DossierRows) (old offers now : List ℕ) → AreWishesOf d old → AreWishesOf d offers
+    → now ≡ old ++ offers
     → NamesSame d (old ++ offers) now
 names_itself d old offers now within offers_within is = record {
   within = rw is (All-append (λ (k : ℕ). k < length d.wishes) old offers within offers_within);
@@ -116,12 +123,14 @@ names_itself d old offers now within offers_within is = record {
 }
 
 -- the same where the list is read again, in the words of another state of the dossier
-pub names_there : (d e : DossierRows) (old new read : List ℕ) → d ≡ e → read ≡ new → NamesSame d old new → NamesSame e old read
+pub names_there : (d e : DossierRows) (old new read : List ℕ) → d ≡ e → read ≡ new → NamesSame d old new
+    → NamesSame e old read
 names_there d e old new read same is names =
     let P = λ (c : DossierRows). NamesSame c old read in
     subst P same (rw is names)
 
-pub names_of_offers : (d e : DossierRows) (beside offers made new : List ℕ) → d ≡ e → offers ≡ made → NamesSame d (beside ++ offers) new
+pub names_of_offers : (d e : DossierRows) (beside offers made new : List ℕ) → d ≡ e → offers ≡ made
+    → NamesSame d (beside ++ offers) new
     → NamesSame e (beside ++ made) new
 names_of_offers d e beside offers made new same are names =
     let P = λ (c : DossierRows). NamesSame c (beside ++ made) new in
@@ -135,5 +144,6 @@ names_along s offers stamp old new names =
     subst P (sym (along_dossier (λ w m. changed_to Offered stamp m) offers s)) names
 
 -- whoever has none of the wishes of one list has none of the other
-pub others_stay : (s t : State) (old new : List ℕ) → NamesSame s.dossier old new → SameOthers old s t → SameOthers new s t
+pub others_stay : (s t : State) (old new : List ℕ) → NamesSame s.dossier old new → SameOthers old s t
+    → SameOthers new s t
 others_stay s t old new names others c none = others c (sym (names.same c) ∙ none)

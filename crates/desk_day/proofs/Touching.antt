@@ -1,5 +1,6 @@
 -- Whoever has no offer that lapses and does not answer keeps their marks until the passes of a day begin.
-use Rattle.std.proofs.Common.{ℕ, ◌+◌, ◌<◌, ◌≡◌, true, false, List, [], ◌∷◌, ◌++◌, Option, None, Some, map, length, filter, inl, inr, refl, sym, ◌∙◌, ap, subst, arith, nat_eq, take, zip}
+use Rattle.std.proofs.Common.{ℕ, ◌+◌, ◌<◌, ◌≡◌, true, false, List, [], ◌∷◌, ◌++◌, Option, None, Some, map, length}
+use Rattle.std.proofs.Common.{filter, inl, inr, refl, sym, ◌∙◌, ap, subst, arith, nat_eq, take, zip}
 use Rattle.std.specs.Prelude.{ℤ, pos, ◌==◌, All, slice_index_or}
 use Rattle.std.specs.List.{enumerate_from, flat_map}
 use Rattle.std.proofs.lemmas.Bool.{cases_Bool, eqb-true, eq-eqb, false≢true, or_left}
@@ -63,7 +64,8 @@ named_lapse terms day s k long lt passes =
 
 lapsed_other : (terms : Option Terms) (day c : ℕ) (s : State) → length s.marks ≡ length s.dossier.wishes
     → AreTermsFor s.dossier terms
-    → is_among c (map (candidate_of s.dossier) (wishes_of (lapsed_on terms day s))) ≡ false → Agrees c s (after_lapse terms day s)
+    → is_among c (map (candidate_of s.dossier) (wishes_of (lapsed_on terms day s))) ≡ false
+    → Agrees c s (after_lapse terms day s)
 lapsed_other None day c s long each none = agrees_self c s long
 lapsed_other (Some terms) day c s long each none =
     let before : length terms.before ≡ length s.marks = each ∙ sym long in
@@ -79,7 +81,8 @@ lapsed_other (Some terms) day c s long each none =
                 let c_is : candidate_of s.dossier k ≡ c = candidate_in s.dossier.wishes k ∙ mine in
                 absurd (false≢true (sym none ∙ rw c_is at (among-map (candidate_of s.dossier) k names
                 (named_lapse terms day s k before k_in passes))))
-            | inr stays ↦ sym (unwrap_or-slice_get (lapse terms day s).marks k (mark_in [] 0) ∙ lapse_at terms day s before k k_in
+            | inr stays ↦ sym (unwrap_or-slice_get (lapse terms day s).marks k (mark_in [] 0)
+                ∙ lapse_at terms day s before k k_in
                 ∙ rw stays refl)
           ];
     }
@@ -109,16 +112,19 @@ named_answer s Quit c target k lt its mine =
     let d = s.dossier in
     let who : candidate_of d k ≡ target = its ∙ sym (eqb-true target c mine) in
     let here : is_among k (own_places d target) ≡ true =
-    among-filter (λ (j : ℕ). candidate_of d j == target) k (length d.wishes) lt ∙ eq-eqb (candidate_of d k) target who in
+    among-filter (λ (j : ℕ). candidate_of d j == target) k (length d.wishes) lt
+    ∙ eq-eqb (candidate_of d k) target who in
     first_named d c target (own_places d target) refl (eqb-true target c mine) k here
 
 none_own : (s : State) (c k : ℕ) (answers : List Answer) → k < length s.dossier.wishes → candidate_at s k ≡ c
-    → is_among c (map (candidate_of s.dossier) (flat_map (wishes_of_answer s.dossier) answers)) ≡ false → own s c answers ≡ []
+    → is_among c (map (candidate_of s.dossier) (flat_map (wishes_of_answer s.dossier) answers)) ≡ false
+    → own s c answers ≡ []
 none_own s c k [] lt its none = refl
 none_own s c k (a ∷ rest) lt its none =
     let d = s.dossier in
     let parts = in_neither (candidate_of d) c (wishes_of_answer d a) (flat_map (wishes_of_answer d) rest)
-    (sym (ap (λ (l : List ℕ). is_among c (map (candidate_of d) l)) (flat_map-cons (wishes_of_answer d) a rest)) ∙ none) in
+    (sym (ap (λ (l : List ℕ). is_among c (map (candidate_of d) l)) (flat_map-cons (wishes_of_answer d) a rest))
+    ∙ none) in
     elim (cases_Bool (is_own_kind a.kind s c a.target)) [
       | inl mine ↦ absurd (false≢true (sym parts.0 ∙ named_answer s a.kind c a.target k lt its mine))
       | inr other ↦ rw other (none_own s c k rest lt its parts.1)
@@ -127,11 +133,13 @@ none_own s c k (a ∷ rest) lt its none =
 -- whoever has none of the wishes that are named keeps their marks
 kept : (terms : Option Terms) (day c : ℕ) (s : State) (k : ℕ) → length s.marks ≡ length s.dossier.wishes
     → AreTermsFor s.dossier terms → k < length s.dossier.wishes → candidate_at s k ≡ c
-    → is_among c (map (candidate_of s.dossier) (touched s.dossier (lapsed_on terms day s) day)) ≡ false → Agrees c s (morning terms day s)
+    → is_among c (map (candidate_of s.dossier) (touched s.dossier (lapsed_on terms day s) day)) ≡ false
+    → Agrees c s (morning terms day s)
 kept terms day c s k long each lt its none =
     let d = s.dossier in
     let answers = answers_of d day in
-    let parts = in_neither (candidate_of d) c (wishes_of (lapsed_on terms day s)) (flat_map (wishes_of_answer d) answers) none in
+    let parts = in_neither (candidate_of d) c (wishes_of (lapsed_on terms day s))
+    (flat_map (wishes_of_answer d) answers) none in
     let l = after_lapse terms day s in
     let first : Agrees c s l = lapsed_other terms day c s long each parts.0 in
     let l_long : length l.marks ≡ length l.dossier.wishes = first.long_too
@@ -159,7 +167,8 @@ nothing_changed terms day s long each none =
     let same : m.dossier ≡ s.dossier = morning_dossier terms day s in
     let m_long : length m.marks ≡ length m.dossier.wishes =
     (agrees_after 0 s l l (stamp_of day 0) parts.0 (agrees_self 0 l parts.1) (answers_of s.dossier day)).long in
-    let as_long : length m.marks ≡ length s.marks = m_long ∙ ap (λ (d : DossierRows). length d.wishes) same ∙ sym long in
+    let as_long : length m.marks ≡ length s.marks =
+    m_long ∙ ap (λ (d : DossierRows). length d.wishes) same ∙ sym long in
     same_state m s same (same_marks m.marks s.marks as_long (λ k lt.
     let c = (wish_in s.dossier.wishes k).candidate in
     let k_in : k < length s.dossier.wishes = omega (arith, as_long, long, lt) in
@@ -176,10 +185,13 @@ untouched terms day s long each answered stamp c none =
     record {
       dossier = refl;
       each = λ place lt its.
-          let stays : Agrees c s m = kept terms day c s place long each (rw same at lt) (rw same at its) (rw same at none) in
-          let end : Agrees c s (auto_all m stamp) = subst (λ (t : State). Agrees c t (auto_all m stamp)) (answered stamp)
+          let stays : Agrees c s m = kept terms day c s place long each (rw same at lt) (rw same at its)
+          (rw same at none) in
+          let end : Agrees c s (auto_all m stamp) =
+          subst (λ (t : State). Agrees c t (auto_all m stamp)) (answered stamp)
           (all_both c s m stamp stays) in
-          (same_own c m (auto_all m stamp) (joined c m s (auto_all m stamp) (turned c s m stays) end)).each place lt its;
+          (same_own c m (auto_all m stamp) (joined c m s (auto_all m stamp) (turned c s m stays) end)).each place lt
+          its;
     }
 
 -- THE MORNING: all have been answered for but maybe those who are named
@@ -190,9 +202,11 @@ pub morning_answered : (terms : Option Terms) (day : ℕ) (s m : State) (lapsed 
 morning_answered terms day s m lapsed beside long each m_is lapsed_is beside_is answered =
     let same : m.dossier ≡ s.dossier = ap (λ (t : State). t.dossier) m_is ∙ morning_dossier terms day s in
     let named : beside ≡ touched s.dossier (lapsed_on terms day s) day =
-    beside_is ∙ ap (λ (d : DossierRows). touched d lapsed day) same ∙ ap (λ (ls : List Lapse). touched s.dossier ls day) lapsed_is in
+    beside_is ∙ ap (λ (d : DossierRows). touched d lapsed day) same
+    ∙ ap (λ (ls : List Lapse). touched s.dossier ls day) lapsed_is in
     subst (λ (t : State). IsAnsweredBut beside t) (sym m_is)
-    (subst (λ (ks : List ℕ). IsAnsweredBut ks (morning terms day s)) (sym named) (untouched terms day s long each answered))
+    (subst (λ (ks : List ℕ). IsAnsweredBut ks (morning terms day s)) (sym named)
+    (untouched terms day s long each answered))
 
 pub morning_is : (terms : Option Terms) (day : ℕ) (s l m : State) → l ≡ after_lapse terms day s → l.dossier ≡ s.dossier
     → m ≡ after_all l (stamp_of day 0) (answers_of l.dossier day) → m ≡ morning terms day s
@@ -207,14 +221,19 @@ pub morning_alike : (terms : Option Terms) (day : ℕ) (s m : State) (lapsed : L
 morning_alike terms day s m lapsed beside long each m_is lapsed_is beside_is none =
     let same : m.dossier ≡ s.dossier = ap (λ (t : State). t.dossier) m_is ∙ morning_dossier terms day s in
     let named : beside ≡ touched s.dossier (lapsed_on terms day s) day =
-    beside_is ∙ ap (λ (d : DossierRows). touched d lapsed day) same ∙ ap (λ (ls : List Lapse). touched s.dossier ls day) lapsed_is in
+    beside_is ∙ ap (λ (d : DossierRows). touched d lapsed day) same
+    ∙ ap (λ (ls : List Lapse). touched s.dossier ls day) lapsed_is in
     m_is ∙ nothing_changed terms day s long each (sym named ∙ none)
 
 -- and those are wishes of the dossier
-kind_within : (d : DossierRows) (kind : AnswerKind) (target : ℕ) → IsTarget d kind target → AreWishesOf d (wishes_of_kind d kind target)
-kind_within d Accept target is = All-cons (λ (k : ℕ). k < length d.wishes) target [] is (All-nil (λ (k : ℕ). k < length d.wishes))
-kind_within d Refuse target is = All-cons (λ (k : ℕ). k < length d.wishes) target [] is (All-nil (λ (k : ℕ). k < length d.wishes))
-kind_within d Withdraw target is = All-cons (λ (k : ℕ). k < length d.wishes) target [] is (All-nil (λ (k : ℕ). k < length d.wishes))
+kind_within : (d : DossierRows) (kind : AnswerKind) (target : ℕ) → IsTarget d kind target
+    → AreWishesOf d (wishes_of_kind d kind target)
+kind_within d Accept target is = All-cons (λ (k : ℕ). k < length d.wishes) target [] is
+    (All-nil (λ (k : ℕ). k < length d.wishes))
+kind_within d Refuse target is = All-cons (λ (k : ℕ). k < length d.wishes) target [] is
+    (All-nil (λ (k : ℕ). k < length d.wishes))
+kind_within d Withdraw target is = All-cons (λ (k : ℕ). k < length d.wishes) target [] is
+    (All-nil (λ (k : ℕ). k < length d.wishes))
 kind_within d Quit target is = All-take (λ (k : ℕ). k < length d.wishes) 1 (own_places d target) (own_within d target)
 
 answers_within : (d : DossierRows) (answers : List Answer) → All (λ (a : Answer). IsTarget d a.kind a.target) answers
@@ -228,7 +247,8 @@ answers_within d (a ∷ rest) are =
 
 pub touched_within : (d : DossierRows) (lapsed : List Lapse) (answers : List Answer) (places : List ℕ)
     → All (λ (l : Lapse). l.wish < length d.wishes) lapsed
-    → All (λ (a : Answer). IsTarget d a.kind a.target) answers → places ≡ wishes_of lapsed ++ flat_map (wishes_of_answer d) answers
+    → All (λ (a : Answer). IsTarget d a.kind a.target) answers
+    → places ≡ wishes_of lapsed ++ flat_map (wishes_of_answer d) answers
     → AreWishesOf d places
 touched_within d lapsed answers places within targets are =
     let P = λ (k : ℕ). k < length d.wishes in

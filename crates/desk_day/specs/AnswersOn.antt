@@ -1,5 +1,6 @@
 -- The answers of a day, and the refusal of the first that does not fit.
-use Rattle.std.specs.Prelude.{◌≡◌, ◌≤◌, ◌<◌, ◌+◌, ℕ, List, map, filter, length, All, Option, None, Result, Ok, Err, ◌==◌, slice_index}
+use Rattle.std.specs.Prelude.{◌≡◌, ◌≤◌, ◌<◌, ◌+◌, ℕ, List, map, filter, length, All, Option, None, Result, Ok, Err}
+use Rattle.std.specs.Prelude.{◌==◌, slice_index}
 use Rattle.std.specs.List.{enumerate_from}
 use Rattle.std.specs.Option.{IsSomeAnd}
 use Rattle.admit_core.specs.declared.dossier.Answer.{Answer}

@@ -1,8 +1,11 @@
 -- Each pass that is followed by another gives up a live wish.
-use Rattle.std.proofs.Common.{ℕ, ◌+◌, ◌≤◌, ◌≡◌, ◌⊎◌, Bool, true, false, not, ◌&&◌, List, [], ◌∷◌, map, length, Option, Some, None, inl, inr, refl, sym, ◌∙◌, ap, arith, nat_eq, zip, filter, count_by, cond, nat_lt}
+use Rattle.std.proofs.Common.{ℕ, ◌+◌, ◌≤◌, ◌≡◌, ◌⊎◌, Bool, true, false, not, ◌&&◌, List, [], ◌∷◌, map, length, Option}
+use Rattle.std.proofs.Common.{Some, None, inl, inr, refl, sym, ◌∙◌, ap, arith, nat_eq, zip, filter, count_by, cond}
+use Rattle.std.proofs.Common.{nat_lt}
 use Rattle.std.specs.Prelude.{◌==◌, IsTrue, sum}
 use Rattle.std.specs.List.{AllByRecursion, enumerate_from, list_any, range_with_len}
-use Rattle.std.proofs.lemmas.Bool.{and_from, and_parts, both_ways, cases_eq, eq-eqb, false≢true, not-true, or_cases, or_left, or_right}
+use Rattle.std.proofs.lemmas.Bool.{and_from, and_parts, both_ways, cases_eq, eq-eqb, false≢true, not-true, or_cases}
+use Rattle.std.proofs.lemmas.Bool.{or_left, or_right}
 use Rattle.std.proofs.lemmas.List.Sums.{sum-map, sum_by-cons}
 use Rattle.admit_core.specs.declared.dossier.Wish.{Wish}
 use Rattle.admit_core.specs.declared.ranking.CallOrder.{CallOrder}
@@ -13,11 +16,13 @@ use Rattle.admit_core.specs.declared.state.Change.{Change}
 use Rattle.admit_core.specs.declared.state.Mark.{Mark}
 use Rattle.admit_core.specs.declared.state.Stamp.{Stamp}
 use Rattle.admit_core.specs.declared.state.Status.{Status}
-use Rattle.admit_core.specs.declared.state.Status.TheVariants.{Waiting, Offered, Accepted, Refused, Withdrawn, Quit, AutoRefused, AutoWithdrawn, Lapsed}
+use Rattle.admit_core.specs.declared.state.Status.TheVariants.{Waiting, Offered, Accepted, Refused, Withdrawn, Quit}
+use Rattle.admit_core.specs.declared.state.Status.TheVariants.{AutoRefused, AutoWithdrawn, Lapsed}
 use Rattle.admit_core.specs.AutoAnswer.{auto_all, auto_mark, auto_status, best_live, freed}
 use Rattle.admit_core.specs.Days.{IsDay, Passes, changes, closing, frees_nothing, freed_after, morning, offered}
 use Rattle.admit_core.specs.DossierRows.{candidates_of}
-use Rattle.admit_core.specs.State.{State, changed_to, entries, has_school, holds_bed, holds_seat, is_live, is_live_status, status_number}
+use Rattle.admit_core.specs.State.{State, changed_to, entries, has_school, holds_bed, holds_seat, is_live}
+use Rattle.admit_core.specs.State.{is_live_status, status_number}
 use Rattle.admit_core.proofs.Holders.{holds, holds_after, lives_with, marked_by}
 use Rattle.auto_answer.proofs.Bounds.{count_none}
 use Rattle.evening_laws.specs.FewPasses.{given_up, is_auto_refused}

@@ -1,8 +1,12 @@
 -- What a wish that waits in the evening met in the last pass, and what that leaves of seats and beds.
-use Rattle.std.proofs.Common.{ℕ, ◌+◌, ◌≤◌, ◌<◌, ◌≡◌, ◌⊎◌, Bool, true, false, not, ◌||◌, List, [], ◌∷◌, map, length, Option, Some, None, inl, inr, refl, sym, ◌∙◌, ap, subst, arith, filter, nat_eq, nat_le, nat_lt, get_or, count_by}
+use Rattle.std.proofs.Common.{ℕ, ◌+◌, ◌≤◌, ◌<◌, ◌≡◌, ◌⊎◌, Bool, true, false, not, ◌||◌, List, [], ◌∷◌, map, length}
+use Rattle.std.proofs.Common.{Option, Some, None, inl, inr, refl, sym, ◌∙◌, ap, subst, arith, filter, nat_eq, nat_le}
+use Rattle.std.proofs.Common.{nat_lt, get_or, count_by}
 use Rattle.std.specs.Prelude.{All, IsTrue, slice_index}
 use Rattle.std.specs.List.{before_first, list_any}
-use Rattle.std.proofs.lemmas.Bool.{and_cases, and_from, and_parts, and_right, both_ways, cases_Bool, cases_lt, eq-eqb, eqb-true, false≢true, false_from_ne_true, lt-leb, lt-ltb, ltb-true, not_from_false, or_cases, or_left, or_parts}
+use Rattle.std.proofs.lemmas.Bool.{and_cases, and_from, and_parts, and_right, both_ways, cases_Bool, cases_lt, eq-eqb}
+use Rattle.std.proofs.lemmas.Bool.{eqb-true, false≢true, false_from_ne_true, lt-leb, lt-ltb, ltb-true, not_from_false}
+use Rattle.std.proofs.lemmas.Bool.{or_cases, or_left, or_parts}
 use Rattle.std.proofs.lemmas.List.{get_or_default}
 use Rattle.std.proofs.lemmas.List.Elements.{All-map, All-same}
 use Rattle.std.proofs.lemmas.List.Folds.{Any-from_list_any}
@@ -23,7 +27,8 @@ use Rattle.admit_core.specs.EveningLaws.{last_bars}
 use Rattle.admit_core.specs.Falls.{Fits, IsAtMost, IsGreatest}
 use Rattle.admit_core.specs.Lapses.{lapse}
 use Rattle.admit_core.specs.Lists.{is_among}
-use Rattle.admit_core.specs.Proposals.{ahead, demanded_ranks, demands_bed, is_barred, is_behind_bar, is_open, is_proposed, needs_no_seat, order_of, position_of, wants_seat}
+use Rattle.admit_core.specs.Proposals.{ahead, demanded_ranks, demands_bed, is_barred, is_behind_bar, is_open}
+use Rattle.admit_core.specs.Proposals.{is_proposed, needs_no_seat, order_of, position_of, wants_seat}
 use Rattle.admit_core.specs.State.{State, entries, free_beds, has_school, holds_bed, holds_seat, is_waiting, seats_left}
 use Rattle.admit_core.specs.Validity.{IsValid}
 use Rattle.admit_core.proofs.Counting.{nothing_freed}

@@ -1,5 +1,6 @@
 -- Seats and beds that are left in the evening.
-use Rattle.std.specs.Prelude.{◌≡◌, ◌&&◌, ◌||◌, ℕ, All, Bool, IsTrue, List, None, Option, Some, false, nat_le, nat_lt, slice_index, true}
+use Rattle.std.specs.Prelude.{◌≡◌, ◌&&◌, ◌||◌, ℕ, All, Bool, IsTrue, List, None, Option, Some, false, nat_le, nat_lt}
+use Rattle.std.specs.Prelude.{slice_index, true}
 use Rattle.admit_core.specs.declared.dossier.Wish.{Wish}
 use Rattle.admit_core.specs.declared.ranking.CallOrder.{CallOrder}
 use Rattle.admit_core.specs.declared.records.DayRecord.{DayRecord}

@@ -23,7 +23,15 @@ each_is_listed last evening same long long_too =
     let pairs = zip evening.marks (entries o) in
     let f : Mark × (Wish × Mark) → Explanation = λ x. explanation last x.0 x.1.0 x.1.1 in
     let none : Mark × (Wish × Mark) = (mark_in [] 0, (wish_in [] 0, mark_in [] 0)) in
-    let pairs_long : length pairs ≡ n = omega (arith, length-zip evening.marks (entries o), length-zip ws o.marks, long, long_too, n_is) in
+    let pairs_long : length pairs ≡ n = omega (
+      arith,
+      length-zip evening.marks
+          (entries o),
+      length-zip ws o.marks,
+      long,
+      long_too,
+      n_is,
+    ) in
     fill_by_all (explanation_at last evening) (map f pairs) n (f none) (length-map pairs f ∙ pairs_long)
     (λ k lt.
     let in_ws : k < length ws = omega (arith, lt, n_is) in
@@ -43,4 +51,5 @@ each_is_listed last evening same long long_too =
     ) refl in
     get_or-map f pairs k none (f none) in_pairs
     ∙ ap f pair
-    ∙ ap (λ (d : DossierRows). explanation last (mark_in evening.marks k) (wish_in d.wishes k) (mark_in o.marks k)) (sym same))
+    ∙ ap (λ (d : DossierRows). explanation last (mark_in evening.marks k) (wish_in d.wishes k) (mark_in o.marks k))
+    (sym same))

@@ -25,7 +25,8 @@ same_bars (p ∷ next ∷ rest) (q ∷ []) same = absurd same.1
 same_bars (p ∷ next ∷ rest) (q ∷ then ∷ more) same = same_bars (next ∷ rest) (then ∷ more) same.1
 
 -- and so is the opening of the last pass
-same_opening : (orders : List CallOrder) (day k : ℕ) (s t : State) (one other : List PassEnd) → s ≡ t → AllZip SameButFalls one other
+same_opening : (orders : List CallOrder) (day k : ℕ) (s t : State) (one other : List PassEnd) → s ≡ t
+    → AllZip SameButFalls one other
     → last_opening orders day k s one ≡ last_opening orders day k t other
 same_opening orders day k s t [] [] e same = e
 same_opening orders day k s t [] (q ∷ other) e same = absurd same
@@ -35,8 +36,10 @@ same_opening orders day k s t (p ∷ []) (q ∷ next ∷ rest) e same = absurd s
 same_opening orders day k s t (p ∷ next ∷ rest) (q ∷ []) e same = absurd same.1
 same_opening orders day k s t (p ∷ next ∷ rest) (q ∷ then ∷ more) e same =
     let stamp = stamp_of day k in
-    same_opening orders day (k + 1) (closing s orders p.pass.bars stamp) (closing t orders q.pass.bars stamp) (next ∷ rest) (then ∷ more)
-    (ap (λ (u : State). closing u orders p.pass.bars stamp) e ∙ ap (λ (bars : List ℕ). closing t orders bars stamp) same.0.bars) same.1
+    same_opening orders day (k + 1) (closing s orders p.pass.bars stamp) (closing t orders q.pass.bars stamp)
+    (next ∷ rest) (then ∷ more)
+    (ap (λ (u : State). closing u orders p.pass.bars stamp) e
+    ∙ ap (λ (bars : List ℕ). closing t orders bars stamp) same.0.bars) same.1
 
 pub days_fix_them : DaysFixThem
 days_fix_them terms orders ceilings old one other evening night number a b =
@@ -55,7 +58,8 @@ pub campaigns_fix_them : CampaignsFixThem
 campaigns_fix_them terms orders others first last old days twins day twin noon noon_too evening
     night called called_too same one other number a b =
     let ceilings = ceilings_of old.dossier last in
-    let noons = (campaigns_are_fixed terms orders others first old days twins noon noon_too called called_too same one other).0 in
+    let noons = (campaigns_are_fixed terms orders others first old days twins noon noon_too called called_too same one
+    other).0 in
     let as_orders = same_orders old.dossier.groups others orders called_too called in
     let by_orders = subst (λ (os : List CallOrder). IsDay terms os ceilings noon_too twin night) as_orders b in
     let by_noon = subst (λ (s : State). IsDay terms orders ceilings s twin night) (sym noons) by_orders in

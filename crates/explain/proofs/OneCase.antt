@@ -6,7 +6,8 @@ use Rattle.admit_core.specs.declared.explanation.Explanation.{Explanation}
 use Rattle.admit_core.specs.declared.explanation.Explanation.TheVariants.{Gone, Live, Barred, NoSeat}
 use Rattle.admit_core.specs.declared.state.Mark.{Mark}
 use Rattle.admit_core.specs.declared.state.Status.{Status}
-use Rattle.admit_core.specs.declared.state.Status.TheVariants.{Waiting, Offered, Accepted, Refused, Withdrawn, Quit, AutoRefused, AutoWithdrawn, Lapsed}
+use Rattle.admit_core.specs.declared.state.Status.TheVariants.{Waiting, Offered, Accepted, Refused, Withdrawn, Quit}
+use Rattle.admit_core.specs.declared.state.Status.TheVariants.{AutoRefused, AutoWithdrawn, Lapsed}
 use Rattle.admit_core.specs.State.{is_gone, is_live, is_waiting}
 use Rattle.admit_core.specs.Proposals.{is_barred, is_behind_bar}
 use Rattle.admit_core.specs.Explanations.{LastPass, barred_at, explanation}
@@ -74,12 +75,18 @@ module _ (last : LastPass) (now : Mark) (w : Wish) (m : Mark) where
   alone (Live status stamp) is = ap (λ (n : Mark). Live n.status n.stamp) (sym is.1) ∙ sym (when_live last now w m is.0)
   alone (Barred h rank bar cause) is =
       let b = is.0 in
-      let same : Barred h rank bar cause ≡ barred_at last w.board_rank (Some h) = rw (b.own_rank, b.own_bar, is.1) refl in
-      same ∙ ap (barred_at last w.board_rank) (sym b.school) ∙ sym (when_barred last now w m (waits_not_live now.status b.waits) b.waits
+      let same : Barred h rank bar cause ≡ barred_at last w.board_rank (Some h) =
+      rw (b.own_rank, b.own_bar, is.1) refl in
+      same ∙ ap (barred_at last w.board_rank) (sym b.school)
+      ∙ sym (when_barred last now w m (waits_not_live now.status b.waits) b.waits
       b.barred)
   alone (NoSeat ahead left position limit) is =
       is.numbers ∙ sym (when_seatless last now w m (waits_not_live now.status is.waits) is.waits
       (not-true (is_barred last.opening last.bars w m) is.not_barred))
 
 pub each_has_one : EachHasOne
-each_has_one last now w m x = (alone last now w m x, λ e. subst (IsExplanation last now w m) (sym e) (holds last now w m))
+each_has_one last now w m x = (
+  alone last now w m x,
+  λ e. subst (IsExplanation last now w m) (sym e)
+      (holds last now w m),
+)

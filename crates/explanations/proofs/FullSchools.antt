@@ -29,7 +29,8 @@ module _ (o : State) (orders : List CallOrder) (bars : List ℕ) (stamp : Stamp)
   bed_kept h lt c held =
       let freed = freed_after o orders bars stamp in
       let parts = and_parts (nat_eq freed.seats 0) (nat_eq freed.beds 0) none in
-      nothing_freed (λ x q. holds_bed after x q) (λ x q. holds_bed night x q) (length o.dossier.schools) (candidates_of o.dossier)
+      nothing_freed (λ x q. holds_bed after x q) (λ x q. holds_bed night x q) (length o.dossier.schools)
+      (candidates_of o.dossier)
       (eqb-true freed.beds 0 parts.1) c h (holder_has_wish (λ u. has_school u h) after c held) lt held
 
   -- where as many became live as beds were free, all beds are taken

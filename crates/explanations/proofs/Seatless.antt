@@ -1,7 +1,8 @@
 -- Who has an open wish that was not proposed finds no seat.
 use Rattle.std.proofs.Common.{ℕ, ◌<◌, ◌≡◌, Bool, true, false, ◌||◌, List, length, inl, inr, nat_eq, nat_le, nat_lt}
 use Rattle.std.specs.Prelude.{IsTrue}
-use Rattle.std.proofs.lemmas.Bool.{and_cases, and_parts, both_ways, eqb-true, false_from_ne_true, leb-false, ltb-false, or_parts}
+use Rattle.std.proofs.lemmas.Bool.{and_cases, and_parts, both_ways, eqb-true, false_from_ne_true, leb-false, ltb-false}
+use Rattle.std.proofs.lemmas.Bool.{or_parts}
 use Rattle.admit_core.specs.declared.dossier.Wish.{Wish}
 use Rattle.admit_core.specs.declared.ranking.CallOrder.{CallOrder}
 use Rattle.admit_core.specs.declared.state.Mark.{Mark}
@@ -23,7 +24,8 @@ module _ (o : State) (orders : List CallOrder) (bars : List ℕ) (stamp : Stamp)
   has_seat w = needs_no_seat o orders w || nat_lt (ahead o orders bars w) (seats_left o w.programme)
 
   -- it is there for all of a candidate's wishes in a programme alike
-  same_seat : (v w : Wish) → v.candidate ≡ w.candidate → v.programme ≡ w.programme → has_seat v ≡ true → has_seat w ≡ true
+  same_seat : (v w : Wish) → v.candidate ≡ w.candidate → v.programme ≡ w.programme → has_seat v ≡ true
+      → has_seat w ≡ true
   same_seat v w same_candidate same_programme t = rw (← same_candidate, ← same_programme) t
 
   pub finds_none : (w : Wish) (m : Mark) → IsValid o.dossier → AreCallOrders o.dossier.groups orders
@@ -49,10 +51,12 @@ module _ (o : State) (orders : List CallOrder) (bars : List ℕ) (stamp : Stamp)
         taken = ltb-false (ahead o orders bars w) (seats_left o p) neither.1;
         beyond = leb-false (position_of o orders w) (limit_of o.dossier p) needs.1;
         seatless = false_from_ne_true (holds_seat night c p) (λ held.
-            let new = becomes_live o orders bars stamp in_p c (held_after_offers o orders bars stamp in_p c held) needs.0 in
+            let new = becomes_live o orders bars stamp in_p c
+            (held_after_offers o orders bars stamp in_p c held) needs.0 in
             let v = new.entry.0 in
             let parts = and_parts (is_open o bars v new.entry.1) (has_seat v) new.offers in
-            both_ways (has_seat w) no_seat (same_seat v w (eqb-true v.candidate c new.own) (eqb-true v.programme p new.passes) parts.1));
+            both_ways (has_seat w) no_seat (same_seat v w (eqb-true v.candidate c new.own)
+            (eqb-true v.programme p new.passes) parts.1));
         filled = full_in_evening o orders bars stamp none p there (takers_fill o orders bars stamp w
             m (order_distinct o.dossier orders valid called p) opens not_proposed);
       }

@@ -1,7 +1,9 @@
 -- What an explanation says holds in the evening.
-use Rattle.std.proofs.Common.{ℕ, ◌<◌, ◌≡◌, true, false, not, List, length, get_or, inl, inr, refl, sym, ◌∙◌, ap, subst, arith, nat_lt, Option, Some, None, zero-add}
+use Rattle.std.proofs.Common.{ℕ, ◌<◌, ◌≡◌, true, false, not, List, length, get_or, inl, inr, refl, sym, ◌∙◌, ap, subst}
+use Rattle.std.proofs.Common.{arith, nat_lt, Option, Some, None, zero-add}
 use Rattle.std.specs.Prelude.{IsTrue, slice_index}
-use Rattle.std.proofs.lemmas.Bool.{and_from, and_parts, cases_Bool, cases_eq, eq-eqb, false≢true, ltb-true, ne_eqb, not_from_false}
+use Rattle.std.proofs.lemmas.Bool.{and_from, and_parts, cases_Bool, cases_eq, eq-eqb, false≢true, ltb-true, ne_eqb}
+use Rattle.std.proofs.lemmas.Bool.{not_from_false}
 use Rattle.std.proofs.lemmas.List.FromFn.{get_or-map-range_with_len}
 use Rattle.std.proofs.lemmas.Slice.Zip.{length-zip}
 use Rattle.admit_core.specs.declared.dossier.Wish.{Wish}
@@ -99,7 +101,8 @@ module _ (last : LastPass) (stamp : Stamp) (of_dossier : IsOfDossier last) (vali
         let as_long = length-with_marks offers o long in
         let in_o : k < length o.marks = omega (arith, long, lt) in
         let in_mid : k < length mid.marks = omega (arith, as_long, long, lt) in
-        mark_in-with_marks answers mid (as_long ∙ long) k in_mid ∙ ap (answers w) (mark_in-with_marks offers o long k in_o)
+        mark_in-with_marks answers mid (as_long ∙ long) k in_mid
+        ∙ ap (answers w) (mark_in-with_marks offers o long k in_o)
 
     seatless_says : is_waiting now ≡ true → is_barred o last.bars w m ≡ false → Says last night w (no_seat last w)
     seatless_says waits not_barred =
@@ -109,7 +112,8 @@ module _ (last : LastPass) (stamp : Stamp) (of_dossier : IsOfDossier last) (vali
         (offer o last.orders last.bars stamp w m) answered) in
         let opens = and_from (is_waiting m) (not (is_barred o last.bars w m)) still.1
         (not_from_false (is_barred o last.bars w m) not_barred) in
-        finds_none o last.orders last.bars stamp w m valid of_dossier.called none (wish_valid o.dossier valid k lt).programme opens still.0
+        finds_none o last.orders last.bars stamp w m valid of_dossier.called none
+        (wish_valid o.dossier valid k lt).programme opens still.0
 
     pub said_at_night : Says last night w (explanation last now w m)
     said_at_night =
@@ -123,19 +127,23 @@ module _ (last : LastPass) (stamp : Stamp) (of_dossier : IsOfDossier last) (vali
                 elim (cases_Bool (is_barred o last.bars w m)) [
                   | inl barred ↦
                       subst P (sym (when_barred last now w m not_live waits barred))
-                      (barred_says w.school refl (and_parts (is_waiting m) (is_behind_bar o last.bars w w.school) barred).1)
-                  | inr not_barred ↦ subst P (sym (when_seatless last now w m not_live waits not_barred)) (seatless_says waits not_barred)
+                      (barred_says w.school refl (and_parts (is_waiting m)
+                      (is_behind_bar o last.bars w w.school) barred).1)
+                  | inr not_barred ↦ subst P (sym (when_seatless last now w m not_live waits not_barred))
+                      (seatless_says waits not_barred)
                 ]
           ]
         ]
 
 -- the last pass leaves the dossier
-pub same_dossier : (last : LastPass) (evening : State) → IsLastPass last evening → evening.dossier ≡ last.opening.dossier
+pub same_dossier : (last : LastPass) (evening : State) → IsLastPass last evening
+    → evening.dossier ≡ last.opening.dossier
 same_dossier last evening is = ap (λ (s : State). s.dossier) is.leaves
 
 pub said : (last : LastPass) (evening : State) → IsLastPass last evening → IsValid evening.dossier
     → length last.opening.marks ≡ length last.opening.dossier.wishes
-    → (k : ℕ) → k < length evening.dossier.wishes → Says last evening (wish_in evening.dossier.wishes k) (explanation_at last evening k)
+    → (k : ℕ) → k < length evening.dossier.wishes
+    → Says last evening (wish_in evening.dossier.wishes k) (explanation_at last evening k)
 said last evening is valid long k lt =
     let same = same_dossier last evening is in
     let P : State → Type 0 = λ s. Says last s (wish_in s.dossier.wishes k) (explanation_at last s k) in
@@ -147,7 +155,8 @@ said last evening is valid long k lt =
 pub explains_so : (last : LastPass) (evening : State) → IsLastPass last evening
     → IsValid evening.dossier → length last.opening.marks ≡ length last.opening.dossier.wishes
     → (k : ℕ) → k < length evening.dossier.wishes → (mark : Mark) (x : Explanation) → mark ≡ mark_in evening.marks k
-    → x ≡ explanation last mark (wish_in last.opening.dossier.wishes k) (mark_in last.opening.marks k) → Explains last evening k x
+    → x ≡ explanation last mark (wish_in last.opening.dossier.wishes k) (mark_in last.opening.marks k)
+    → Explains last evening k x
 explains_so last evening is valid long k lt mark x mark_is x_is =
     let was = mark_in last.opening.marks k in
     let same = same_dossier last evening is in

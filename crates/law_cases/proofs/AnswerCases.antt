@@ -10,12 +10,17 @@ use Rattle.admit_core.specs.WorkedRows.{first_pass, marked}
 use Rattle.auto_answer.specs.Laws.{SameOwnMarks}
 use Rattle.auto_answer.proofs.LawsOfAnswers.{all_is_each_alone, own_wishes_decide}
 use Rattle.day_state.proofs.Independence.{answers_stay_apart, fits_apart, may_exchange, order_is_free}
-use Rattle.law_cases.specs.Answers.{AllIsEachAloneWitness, AnswersStayApartWitness, AreOwnWitness, FitsApartWitness, FreeingRefusesWitness, MayBeExchangedWitness, MayExchangeWitness, OnceIsEnoughWitness, OrderIsFreeWitness, OwnWishesDecideWitness, SameOwnMarksEachWitness, accepts_second, both_offered, quits_other, refuses_first, with_other}
+use Rattle.law_cases.specs.Answers.{AllIsEachAloneWitness, AnswersStayApartWitness, AreOwnWitness, FitsApartWitness}
+use Rattle.law_cases.specs.Answers.{FreeingRefusesWitness, MayBeExchangedWitness, MayExchangeWitness}
+use Rattle.law_cases.specs.Answers.{OnceIsEnoughWitness, OrderIsFreeWitness, OwnWishesDecideWitness}
+use Rattle.law_cases.specs.Answers.{SameOwnMarksEachWitness, accepts_second, both_offered, quits_other, refuses_first}
+use Rattle.law_cases.specs.Answers.{with_other}
 
 abbrev other : State
 other = with_other (marked Refused 2 0)
 
-same_at : (place : ℕ) → place < length both_offered.dossier.wishes → candidate_at both_offered place ≡ 81 → mark_at both_offered place ≡ mark_at other place
+same_at : (place : ℕ) → place < length both_offered.dossier.wishes → candidate_at both_offered place ≡ 81
+    → mark_at both_offered place ≡ mark_at other place
 same_at zero lt own = refl
 same_at (suc zero) lt own = refl
 same_at (suc (suc zero)) lt own = absurd (omega (arith, own))
@@ -25,7 +30,13 @@ same_marks : SameOwnMarks 81 both_offered other
 same_marks = record { dossier = refl; each = same_at }
 
 pub own_wishes_decide_here : OwnWishesDecideWitness
-own_wishes_decide_here = (refl, refl, same_marks, own_wishes_decide 81 both_offered other first_pass refl refl same_marks)
+own_wishes_decide_here = (
+  refl,
+  refl,
+  same_marks,
+  own_wishes_decide 81 both_offered other first_pass refl refl
+      same_marks,
+)
 
 pub same_own_marks : SameOwnMarksEachWitness
 same_own_marks = (lit< tt, refl, refl)
@@ -69,13 +80,24 @@ alike c =
     ]
 
 pub order_is_free_here : OrderIsFreeWitness
-order_is_free_here = (refl, alike, order_is_free both_offered day_two three (refuses_first ∷ accepts_second ∷ quits_other ∷ []) refl alike)
+order_is_free_here = (
+  refl,
+  alike,
+  order_is_free both_offered day_two three
+      (refuses_first ∷ accepts_second ∷ quits_other ∷ []) refl alike,
+)
 
-apart : (c : ℕ) → is_own_kind quits_other.kind both_offered c quits_other.target ≡ true → is_own_kind accepts_second.kind both_offered c accepts_second.target ≡ true → ⊥
+apart : (c : ℕ) → is_own_kind quits_other.kind both_offered c quits_other.target ≡ true
+    → is_own_kind accepts_second.kind both_offered c accepts_second.target ≡ true → ⊥
 apart c one two =
     let is : 82 ≡ c = eqb-true 82 c one in
     let was : 81 ≡ c = eqb-true 81 c two in
     absurd (omega (arith, is, was))
 
 pub may_exchange_here : MayExchangeWitness
-may_exchange_here = (refl, apart, may_exchange both_offered day_two (refuses_first ∷ []) quits_other accepts_second [] refl apart)
+may_exchange_here = (
+  refl,
+  apart,
+  may_exchange both_offered day_two (refuses_first ∷ []) quits_other accepts_second
+      [] refl apart,
+)

@@ -13,17 +13,22 @@ greatest_bars_do_not_fall_here = (
   refl,
   at_most_by _ _ refl,
   lit≤ tt,
-  greatest_of greatest_bar greatest_bar_orders (10 ∷ []) (0 ∷ []) (2 ∷ []) (record { are_falls = (refl, refl, tt); settled = refl }) refl,
-  greatest_of (with_beds greatest_bar 0 2) greatest_bar_orders (12 ∷ []) [] (12 ∷ []) (record { are_falls = tt; settled = refl }) refl,
+  greatest_of greatest_bar greatest_bar_orders (10 ∷ []) (0 ∷ []) (2 ∷ [])
+      (record { are_falls = (refl, refl, tt); settled = refl }) refl,
+  greatest_of (with_beds greatest_bar 0 2) greatest_bar_orders (12 ∷ []) [] (12 ∷ [])
+      (record { are_falls = tt; settled = refl }) refl,
   at_most_by _ _ refl,
 )
 
-figures : AreFigures greatest_bar greatest_bar_orders (10 ∷ []) 0 (record { need = 2; before = 2 ∷ []; after = 10 ∷ [] })
+figures : AreFigures greatest_bar greatest_bar_orders (10 ∷ []) 0
+    (record { need = 2; before = 2 ∷ []; after = 10 ∷ [] })
 figures = record {
   need = beds_needed_hold.0;
   growth = record {
-    before = greatest_of greatest_bar greatest_bar_orders (10 ∷ []) (0 ∷ []) (2 ∷ []) (record { are_falls = (refl, refl, tt); settled = refl }) refl;
-    after = greatest_of (with_beds greatest_bar 0 2) greatest_bar_orders (10 ∷ []) [] (10 ∷ []) (record { are_falls = tt; settled = refl }) refl;
+    before = greatest_of greatest_bar greatest_bar_orders (10 ∷ []) (0 ∷ []) (2 ∷ [])
+        (record { are_falls = (refl, refl, tt); settled = refl }) refl;
+    after = greatest_of (with_beds greatest_bar 0 2) greatest_bar_orders (10 ∷ []) [] (10 ∷ [])
+        (record { are_falls = tt; settled = refl }) refl;
     rises = at_most_by _ _ refl;
   };
 }

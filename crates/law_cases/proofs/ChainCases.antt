@@ -24,7 +24,11 @@ fall_by : (fall : Fall) → fall_test fall ≡ true → CanBeTold fall
 fall_by fall t =
     let parts = and_parts (nat_le fall.from 4294967295) _ t in
     let back = and_parts (nat_le fall.to 4294967295) _ parts.1 in
-    record { from = leb-true fall.from 4294967295 parts.0; to = leb-true fall.to 4294967295 back.0; some = ltb-true 0 (length fall.wishes) back.1 }
+    record {
+      from = leb-true fall.from 4294967295 parts.0;
+      to = leb-true fall.to 4294967295 back.0;
+      some = ltb-true 0 (length fall.wishes) back.1;
+    }
 
 abbrev passes_test : PassEnd → Bool
 passes_test end = list_all fall_test end.pass.falls
@@ -51,8 +55,14 @@ can_be_told = all_by DayCanBeTold day_test day_by realistic_days refl
 
 pub reads_back_here : ReadsBackWitness
 reads_back_here =
-    let valid = valid_by realistic refl in
-    (valid, (refl, (refl, tt)), lit≤ tt, can_be_told, reads_back realistic valid realistic_days (refl, (refl, tt)) (lit≤ tt) can_be_told)
+    let valid = valid_by realistic refl in (
+      valid,
+      (refl, (refl, tt)),
+      lit≤ tt,
+      can_be_told,
+      reads_back realistic valid realistic_days (refl, (refl, tt))
+          (lit≤ tt) can_be_told,
+    )
 
 few : All HasFewPasses realistic_days
 few = all_by HasFewPasses few_test few_by realistic_days refl
@@ -62,5 +72,6 @@ own_chains_are_proved_here =
     let valid = valid_by realistic refl in
     let orders : List CallOrder = realistic_order ∷ [] in
     let evening : State = record { dossier = realistic; marks = last_marks } in
-    let proved = own_chains_are_proved realistic None orders realistic_days evening valid (lit≤ tt) few two_days_hold.1 in
+    let proved = own_chains_are_proved realistic None orders realistic_days evening valid
+    (lit≤ tt) few two_days_hold.1 in
     (valid, lit≤ tt, few, two_days_hold.1, proved.0, proved.1)

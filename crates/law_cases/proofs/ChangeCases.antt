@@ -17,7 +17,8 @@ use Rattle.admit_core.proofs.ByPlaces.{by_places}
 use Rattle.campaign_laws.specs.Kept.{AnswersThemself, GivesNoAnswer, has_accepted}
 use Rattle.campaign_laws.specs.Moments.{openings}
 use Rattle.campaign_laws.specs.PassedOver.{IsUnbarred, WaitsAt}
-use Rattle.campaign_laws.specs.WorkedCampaign.{before_summer, next_day, summer_days, summer_orders, third_night, thirteenth}
+use Rattle.campaign_laws.specs.WorkedCampaign.{before_summer, next_day, summer_days, summer_orders, third_night}
+use Rattle.campaign_laws.specs.WorkedCampaign.{thirteenth}
 use Rattle.campaign_laws.proofs.PassedOver.{without_school}
 use Rattle.campaign_laws.proofs.Walks.{all_of}
 use Rattle.campaign_laws.proofs.WorkedCampaign.{end_by, summer_holds}
@@ -28,7 +29,12 @@ use Rattle.change_laws.specs.Unread.{IsUnread}
 use Rattle.change_laws.proofs.UnreadDays.{order_above_is_never_read}
 use Rattle.change_laws.proofs.OnePlaceUp.{one_place_up_keeps_each_offer}
 use Rattle.fairness.specs.Exchanges.{IsMovedUp}
-use Rattle.law_cases.specs.Changes.{IsNotHurtRankedWitness, IsNotHurtSilentWitness, MoreSeatsAndAnswersHurtNobodyWitness, OnePlaceUpKeepsEachOfferWitness, OrderAboveIsNeverReadWitness, UnbarredWishMayBeStruckOutWitness, all_stay, first_of_two, later_days, one_quits, quit_days, quit_evening, second_of_two, sooner_days, stay_days, stay_evening, third_choice, third_days, third_evening, three_orders, two_exchanged, one_order, waits_behind, with_two}
+use Rattle.law_cases.specs.Changes.{IsNotHurtRankedWitness, IsNotHurtSilentWitness}
+use Rattle.law_cases.specs.Changes.{MoreSeatsAndAnswersHurtNobodyWitness, OnePlaceUpKeepsEachOfferWitness}
+use Rattle.law_cases.specs.Changes.{OrderAboveIsNeverReadWitness, UnbarredWishMayBeStruckOutWitness, all_stay}
+use Rattle.law_cases.specs.Changes.{first_of_two, later_days, one_quits, quit_days, quit_evening, second_of_two}
+use Rattle.law_cases.specs.Changes.{sooner_days, stay_days, stay_evening, third_choice, third_days, third_evening}
+use Rattle.law_cases.specs.Changes.{three_orders, two_exchanged, one_order, waits_behind, with_two}
 use Rattle.law_cases.proofs.Tested.{distinct_by}
 use Rattle.law_cases.proofs.Valid.{valid_by}
 

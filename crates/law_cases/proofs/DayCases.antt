@@ -18,7 +18,10 @@ use Rattle.desk_day.proofs.Stamps.{stamps_kept}
 use Rattle.desk_day.proofs.PassEnds.{day_ends_so, desk_ends_so}
 use Rattle.desk_day.proofs.SameDays.{only_falls_differ}
 use Rattle.fairness.proofs.Shown.{called}
-use Rattle.law_cases.specs.Explanations.{CampaignsAreFixedWitness, CampaignsFixThemWitness, DaysEndSoWitness, DaysFixThemWitness, DesksEndSoWitness, EachIsListedWitness, OnlyFallsDifferWitness, desk_at, first_falls_first, full_schools, held_day, held_start, realistic_day, realistic_evening, second_falls_first}
+use Rattle.law_cases.specs.Explanations.{CampaignsAreFixedWitness, CampaignsFixThemWitness, DaysEndSoWitness}
+use Rattle.law_cases.specs.Explanations.{DaysFixThemWitness, DesksEndSoWitness, EachIsListedWitness}
+use Rattle.law_cases.specs.Explanations.{OnlyFallsDifferWitness, desk_at, first_falls_first, full_schools, held_day}
+use Rattle.law_cases.specs.Explanations.{held_start, realistic_day, realistic_evening, second_falls_first}
 use Rattle.law_cases.proofs.PassCases.{held_called, held_passes, realistic_called, realistic_holds}
 use Rattle.law_cases.proofs.Tested.{all_by}
 use Rattle.law_cases.proofs.Valid.{valid_by}
@@ -31,7 +34,16 @@ one_first : IsDay None two_candidates (4 ∷ 4 ∷ []) old (first_falls_first 1)
 one_first = record {
   lapsed = refl;
   fits = refl;
-  passes = (record { pass = passes_with _ two_candidates (4 ∷ 4 ∷ []) _ (record { are_falls = (refl, refl, (refl, refl, tt)); settled = refl }) refl refl; autos = refl; freed = refl }, refl, refl);
+  passes = (
+    record {
+      pass = passes_with _ two_candidates (4 ∷ 4 ∷ []) _
+          (record { are_falls = (refl, refl, (refl, refl, tt)); settled = refl }) refl refl;
+      autos = refl;
+      freed = refl;
+    },
+    refl,
+    refl,
+  );
   left = refl;
   free = refl;
 }
@@ -40,7 +52,16 @@ one_second : IsDay None two_candidates (4 ∷ 4 ∷ []) old (second_falls_first 
 one_second = record {
   lapsed = refl;
   fits = refl;
-  passes = (record { pass = passes_with _ two_candidates (4 ∷ 4 ∷ []) _ (record { are_falls = (refl, refl, (refl, refl, tt)); settled = refl }) refl refl; autos = refl; freed = refl }, refl, refl);
+  passes = (
+    record {
+      pass = passes_with _ two_candidates (4 ∷ 4 ∷ []) _
+          (record { are_falls = (refl, refl, (refl, refl, tt)); settled = refl }) refl refl;
+      autos = refl;
+      freed = refl;
+    },
+    refl,
+    refl,
+  );
   left = refl;
   free = refl;
 }
@@ -49,7 +70,16 @@ two_first : IsDay None two_candidates (4 ∷ 4 ∷ []) old (first_falls_first 2)
 two_first = record {
   lapsed = refl;
   fits = refl;
-  passes = (record { pass = passes_with _ two_candidates (4 ∷ 4 ∷ []) _ (record { are_falls = (refl, refl, (refl, refl, tt)); settled = refl }) refl refl; autos = refl; freed = refl }, refl, refl);
+  passes = (
+    record {
+      pass = passes_with _ two_candidates (4 ∷ 4 ∷ []) _
+          (record { are_falls = (refl, refl, (refl, refl, tt)); settled = refl }) refl refl;
+      autos = refl;
+      freed = refl;
+    },
+    refl,
+    refl,
+  );
   left = refl;
   free = refl;
 }
@@ -58,7 +88,16 @@ two_second : IsDay None two_candidates (4 ∷ 4 ∷ []) old (second_falls_first 
 two_second = record {
   lapsed = refl;
   fits = refl;
-  passes = (record { pass = passes_with _ two_candidates (4 ∷ 4 ∷ []) _ (record { are_falls = (refl, refl, (refl, refl, tt)); settled = refl }) refl refl; autos = refl; freed = refl }, refl, refl);
+  passes = (
+    record {
+      pass = passes_with _ two_candidates (4 ∷ 4 ∷ []) _
+          (record { are_falls = (refl, refl, (refl, refl, tt)); settled = refl }) refl refl;
+      autos = refl;
+      freed = refl;
+    },
+    refl,
+    refl,
+  );
   left = refl;
   free = refl;
 }
@@ -72,7 +111,8 @@ only_falls_differ_here = (
   one_first,
   one_second,
   refl,
-  (only_falls_differ None two_candidates (4 ∷ 4 ∷ []) old (first_falls_first 1) (second_falls_first 1) old old refl one_first one_second).1,
+  (only_falls_differ None two_candidates (4 ∷ 4 ∷ []) old (first_falls_first 1)
+      (second_falls_first 1) old old refl one_first one_second).1,
 )
 
 both : Days None two_candidates 1 old (first_falls_first 1 ∷ first_falls_first 2 ∷ []) old
@@ -90,9 +130,11 @@ campaigns_are_fixed_here = (
   twins,
   refl,
   (
-    (only_falls_differ None two_candidates (4 ∷ 4 ∷ []) old (first_falls_first 1) (second_falls_first 1) old old refl one_first one_second).1,
+    (only_falls_differ None two_candidates (4 ∷ 4 ∷ []) old (first_falls_first 1)
+        (second_falls_first 1) old old refl one_first one_second).1,
     (
-      (only_falls_differ None two_candidates (4 ∷ 4 ∷ []) old (first_falls_first 2) (first_falls_first 2) old old refl two_first two_first).1,
+      (only_falls_differ None two_candidates (4 ∷ 4 ∷ []) old (first_falls_first 2)
+          (first_falls_first 2) old old refl two_first two_first).1,
       tt,
     ),
   ),
@@ -101,7 +143,8 @@ campaigns_are_fixed_here = (
 pub each_is_listed : EachIsListedWitness
 each_is_listed = (refl, refl, refl, refl)
 
-pub realistic_is_day : IsDay None (realistic_order ∷ []) (10 ∷ []) (first_evening realistic) realistic_day realistic_evening
+pub realistic_is_day : IsDay None (realistic_order ∷ []) (10 ∷ []) (first_evening realistic) realistic_day
+    realistic_evening
 realistic_is_day = record { lapsed = refl; fits = refl; passes = realistic_holds; left = refl; free = refl }
 
 pub days_end_so_here : DaysEndSoWitness
@@ -109,7 +152,8 @@ days_end_so_here = (
   realistic_called,
   refl,
   realistic_is_day,
-  day_ends_so None (realistic_order ∷ []) (10 ∷ []) (first_evening realistic) realistic_day realistic_evening realistic_called refl realistic_is_day,
+  day_ends_so None (realistic_order ∷ []) (10 ∷ [])
+      (first_evening realistic) realistic_day realistic_evening realistic_called refl realistic_is_day,
 )
 
 pub held_is_day : IsDay None two_candidates (9 ∷ []) held_start held_day held_bed_evening
@@ -125,7 +169,8 @@ held_places = record {
   passes = All-cons (IsPassIn held_bed) _ []
       (record {
         bars = refl;
-        falls = All-cons (IsFallIn held_bed) (fall 0 9 1 (1 ∷ [])) [] (record { school = lit< tt; wishes = below_by 2 (1 ∷ []) refl }) (All-nil (IsFallIn held_bed));
+        falls = All-cons (IsFallIn held_bed) (fall 0 9 1 (1 ∷ [])) []
+            (record { school = lit< tt; wishes = below_by 2 (1 ∷ []) refl }) (All-nil (IsFallIn held_bed));
         offers = below_by 2 [] refl;
         autos = All-nil _;
       })
@@ -134,7 +179,8 @@ held_places = record {
   free = refl;
 }
 
-held_is_done : IsDayDone None two_candidates (9 ∷ []) 1 (desk_at held_start []) held_day (desk_at held_bed_evening (0 ∷ []))
+held_is_done : IsDayDone None two_candidates (9 ∷ []) 1 (desk_at held_start []) held_day
+    (desk_at held_bed_evening (0 ∷ []))
 held_is_done = record {
   rule = record { number = refl; is_day = held_is_day; opening = refl; told = refl; chosen = ((refl, tt), tt) };
   follows = record {
@@ -151,7 +197,8 @@ desks_end_so_here = (
   held_called,
   refl,
   held_is_done,
-  desk_ends_so None two_candidates (9 ∷ []) (9 ∷ []) (last_bars held_day.passes) 1 (desk_at held_start []) (desk_at held_bed_evening (0 ∷ [])) held_day held_called refl held_is_done refl refl,
+  desk_ends_so None two_candidates (9 ∷ []) (9 ∷ []) (last_bars held_day.passes) 1 (desk_at held_start [])
+      (desk_at held_bed_evening (0 ∷ [])) held_day held_called refl held_is_done refl refl,
 )
 
 pub days_fix_them_here : DaysFixThemWitness

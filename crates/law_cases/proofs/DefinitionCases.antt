@@ -1,7 +1,9 @@
 -- The worked cases of definitions, by computation.
 use Rattle.std.proofs.Common.{refl}
 use Rattle.admit_core.specs.Faults.{first_after}
-use Rattle.law_cases.specs.Definitions.{FreedByOne, LimitExplained, MixedTheOtherWay, NameOfRank, OneIsAnsweredFor, OwnAnswers, PickersChoose, RepeatedRows, StillOverBehind, UnfitRow, UnknownNames}
+use Rattle.law_cases.specs.Definitions.{FreedByOne, LimitExplained, MixedTheOtherWay, NameOfRank, OneIsAnsweredFor}
+use Rattle.law_cases.specs.Definitions.{OwnAnswers, PickersChoose, RepeatedRows, StillOverBehind, UnfitRow}
+use Rattle.law_cases.specs.Definitions.{UnknownNames}
 
 pub name_of_rank : NameOfRank
 name_of_rank = refl

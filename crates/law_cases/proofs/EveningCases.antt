@@ -16,7 +16,8 @@ use Rattle.fairness.proofs.Shown.{called}
 use Rattle.evening_laws.proofs.FewPasses.{passes_are_few}
 use Rattle.evening_laws.proofs.LastPass.{evening_bars_no_lower, last_bars_still_fit, seat_and_bed_never_both_idle}
 use Rattle.campaign_laws.specs.Moments.{moments}
-use Rattle.campaign_laws.specs.WorkedCampaign.{before_summer, next_day, small_day, small_days, small_night, small_orders, summer, summer_days, summer_orders, third_night}
+use Rattle.campaign_laws.specs.WorkedCampaign.{before_summer, next_day, small_day, small_days, small_night}
+use Rattle.campaign_laws.specs.WorkedCampaign.{small_orders, summer, summer_days, summer_orders, third_night}
 use Rattle.campaign_laws.proofs.WorkedCampaign.{small_holds, summer_holds}
 use Rattle.campaign_laws.proofs.Limits.{never_more_than_seats_and_limit}
 use Rattle.campaign_bars.specs.Ahead.{NotSameProgramme}
@@ -26,7 +27,13 @@ use Rattle.campaign_bars.proofs.Ahead.{ahead_grows_only_with_a_bar}
 use Rattle.campaign_bars.proofs.MoreBeds.{beds_ever_held_would_do, more_beds_change_nothing}
 use Rattle.campaign_bars.proofs.Overnight.{no_bar_falls_overnight}
 use Rattle.law_cases.specs.Days.{held_bed, held_bed_evening, realistic_passes}
-use Rattle.law_cases.specs.Evenings.{AheadGrowsOnlyWithABarWitness, AheadOfThirteen, BedsEverHeldWouldDoWitness, EveningBarsAreNoLowerWitness, IsNotKeptWaitingWitness, LastBarsStillFitWitness, MoreBedsChangeNothingWitness, NoBarFallsOvernightWitness, NoMoreAheadWitness, PassesAreFewWitness, NeverMoreThanSeatsAndLimitWitness, SeatAndBedAreNeverBothIdleWitness, ThreeAreLive, called_past, day_after, day_past, evening_past, roomy, roomy_day, roomy_night, three_called, unanswered, unanswered_evening}
+use Rattle.law_cases.specs.Evenings.{AheadGrowsOnlyWithABarWitness, AheadOfThirteen, BedsEverHeldWouldDoWitness}
+use Rattle.law_cases.specs.Evenings.{EveningBarsAreNoLowerWitness, IsNotKeptWaitingWitness, LastBarsStillFitWitness}
+use Rattle.law_cases.specs.Evenings.{MoreBedsChangeNothingWitness, NoBarFallsOvernightWitness, NoMoreAheadWitness}
+use Rattle.law_cases.specs.Evenings.{PassesAreFewWitness, NeverMoreThanSeatsAndLimitWitness}
+use Rattle.law_cases.specs.Evenings.{SeatAndBedAreNeverBothIdleWitness, ThreeAreLive, called_past, day_after, day_past}
+use Rattle.law_cases.specs.Evenings.{evening_past, roomy, roomy_day, roomy_night, three_called, unanswered}
+use Rattle.law_cases.specs.Evenings.{unanswered_evening}
 use Rattle.law_cases.specs.Explanations.{held_day, held_start, realistic_day, realistic_evening}
 use Rattle.law_cases.proofs.BarCases.{greatest_of}
 use Rattle.law_cases.proofs.DayCases.{held_is_day, realistic_is_day}
@@ -145,7 +152,8 @@ overnight_here =
       refl,
       refl,
       no_bar_falls_overnight None (realistic_order ∷ []) 1 (first_evening unanswered) realistic_day day_after
-          unanswered_evening unanswered_evening valid realistic_called tt refl first_unanswered next_unanswered same refl
+          unanswered_evening unanswered_evening valid realistic_called tt refl first_unanswered next_unanswered same
+          refl
           refl,
     )
 

@@ -15,11 +15,15 @@ use Rattle.markets.proofs.Stable.{greatest_is_stable}
 use Rattle.stable_market.specs.Truth.{DifferAtMostIn}
 use Rattle.stable_market.specs.Worked.{contested, crossed}
 use Rattle.stable_market.proofs.Blocking.{stable_from}
-use Rattle.law_cases.specs.Markets.{CrossedDossier, GreatestBarsAreBestWitness, GreatestBarsAreStableWitness, GreatestBarsPlaceTheSameWitness, MarketsAreLawfulWitness, TheBestIsOneWitness, TheSameHavePlacesWitness, TheSameWhicheverFallsFirstWitness, ThereIsABestWitness, TruthPaysWitness, second_alone, their_first, their_second, two_contests}
+use Rattle.law_cases.specs.Markets.{CrossedDossier, GreatestBarsAreBestWitness, GreatestBarsAreStableWitness}
+use Rattle.law_cases.specs.Markets.{GreatestBarsPlaceTheSameWitness, MarketsAreLawfulWitness, TheBestIsOneWitness}
+use Rattle.law_cases.specs.Markets.{TheSameHavePlacesWitness, TheSameWhicheverFallsFirstWitness, ThereIsABestWitness}
+use Rattle.law_cases.specs.Markets.{TruthPaysWitness, second_alone, their_first, their_second, two_contests}
 
 -- the greatest bars of a market, by the programmes that fall
 bars_by : (m : MarketRows) (picks bars : List ℕ) → IsMarket m → Leads (market_system m) picks
-    → bars_after (market_system m).ceilings (falls_by (market_system m) (market_system m).ceilings picks) ≡ bars → IsGreatest (market_system m) bars
+    → bars_after (market_system m).ceilings (falls_by (market_system m) (market_system m).ceilings picks) ≡ bars
+    → IsGreatest (market_system m) bars
 bars_by m picks bars is leads ends =
     let sys = market_system m in
     subst (IsGreatest sys) ends (run_is_greatest sys (market_is_lawful m is) (falls_by sys sys.ceilings picks) leads)
@@ -42,7 +46,8 @@ contested_is = record {
 two_are : IsMarket two_contests
 two_are = record {
   one_seat_each = refl;
-  lists = by_places 4 _ ((λ lt. refl), ((λ lt. refl), ((λ lt. refl), ((λ lt. refl), tt)))) (λ k lt. absurd (omega (arith, lt)));
+  lists = by_places 4 _ ((λ lt. refl), ((λ lt. refl), ((λ lt. refl), ((λ lt. refl), tt))))
+      (λ k lt. absurd (omega (arith, lt)));
   orders = by_places 2 _ ((λ lt. refl), ((λ lt. refl), tt)) (λ k lt. absurd (omega (arith, lt)));
 }
 
@@ -57,13 +62,19 @@ pub markets_are_lawful : MarketsAreLawfulWitness
 markets_are_lawful = (contested_is, market_is_lawful contested contested_is)
 
 contested_bars : IsGreatest (market_system contested) (1 ∷ 1 ∷ [])
-contested_bars = bars_by contested (0 ∷ 1 ∷ []) (1 ∷ 1 ∷ []) contested_is (record { are_falls = (refl, refl, (refl, refl, tt)); settled = refl }) refl
+contested_bars = bars_by contested (0 ∷ 1 ∷ []) (1 ∷ 1 ∷ []) contested_is
+    (record { are_falls = (refl, refl, (refl, refl, tt)); settled = refl }) refl
 
 pub crossed_bars : IsGreatest (market_system crossed) (2 ∷ 2 ∷ [])
 crossed_bars = bars_by crossed [] (2 ∷ 2 ∷ []) crossed_is (record { are_falls = tt; settled = refl }) refl
 
 pub greatest_bars_are_stable : GreatestBarsAreStableWitness
-greatest_bars_are_stable = (contested_is, contested_bars, greatest_is_stable contested (1 ∷ 1 ∷ []) contested_is contested_bars)
+greatest_bars_are_stable = (
+  contested_is,
+  contested_bars,
+  greatest_is_stable contested
+      (1 ∷ 1 ∷ []) contested_is contested_bars,
+)
 
 pub greatest_bars_are_best : GreatestBarsAreBestWitness
 greatest_bars_are_best = (crossed_is, crossed_bars, greatest_is_best crossed (2 ∷ 2 ∷ []) crossed_is crossed_bars)
@@ -77,7 +88,12 @@ the_same_whichever_falls_first = (
 )
 
 pub greatest_bars_place_the_same : GreatestBarsPlaceTheSameWitness
-greatest_bars_place_the_same = (contested_is, contested_bars, placed_in_all contested (1 ∷ 1 ∷ []) contested_is contested_bars)
+greatest_bars_place_the_same = (
+  contested_is,
+  contested_bars,
+  placed_in_all contested
+      (1 ∷ 1 ∷ []) contested_is contested_bars,
+)
 
 -- ---- stable matchings
 first_stable : IsStable crossed their_first
@@ -109,7 +125,13 @@ there_is_a_best_here =
     (crossed_is, found.0, found.1, found.2)
 
 pub the_same_have_places : TheSameHavePlacesWitness
-the_same_have_places = (crossed_is, first_stable, second_stable, any_two crossed their_first their_second crossed_is first_stable second_stable)
+the_same_have_places = (
+  crossed_is,
+  first_stable,
+  second_stable,
+  any_two crossed their_first their_second crossed_is
+      first_stable second_stable,
+)
 
 pub the_best_is_one_here : TheBestIsOneWitness
 the_best_is_one_here = (first_stable, first_best, first_stable, first_best, refl)
@@ -120,8 +142,10 @@ same_lists zero other = absurd (other refl)
 same_lists (suc zero) other = refl
 same_lists (suc (suc y)) other = refl
 
-same_ranks : (p y z : ℕ) → IsTrue (lists_it crossed p y) → IsTrue (lists_it crossed p z) → IsTrue (lists_it second_alone p y) → IsTrue (lists_it second_alone p z)
-    → nat_lt (market_position crossed p y) (market_position crossed p z) ≡ nat_lt (market_position second_alone p y) (market_position second_alone p z)
+same_ranks : (p y z : ℕ) → IsTrue (lists_it crossed p y) → IsTrue (lists_it crossed p z)
+    → IsTrue (lists_it second_alone p y) → IsTrue (lists_it second_alone p z)
+    → nat_lt (market_position crossed p y) (market_position crossed p z)
+    ≡ nat_lt (market_position second_alone p y) (market_position second_alone p z)
 same_ranks zero y z a b c d = refl
 same_ranks (suc zero) y z a b c d = rw (only_one y c, only_one z d) refl where
   only_one : (x : ℕ) → lists_it second_alone 1 x ≡ true → x ≡ 1
@@ -131,10 +155,17 @@ same_ranks (suc zero) y z a b c d = rw (only_one y c, only_one z d) refl where
 same_ranks (suc (suc p)) y z a b c d = refl
 
 differ : DifferAtMostIn 0 crossed second_alone
-differ = record { candidates = refl; programmes = refl; same_seats = refl; same_lists = same_lists; same_ranks = same_ranks }
+differ = record {
+  candidates = refl;
+  programmes = refl;
+  same_seats = refl;
+  same_lists = same_lists;
+  same_ranks = same_ranks;
+}
 
 second_bars : IsGreatest (market_system second_alone) (1 ∷ 1 ∷ [])
-second_bars = bars_by second_alone (0 ∷ []) (1 ∷ 1 ∷ []) second_is (record { are_falls = (refl, refl, tt); settled = refl }) refl
+second_bars = bars_by second_alone (0 ∷ []) (1 ∷ 1 ∷ []) second_is
+    (record { are_falls = (refl, refl, tt); settled = refl }) refl
 
 pub truth_pays_here : TruthPaysWitness
 truth_pays_here = (

@@ -14,7 +14,11 @@ use Rattle.admit_core.proofs.ByPlaces.{by_places}
 use Rattle.admit_core.proofs.OneOrder.{one_order}
 use Rattle.admit_core.proofs.OrderLaws.{laws_kept}
 use Rattle.fairness.proofs.Shown.{called}
-use Rattle.law_cases.specs.CallOrders.{CallOrdersKeepLawsOtherWitness, CallOrdersKeepLawsWitness, CallsResidentScholarsFirstWitness, EachRankingHasOneOrderWitness, HasLesserRankWitness, IsLeastByResidentsWitness, IsLeastByScholarsWitness, IsLeastThatKeepsWitness, KeepsOrderLawsOnlyWitness, KeepsRateAfterWitness, KeepsResidentRateWitness, scholars_first}
+use Rattle.law_cases.specs.CallOrders.{CallOrdersKeepLawsOtherWitness, CallOrdersKeepLawsWitness}
+use Rattle.law_cases.specs.CallOrders.{CallsResidentScholarsFirstWitness, EachRankingHasOneOrderWitness}
+use Rattle.law_cases.specs.CallOrders.{HasLesserRankWitness, IsLeastByResidentsWitness, IsLeastByScholarsWitness}
+use Rattle.law_cases.specs.CallOrders.{IsLeastThatKeepsWitness, KeepsOrderLawsOnlyWitness, KeepsRateAfterWitness}
+use Rattle.law_cases.specs.CallOrders.{KeepsResidentRateWitness, scholars_first}
 use Rattle.law_cases.proofs.Valid.{ranking_by}
 
 realistic_called : IsCallOrder realistic_group realistic_order
@@ -64,7 +68,10 @@ by_scholars = called 4 _ _ refl (refl, (refl, (refl, (refl, tt)))) (λ k. refl)
 
 other_keeps : KeepsRate 100 (λ (r : Ranked). r.scholar) scholars_first (2 ∷ 4 ∷ 3 ∷ 1 ∷ [])
 other_keeps =
-    by_places 4 _ ((λ some. lit≤ tt), ((λ some. lit≤ tt), ((λ some. lit≤ tt), ((λ some. absurd (false≢true some)), tt))))
+    by_places 4 _ (
+      (λ some. lit≤ tt),
+      ((λ some. lit≤ tt), ((λ some. lit≤ tt), ((λ some. absurd (false≢true some)), tt))),
+    )
     (λ k some. absurd (false≢true some))
 
 other_permutes : IsPermutation (ranked_candidates scholars_first) (2 ∷ 4 ∷ 3 ∷ 1 ∷ [])
@@ -74,14 +81,19 @@ pub is_least_that_keeps : IsLeastThatKeepsWitness
 is_least_that_keeps = (
   other_permutes,
   other_keeps,
-  (laws_kept scholars_first _ (ranking_by scholars_first refl) by_scholars).least_by_scholars refl (2 ∷ 4 ∷ 3 ∷ 1 ∷ []) other_permutes other_keeps,
+  (laws_kept scholars_first _ (ranking_by scholars_first refl) by_scholars).least_by_scholars refl
+      (2 ∷ 4 ∷ 3 ∷ 1 ∷ []) other_permutes other_keeps,
 )
 
 pub is_least_by_scholars : IsLeastByScholarsWitness
-is_least_by_scholars = (refl, (laws_kept scholars_first _ (ranking_by scholars_first refl) by_scholars).least_by_scholars refl)
+is_least_by_scholars =
+    (refl, (laws_kept scholars_first _ (ranking_by scholars_first refl) by_scholars).least_by_scholars refl)
 
 pub is_least_by_residents : IsLeastByResidentsWitness
 is_least_by_residents =
     let g : RankGroup = group 0 100 (ranked 1 1 false false ∷ ranked 2 2 false true ∷ []) in
-    let o : CallOrder = order (2 ∷ 1 ∷ []) (Resident ∷ Free ∷ []) in
-    (refl, (laws_kept g o (ranking_by g refl) (called 2 g o refl (refl, (refl, tt)) (λ k. refl))).least_by_residents refl)
+    let o : CallOrder = order (2 ∷ 1 ∷ []) (Resident ∷ Free ∷ []) in (
+      refl,
+      (laws_kept g o (ranking_by g refl) (called 2 g o refl (refl, (refl, tt)) (λ k. refl))).least_by_residents
+          refl,
+    )

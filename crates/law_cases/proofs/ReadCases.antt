@@ -5,11 +5,13 @@ use Rattle.csv.specs.Records.{field_at}
 use Rattle.calendar.specs.Dates.{date_of, day_number, days_of_months, last_started}
 use Rattle.calendar.specs.Texts.{date_in}
 use Rattle.dossier_csv.specs.Columns.{added_number, flag, number, optional_date, optional_number, word}
-use Rattle.dossier_csv.specs.Rows.{answer_row, ceiling_row, group_row, programme_row, rank_row, school_row, state_row, wish_row}
+use Rattle.dossier_csv.specs.Rows.{answer_row, ceiling_row, group_row, programme_row, rank_row, school_row, state_row}
+use Rattle.dossier_csv.specs.Rows.{wish_row}
 use Rattle.dossier_csv.specs.Shape.{rows_from, table_of}
 use Rattle.law_cases.specs.Dates.{KnownDates, KnownNumbers, KnownTexts, LeapYears}
 use Rattle.law_cases.specs.Samples.{ChoicesOfTheFourth, SampleOfFour}
-use Rattle.law_cases.specs.Slots.{FieldCountFaults, FirstFaultOfShape, HeaderFaults, NumberFaults, OtherRows, ProgrammeRows, RangeFaults, StateRows, TooManyRowsFault, WordFaults}
+use Rattle.law_cases.specs.Slots.{FieldCountFaults, FirstFaultOfShape, HeaderFaults, NumberFaults, OtherRows}
+use Rattle.law_cases.specs.Slots.{ProgrammeRows, RangeFaults, StateRows, TooManyRowsFault, WordFaults}
 
 -- ---- dates
 pub leap_years : LeapYears
@@ -33,7 +35,8 @@ unfolding csv_on_literals field_at table_of rows_from programme_row number added
 programme_rows = (refl, refl)
 
 pub state_rows : StateRows
-unfolding csv_on_literals field_at table_of rows_from state_row number word optional_date date_in date_of day_number days_of_months last_started
+unfolding csv_on_literals field_at table_of rows_from state_row number word optional_date date_in date_of day_number
+    days_of_months last_started
 state_rows = refl
 
 pub other_rows : OtherRows
@@ -57,7 +60,8 @@ unfolding csv_on_literals field_at table_of rows_from group_row school_row ceili
 range_faults = (refl, refl, refl, refl)
 
 pub word_faults : WordFaults
-unfolding csv_on_literals field_at table_of rows_from rank_row answer_row state_row number flag word optional_date date_in date_of day_number days_of_months last_started
+unfolding csv_on_literals field_at table_of rows_from rank_row answer_row state_row number flag word optional_date
+    date_in date_of day_number days_of_months last_started
 word_faults = (refl, refl, refl)
 
 pub first_fault_of_shape : FirstFaultOfShape

@@ -1,5 +1,6 @@
 -- Facts of small lists by a test that computes.
-use Rattle.std.proofs.Common.{ℕ, zero, suc, ◌+◌, ◌≤◌, ◌<◌, ◌≡◌, Bool, true, false, not, ◌&&◌, List, [], ◌∷◌, inl, inr, refl, arith, nat_eq, nat_lt}
+use Rattle.std.proofs.Common.{ℕ, zero, suc, ◌+◌, ◌≤◌, ◌<◌, ◌≡◌, Bool, true, false, not, ◌&&◌, List, [], ◌∷◌, inl, inr}
+use Rattle.std.proofs.Common.{refl, arith, nat_eq, nat_lt}
 use Rattle.std.specs.Prelude.{nat_le, slice_index}
 use Rattle.std.specs.List.{All, AllPairs, IsDistinct, list_all}
 use Rattle.std.specs.List.Sorted.{IsNonDecreasing, IsStrictlyIncreasing}
@@ -10,7 +11,8 @@ use Rattle.std.proofs.lemmas.Map.Keys.{IsDistinct-from_apart}
 use Rattle.admit_core.specs.Falls.{IsAtMost}
 
 -- each element by a test
-pub all_by : {X : Type 0} (P : X → Type 0) (test : X → Bool) → ((x : X) → test x ≡ true → P x) → (xs : List X) → list_all test xs ≡ true → All P xs
+pub all_by : {X : Type 0} (P : X → Type 0) (test : X → Bool) → ((x : X) → test x ≡ true → P x) → (xs : List X)
+    → list_all test xs ≡ true → All P xs
 all_by P test sound [] t = All-nil P
 all_by P test sound (x ∷ xs) t =
     let parts = and_parts (test x) (list_all test xs) t in
@@ -21,7 +23,8 @@ abbrev pub all_pairs : {X : Type 0} → (X → X → Bool) → List X → Bool
 all_pairs test [] = true
 all_pairs test (x ∷ xs) = list_all (test x) xs && all_pairs test xs
 
-pub pairs_by : {X : Type 0} (R : X → X → Type 0) (test : X → X → Bool) → ((x y : X) → test x y ≡ true → R x y) → (xs : List X) → all_pairs test xs ≡ true → AllPairs R xs
+pub pairs_by : {X : Type 0} (R : X → X → Type 0) (test : X → X → Bool) → ((x y : X) → test x y ≡ true → R x y)
+    → (xs : List X) → all_pairs test xs ≡ true → AllPairs R xs
 pairs_by R test sound [] t = λ i j d i_lt j_lt. absurd (omega arith)
 pairs_by R test sound (x ∷ xs) t =
     let parts = and_parts (list_all (test x) xs) (all_pairs test xs) t in
@@ -42,7 +45,8 @@ abbrev pub differ : ℕ → ℕ → Bool
 differ x y = not (nat_eq x y)
 
 pub distinct_by : (ns : List ℕ) → all_pairs differ ns ≡ true → IsDistinct nat_eq ns
-distinct_by ns t = IsDistinct-from_apart nat_eq ns (pairs_by (λ (x y : ℕ). nat_eq x y ≡ false) differ (λ x y. not-true (nat_eq x y)) ns t)
+distinct_by ns t = IsDistinct-from_apart nat_eq ns
+    (pairs_by (λ (x y : ℕ). nat_eq x y ≡ false) differ (λ x y. not-true (nat_eq x y)) ns t)
 
 -- bars at most others
 abbrev pub at_most : List ℕ → List ℕ → Bool

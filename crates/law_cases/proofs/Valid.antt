@@ -1,9 +1,11 @@
 -- Whether a small dossier is valid, by a test that computes.
-use Rattle.std.proofs.Common.{ℕ, zero, suc, ◌<◌, ◌≡◌, Bool, true, false, not, ◌&&◌, ◌||◌, List, [], ◌∷◌, map, length, sum, inl, inr, refl, sym, ◌∙◌, ap, nat_eq, nat_lt, zip, Option, Some, None}
+use Rattle.std.proofs.Common.{ℕ, zero, suc, ◌<◌, ◌≡◌, Bool, true, false, not, ◌&&◌, ◌||◌, List, [], ◌∷◌, map, length}
+use Rattle.std.proofs.Common.{sum, inl, inr, refl, sym, ◌∙◌, ap, nat_eq, nat_lt, zip, Option, Some, None}
 use Rattle.std.specs.Prelude.{IsSome, nat_le, if◌then◌else◌}
 use Rattle.std.specs.List.{list_all}
 use Rattle.std.specs.Option.{ForSome}
-use Rattle.std.proofs.lemmas.Bool.{and_from, and_parts, both_ways, cases_Bool, eq-eqb, eqb-true, false≢true, leb-true, ltb-true, not-true}
+use Rattle.std.proofs.lemmas.Bool.{and_from, and_parts, both_ways, cases_Bool, eq-eqb, eqb-true, false≢true, leb-true}
+use Rattle.std.proofs.lemmas.Bool.{ltb-true, not-true}
 use Rattle.admit_core.specs.declared.dossier.Answer.{Answer}
 use Rattle.admit_core.specs.declared.dossier.AnswerKind.{AnswerKind}
 use Rattle.admit_core.specs.declared.dossier.AnswerKind.TheVariants.{Accept, Refuse, Withdraw, Quit}
@@ -18,7 +20,9 @@ use Rattle.admit_core.specs.DossierRows.{DossierRows, candidates_of, ranking_of}
 use Rattle.admit_core.specs.Lists.{is_among}
 use Rattle.admit_core.specs.Ranges.{IsDay, IsNumber}
 use Rattle.admit_core.specs.State.{status_number}
-use Rattle.admit_core.specs.Validity.{HasBoardRank, IsApart, IsRanking, IsTarget, IsValid, IsValidAnswer, IsValidCeiling, IsValidGroup, IsValidProgramme, IsValidRanked, IsValidSchool, IsValidWish, NotBothAccepted, NotSameDay}
+use Rattle.admit_core.specs.Validity.{HasBoardRank, IsApart, IsRanking, IsTarget, IsValid, IsValidAnswer}
+use Rattle.admit_core.specs.Validity.{IsValidCeiling, IsValidGroup, IsValidProgramme, IsValidRanked, IsValidSchool}
+use Rattle.admit_core.specs.Validity.{IsValidWish, NotBothAccepted, NotSameDay}
 use Rattle.law_cases.proofs.Tested.{all_by, all_pairs, differ, distinct_by, level_by, pairs_by, rising_by}
 
 -- ---- numbers
@@ -50,7 +54,8 @@ ranked_by r t =
 abbrev pub ranking_test : RankGroup → Bool
 ranking_test g =
     (nat_le g.scholar_pct 100 && nat_le g.resident_pct 100)
-    && (all_pairs nat_lt (map (λ (r : Ranked). r.rank) g.list) && all_pairs differ (map (λ (r : Ranked). r.candidate) g.list))
+    && (all_pairs nat_lt (map (λ (r : Ranked). r.rank) g.list)
+    && all_pairs differ (map (λ (r : Ranked). r.candidate) g.list))
 
 pub ranking_by : (g : RankGroup) → ranking_test g ≡ true → IsRanking g
 ranking_by g t =
@@ -80,7 +85,8 @@ group_by g t =
     }
 
 abbrev programme_test : DossierRows → Programme → Bool
-programme_test d p = (is_number p.id && nat_lt p.group (length d.groups)) && (nat_le p.seats 2000000000 && nat_le p.limit 2000000000)
+programme_test d p = (is_number p.id && nat_lt p.group (length d.groups))
+    && (nat_le p.seats 2000000000 && nat_le p.limit 2000000000)
 
 programme_by : (d : DossierRows) (p : Programme) → programme_test d p ≡ true → IsValidProgramme d p
 programme_by d p t =
@@ -101,7 +107,11 @@ school_by : (h : School) → school_test h ≡ true → IsValidSchool h
 school_by h t =
     let parts = and_parts (is_number h.id) _ t in
     let back = and_parts (nat_le h.beds 2000000000) _ parts.1 in
-    record { id = number_by h.id parts.0; beds = leb-true h.beds 2000000000 back.0; ceiling = leb-true h.ceiling 2000000000 back.1 }
+    record {
+      id = number_by h.id parts.0;
+      beds = leb-true h.beds 2000000000 back.0;
+      ceiling = leb-true h.ceiling 2000000000 back.1;
+    }
 
 -- ---- wishes
 abbrev school_there : ℕ → Option ℕ → Bool
@@ -124,16 +134,20 @@ rank_by (Some h) rank t = number_by rank t
 
 abbrev wish_test : DossierRows → Wish → Bool
 wish_test d w =
-    ((is_number w.id && nat_lt w.programme (length d.programmes)) && (school_there (length d.schools) w.school && rank_test w.school w.board_rank))
-    && (is_among w.candidate (map (λ (r : Ranked). r.candidate) (ranking_of d w.programme)) && nat_le w.preference 2000000000)
+    ((is_number w.id && nat_lt w.programme (length d.programmes))
+    && (school_there (length d.schools) w.school && rank_test w.school w.board_rank))
+    && (is_among w.candidate (map (λ (r : Ranked). r.candidate) (ranking_of d w.programme))
+    && nat_le w.preference 2000000000)
 
 wish_by : (d : DossierRows) (w : Wish) → wish_test d w ≡ true → IsValidWish d w
 wish_by d w t =
-    let parts = and_parts ((is_number w.id && nat_lt w.programme (length d.programmes)) && (school_there (length d.schools) w.school && rank_test w.school w.board_rank)) _ t in
+    let parts = and_parts ((is_number w.id && nat_lt w.programme (length d.programmes))
+    && (school_there (length d.schools) w.school && rank_test w.school w.board_rank)) _ t in
     let front = and_parts (is_number w.id && nat_lt w.programme (length d.programmes)) _ parts.0 in
     let names = and_parts (is_number w.id) _ front.0 in
     let boards = and_parts (school_there (length d.schools) w.school) _ front.1 in
-    let back = and_parts (is_among w.candidate (map (λ (r : Ranked). r.candidate) (ranking_of d w.programme))) _ parts.1 in
+    let back = and_parts (is_among w.candidate (map (λ (r : Ranked). r.candidate) (ranking_of d w.programme))) _
+    parts.1 in
     record {
       id = number_by w.id names.0;
       programme = ltb-true w.programme (length d.programmes) names.1;
@@ -186,8 +200,10 @@ otherwise false x y t e = t
 -- two wishes of one candidate, and of two
 abbrev own_test : Wish → Wish → Bool
 own_test v w =
-    (not (nat_eq v.programme w.programme && same_school v.school w.school) && (not (same_school v.school w.school) || nat_eq v.board_rank w.board_rank))
-    && (agree (nat_eq v.preference 0) (nat_eq w.preference 0) && (not (nat_eq v.preference w.preference) || nat_eq v.preference 0))
+    (not (nat_eq v.programme w.programme && same_school v.school w.school)
+    && (not (same_school v.school w.school) || nat_eq v.board_rank w.board_rank))
+    && (agree (nat_eq v.preference 0) (nat_eq w.preference 0)
+    && (not (nat_eq v.preference w.preference) || nat_eq v.preference 0))
 
 abbrev others_test : Wish → Wish → Bool
 others_test v w = not (both_in v.school w.school && nat_eq v.board_rank w.board_rank)
@@ -220,21 +236,26 @@ own_by v w t =
 apart_by : (v w : Wish) → apart_test v w ≡ true → IsApart v w
 apart_by v w t =
     let one = nat_eq v.candidate w.candidate in
-    let own : v.candidate ≡ w.candidate → IsOwn v w = λ e. own_by v w (chosen one (own_test v w) (others_test v w) t (eq-eqb v.candidate w.candidate e)) in
+    let own : v.candidate ≡ w.candidate → IsOwn v w =
+    λ e. own_by v w (chosen one (own_test v w) (others_test v w) t (eq-eqb v.candidate w.candidate e)) in
     record {
       named = λ c p s.
           both_ways (nat_eq v.programme w.programme && same_school v.school w.school) (own c).differs
-          (and_from (nat_eq v.programme w.programme) (same_school v.school w.school) (eq-eqb v.programme w.programme p) (same_by v.school w.school s));
+          (and_from (nat_eq v.programme w.programme) (same_school v.school w.school) (eq-eqb v.programme w.programme p)
+          (same_by v.school w.school s));
       ranks = λ some same.
           elim (cases_Bool one) [
             | inl is ↦
                 let c = eqb-true v.candidate w.candidate is in
-                let rank = implied (same_school v.school w.school) (nat_eq v.board_rank w.board_rank) (own c).ranks (same_by v.school w.school same) in
+                let rank = implied (same_school v.school w.school) (nat_eq v.board_rank w.board_rank) (own c).ranks
+                (same_by v.school w.school same) in
                 (λ _. c, λ _. eqb-true v.board_rank w.board_rank rank)
             | inr other ↦
-                let none = not-true (both_in v.school w.school && nat_eq v.board_rank w.board_rank) (otherwise one (own_test v w) (others_test v w) t other) in (
+                let none = not-true (both_in v.school w.school && nat_eq v.board_rank w.board_rank)
+                (otherwise one (own_test v w) (others_test v w) t other) in (
                   λ e. absurd (both_ways (both_in v.school w.school && nat_eq v.board_rank w.board_rank) none
-                      (and_from (both_in v.school w.school) (nat_eq v.board_rank w.board_rank) (both_by v.school w.school some same) (eq-eqb v.board_rank w.board_rank e))),
+                      (and_from (both_in v.school w.school) (nat_eq v.board_rank w.board_rank)
+                      (both_by v.school w.school some same) (eq-eqb v.board_rank w.board_rank e))),
                   λ e. absurd (both_ways one other (eq-eqb v.candidate w.candidate e)),
                 )
           ];
@@ -243,7 +264,8 @@ apart_by v w t =
         λ e. eqb-true v.preference 0 ((own c).both ∙ eq-eqb w.preference 0 e),
       );
       preferences = λ c e.
-          eqb-true v.preference 0 (implied (nat_eq v.preference w.preference) (nat_eq v.preference 0) (own c).zero (eq-eqb v.preference w.preference e));
+          eqb-true v.preference 0 (implied (nat_eq v.preference w.preference) (nat_eq v.preference 0) (own c).zero
+          (eq-eqb v.preference w.preference e));
     }
 
 abbrev is_accepted : Status → Bool
@@ -267,15 +289,21 @@ ceiling_by : (d : DossierRows) (c : CeilingChange) → ceiling_test d c ≡ true
 ceiling_by d c t =
     let parts = and_parts (is_day c.day) _ t in
     let back = and_parts (nat_lt c.school (length d.schools)) _ parts.1 in
-    record { day = day_by c.day parts.0; school = ltb-true c.school (length d.schools) back.0; ceiling = leb-true c.ceiling 2000000000 back.1 }
+    record {
+      day = day_by c.day parts.0;
+      school = ltb-true c.school (length d.schools) back.0;
+      ceiling = leb-true c.ceiling 2000000000 back.1;
+    }
 
 abbrev ceilings_test : CeilingChange → CeilingChange → Bool
 ceilings_test a b = not (nat_eq a.day b.day && nat_eq a.school b.school)
 
 ceilings_by : (a b : CeilingChange) → ceilings_test a b ≡ true → NotSameDay a b
 ceilings_by a b t day school =
-    both_ways (nat_eq a.day b.day && nat_eq a.school b.school) (not-true (nat_eq a.day b.day && nat_eq a.school b.school) t)
-    (and_from (nat_eq a.day b.day) (nat_eq a.school b.school) (eq-eqb a.day b.day day) (eq-eqb a.school b.school school))
+    both_ways (nat_eq a.day b.day && nat_eq a.school b.school)
+    (not-true (nat_eq a.day b.day && nat_eq a.school b.school) t)
+    (and_from (nat_eq a.day b.day) (nat_eq a.school b.school) (eq-eqb a.day b.day day)
+    (eq-eqb a.school b.school school))
 
 abbrev target_test : DossierRows → AnswerKind → ℕ → Bool
 target_test d Quit target = is_among target (candidates_of d)
@@ -283,7 +311,8 @@ target_test d Accept target = nat_lt target (length d.wishes)
 target_test d Refuse target = nat_lt target (length d.wishes)
 target_test d Withdraw target = nat_lt target (length d.wishes)
 
-target_by : (d : DossierRows) (kind : AnswerKind) (target : ℕ) → target_test d kind target ≡ true → IsTarget d kind target
+target_by : (d : DossierRows) (kind : AnswerKind) (target : ℕ) → target_test d kind target ≡ true
+    → IsTarget d kind target
 target_by d Quit target t = t
 target_by d Accept target t = ltb-true target (length d.wishes) t
 target_by d Refuse target t = ltb-true target (length d.wishes) t

@@ -18,7 +18,8 @@ use Rattle.admit_core.specs.State.{State, holds_seat, is_waiting}
 use Rattle.admit_core.specs.Validity.{IsValid}
 use Rattle.admit_core.specs.WorkedDays.{change, day, freeing, in_order}
 use Rattle.admit_core.specs.WorkedRows.{group, marked, programme, ranked, wish}
-use Rattle.envy.specs.AutomaticDays.{IsFair, IsFairEvening, IsFirstEvening, IsLaterEvening, IsRankedPlainly, is_given_up}
+use Rattle.envy.specs.AutomaticDays.{IsFair, IsFairEvening, IsFirstEvening, IsLaterEvening, IsRankedPlainly}
+use Rattle.envy.specs.AutomaticDays.{is_given_up}
 
 abbrev pub ranked_plainly : DossierRows
 ranked_plainly =

@@ -7,12 +7,14 @@ use Rattle.admit_core.specs.declared.records.Fall.{Fall}
 use Rattle.admit_core.specs.declared.state.Mark.{Mark}
 use Rattle.admit_core.specs.declared.state.Status.TheVariants.{Waiting}
 use Rattle.admit_core.specs.Boarding.{boarding}
-use Rattle.admit_core.specs.Falls.{AreFalls, Fits, FallingSystem, IsAtMost, IsGreatest, IsLawful, IsRunOfFalls, Leads, bars_after, falls_by}
+use Rattle.admit_core.specs.Falls.{AreFalls, Fits, FallingSystem, IsAtMost, IsGreatest, IsLawful, IsRunOfFalls, Leads}
+use Rattle.admit_core.specs.Falls.{bars_after, falls_by}
 use Rattle.admit_core.specs.Lists.{is_among}
 use Rattle.admit_core.specs.Proposals.{ahead, demanded_ranks, is_open, is_proposed}
 use Rattle.admit_core.specs.State.{State}
 use Rattle.admit_core.specs.WorkedDays.{fall, two_candidates}
-use Rattle.admit_core.specs.WorkedRows.{boarder, cascade, cascade_orders, greatest_bar, greatest_bar_orders, morning, programme, rows, school, state}
+use Rattle.admit_core.specs.WorkedRows.{boarder, cascade, cascade_orders, greatest_bar, greatest_bar_orders, morning}
+use Rattle.admit_core.specs.WorkedRows.{programme, rows, school, state}
 use Rattle.bar_fixpoint.specs.Runs.{AreAboveAllThatFit, schools_of}
 
 -- the wishes of ranks 2 and 1 for the first programme of `greatest_bar`

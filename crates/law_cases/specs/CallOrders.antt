@@ -1,5 +1,6 @@
 -- Witnesses of the laws of call orders.
-use Rattle.std.specs.Prelude.{◌≡◌, ◌≢◌, ℕ, ◌≤◌, ◌<◌, ◌*◌, true, false, Bool, ◌&&◌, List, [], ◌∷◌, length, take, slice_get, Some, Contains}
+use Rattle.std.specs.Prelude.{◌≡◌, ◌≢◌, ℕ, ◌≤◌, ◌<◌, ◌*◌, true, false, Bool, ◌&&◌, List, [], ◌∷◌, length, take}
+use Rattle.std.specs.Prelude.{slice_get, Some, Contains}
 use Rattle.std.specs.List.{count_by, list_any}
 use Rattle.std.specs.List.Sorted.{IsPermutation}
 use Rattle.admit_core.specs.declared.ranking.Bound.TheVariants.{Alone, Both, Free, Resident, Scholar}
@@ -7,7 +8,8 @@ use Rattle.admit_core.specs.declared.ranking.CallOrder.{CallOrder}
 use Rattle.admit_core.specs.declared.ranking.RankGroup.{RankGroup}
 use Rattle.admit_core.specs.declared.ranking.Ranked.{Ranked}
 use Rattle.admit_core.specs.CallOrder.{IsCallOrder, called, remaining}
-use Rattle.admit_core.specs.CallOrderLaws.{HasLesserRank, IsLeastThatKeeps, KeepsOrderLaws, KeepsRate, KeepsRateAfter, ranked_candidates}
+use Rattle.admit_core.specs.CallOrderLaws.{HasLesserRank, IsLeastThatKeeps, KeepsOrderLaws, KeepsRate, KeepsRateAfter}
+use Rattle.admit_core.specs.CallOrderLaws.{ranked_candidates}
 use Rattle.admit_core.specs.Validity.{IsRanking}
 use Rattle.admit_core.specs.WorkedRows.{four, group, order, ranked, realistic_group, realistic_order}
 

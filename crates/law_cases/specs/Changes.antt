@@ -4,7 +4,8 @@
 -- behind 12 until these quit on day 2, is offered the seat on day 1 where they stand first. And
 -- 11, who ranks three wishes and gets the third, gets it too if the first two change places. In
 -- the summer of three days 13 waits to the end, and the days are the same if they withdrew before.
-use Rattle.std.specs.Prelude.{◌≡◌, ◌∷◌, ◌==◌, ℕ, All, IsTrue, List, None, Option, Some, [], false, if◌then◌else◌, length, slice_get}
+use Rattle.std.specs.Prelude.{◌≡◌, ◌∷◌, ◌==◌, ℕ, All, IsTrue, List, None, Option, Some, [], false, if◌then◌else◌}
+use Rattle.std.specs.Prelude.{length, slice_get}
 use Rattle.std.specs.List.{AllZip}
 use Rattle.admit_core.specs.declared.dossier.AnswerKind.TheVariants.{Quit}
 use Rattle.admit_core.specs.declared.dossier.Wish.{Wish}
@@ -25,7 +26,8 @@ use Rattle.campaign_laws.specs.AutomaticDay.{has_as_good}
 use Rattle.campaign_laws.specs.Kept.{GivesNoAnswer}
 use Rattle.campaign_laws.specs.Moments.{openings}
 use Rattle.campaign_laws.specs.PassedOver.{IsUnbarred, WaitsAt}
-use Rattle.campaign_laws.specs.WorkedCampaign.{before_summer, next_day, summer_days, summer_orders, third_night, thirteenth}
+use Rattle.campaign_laws.specs.WorkedCampaign.{before_summer, next_day, summer_days, summer_orders, third_night}
+use Rattle.campaign_laws.specs.WorkedCampaign.{thirteenth}
 use Rattle.change_laws.specs.Kinder.{IsKinder, IsNotHurt, IsSilent, RanksWishes}
 use Rattle.change_laws.specs.OnePlaceUp.{is_ever_offered}
 use Rattle.change_laws.specs.Unread.{IsUnread, reranked}

@@ -1,5 +1,6 @@
 -- Witnesses of the laws of passes, evenings and chains.
-use Rattle.std.specs.Prelude.{◌≡◌, ℕ, false, ◌+◌, ◌*◌, ◌≤◌, ◌<◌, List, [], ◌∷◌, length, slice_index, slice_set, All, IsTrue}
+use Rattle.std.specs.Prelude.{◌≡◌, ℕ, false, ◌+◌, ◌*◌, ◌≤◌, ◌<◌, List, [], ◌∷◌, length, slice_index, slice_set, All}
+use Rattle.std.specs.Prelude.{IsTrue}
 use Rattle.std.specs.List.{count_by}
 use Rattle.admit_core.specs.declared.chain.DayChain.{DayChain}
 use Rattle.admit_core.specs.declared.dossier.Wish.{Wish}
@@ -22,7 +23,9 @@ use Rattle.admit_core.specs.State.{State, entries, free_beds, is_waiting, seats_
 use Rattle.admit_core.specs.Validity.{IsValid}
 use Rattle.admit_core.specs.WorkedChains.{one_pass, true_line}
 use Rattle.admit_core.specs.WorkedDays.{bed_is_held, fall, quiet, two_candidates}
-use Rattle.admit_core.specs.WorkedRows.{boarder, cascade, cascade_orders, first_marks, first_pass, greatest_bar, greatest_bar_evening, greatest_bar_orders, group, marked, ranked, realistic, realistic_order, the_fall}
+use Rattle.admit_core.specs.WorkedRows.{boarder, cascade, cascade_orders, first_marks, first_pass, greatest_bar}
+use Rattle.admit_core.specs.WorkedRows.{greatest_bar_evening, greatest_bar_orders, group, marked, ranked, realistic}
+use Rattle.admit_core.specs.WorkedRows.{realistic_order, the_fall}
 use Rattle.round.specs.PassLaws.{FitsBeds, FitsSeats, LowersForBeds, new_bed_holders, waiting_boarders}
 use Rattle.linked_demand.specs.Ticks.{AllLower, changes_between, changes_over, rest_under}
 use Rattle.law_cases.specs.Bars.{three_falls}

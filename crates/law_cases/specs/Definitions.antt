@@ -18,7 +18,8 @@ use Rattle.admit_core.specs.Explanations.{LastPass, explained}
 use Rattle.admit_core.specs.Relations.{first_fault}
 use Rattle.admit_core.specs.WorkedChains.{line, one_pass}
 use Rattle.admit_core.specs.WorkedFaults.{boarded, fine, good, programme, school, tables, wish}
-use Rattle.admit_core.specs.WorkedRows.{cascade, cascade_orders, first_pass, limit_state, marked, one_bed, one_bed_orders}
+use Rattle.admit_core.specs.WorkedRows.{cascade, cascade_orders, first_pass, limit_state, marked, one_bed}
+use Rattle.admit_core.specs.WorkedRows.{one_bed_orders}
 use Rattle.admit_core.specs.State.{State}
 use Rattle.bar_fixpoint.specs.Choices.{first_of, last_of, turn_of}
 use Rattle.desk_day.specs.AnswersOn.{IsUnfitOf}

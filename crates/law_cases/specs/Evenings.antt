@@ -1,5 +1,6 @@
 -- Witnesses of the laws of evenings, of nights, of call limits and of those who stand ahead.
-use Rattle.std.specs.Prelude.{◌≡◌, ◌≤◌, ◌+◌, ◌∷◌, ℕ, All, AllPairs, IsTrue, List, None, Option, [], false, length, map, slice_set, sum}
+use Rattle.std.specs.Prelude.{◌≡◌, ◌≤◌, ◌+◌, ◌∷◌, ℕ, All, AllPairs, IsTrue, List, None, Option, [], false, length, map}
+use Rattle.std.specs.Prelude.{slice_set, sum}
 use Rattle.admit_core.specs.declared.dossier.Wish.{Wish}
 use Rattle.admit_core.specs.declared.ranking.CallOrder.{CallOrder}
 use Rattle.admit_core.specs.declared.records.DayRecord.{DayRecord}
@@ -17,12 +18,15 @@ use Rattle.admit_core.specs.Proposals.{ahead}
 use Rattle.admit_core.specs.State.{State, entries, is_waiting, seat_holders}
 use Rattle.admit_core.specs.Validity.{IsValid}
 use Rattle.admit_core.specs.WorkedDays.{day, in_order, quiet, two_candidates}
-use Rattle.admit_core.specs.WorkedRows.{boarder, first_marks, group, limited, marked, ranked, realistic, realistic_order, rows, school, small_dossier, wish}
+use Rattle.admit_core.specs.WorkedRows.{boarder, first_marks, group, limited, marked, ranked, realistic}
+use Rattle.admit_core.specs.WorkedRows.{realistic_order, rows, school, small_dossier, wish}
 use Rattle.evening_laws.specs.FewPasses.{given_up}
 use Rattle.evening_laws.specs.Idle.{IsNotKeptWaiting, are_both_idle}
 use Rattle.campaign_laws.specs.Moments.{Opening, moments, openings}
 use Rattle.campaign_laws.specs.Room.{FitsSeatsAndLimitOf, beyond_limit}
-use Rattle.campaign_laws.specs.WorkedCampaign.{before_summer, first_night, next_day, second_night, small_days, small_night, small_orders, summer_days, summer_orders, third_night, thirteenth}
+use Rattle.campaign_laws.specs.WorkedCampaign.{before_summer, first_night, next_day, second_night, small_days}
+use Rattle.campaign_laws.specs.WorkedCampaign.{small_night, small_orders, summer_days, summer_orders, third_night}
+use Rattle.campaign_laws.specs.WorkedCampaign.{thirteenth}
 use Rattle.campaign_bars.specs.Ahead.{EachToNext, NoBarRose, NoMoreAhead, NotSameProgramme}
 use Rattle.campaign_bars.specs.HeldBeds.{NoMoreThan}
 use Rattle.campaign_bars.specs.MoreBeds.{HasSameDays, StandsAtCeiling}

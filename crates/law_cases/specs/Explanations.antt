@@ -12,7 +12,8 @@ use Rattle.admit_core.specs.EveningLaws.{last_bars}
 use Rattle.admit_core.specs.Explanations.{LastPass, explained}
 use Rattle.admit_core.specs.State.{State}
 use Rattle.admit_core.specs.WorkedDays.{day, fall, quiet, two_candidates}
-use Rattle.admit_core.specs.WorkedRows.{first_marks, greatest_bar, greatest_bar_evening, greatest_bar_orders, group, ranked, realistic, realistic_order}
+use Rattle.admit_core.specs.WorkedRows.{first_marks, greatest_bar, greatest_bar_evening, greatest_bar_orders, group}
+use Rattle.admit_core.specs.WorkedRows.{ranked, realistic, realistic_order}
 use Rattle.bar_fixpoint.specs.Choices.{first_of}
 use Rattle.desk_day.specs.DayLaws.{SameDayButFalls}
 use Rattle.desk_day.specs.LastPasses.{IsLastPass, last_of, last_pass}

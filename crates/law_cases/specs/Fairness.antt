@@ -1,5 +1,6 @@
 -- Witnesses of what the rules promise a candidate, on dossiers that also show what they do not.
-use Rattle.std.specs.Prelude.{◌≡◌, ℕ, ◌≤◌, ◌<◌, true, false, ◌&&◌, List, [], ◌∷◌, slice_get, slice_index, Some, Contains, IsTrue}
+use Rattle.std.specs.Prelude.{◌≡◌, ℕ, ◌≤◌, ◌<◌, true, false, ◌&&◌, List, [], ◌∷◌, slice_get, slice_index, Some}
+use Rattle.std.specs.Prelude.{Contains, IsTrue}
 use Rattle.admit_core.specs.declared.dossier.Wish.{Wish}
 use Rattle.admit_core.specs.declared.ranking.Bound.TheVariants.{Alone, Both, Free, Resident, Scholar}
 use Rattle.admit_core.specs.declared.ranking.CallOrder.{CallOrder}
@@ -17,7 +18,8 @@ use Rattle.admit_core.specs.Proposals.{before, is_barred, is_open, is_proposed}
 use Rattle.admit_core.specs.Standing.{dossier_of}
 use Rattle.admit_core.specs.State.{State, has_school}
 use Rattle.admit_core.specs.Validity.{IsRanking, IsValid}
-use Rattle.admit_core.specs.WorkedRows.{boarder, first_pass, greatest_bar, greatest_bar_orders, group, limit_state, morning, order, ranked, realistic_group, realistic_order, wish}
+use Rattle.admit_core.specs.WorkedRows.{boarder, first_pass, greatest_bar, greatest_bar_orders, group, limit_state}
+use Rattle.admit_core.specs.WorkedRows.{morning, order, ranked, realistic_group, realistic_order, wish}
 use Rattle.fairness.specs.Exchanges.{AreNeighbours, IsMovedUp, exchanged_in, with_ranks_exchanged}
 use Rattle.fairness.specs.NotPromised.{plain, with_first_school, with_second_ranking}
 use Rattle.fairness.specs.OrderPromises.{IsBetterFor, IsCalledNoLater}

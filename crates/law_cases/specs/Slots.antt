@@ -1,7 +1,8 @@
 -- Worked slots: the rows of a few bytes, and a slot of each fault of shape.
 use Rattle.std.specs.Prelude.{◌≡◌, ℕ, true, false, List, [], ◌∷◌, codes, Some, None, Ok, Err}
 use Rattle.admit_core.specs.declared.dossier.AnswerKind.TheVariants.{Withdraw}
-use Rattle.admit_core.specs.declared.refusal.Reason.TheVariants.{FieldCount, Header, NotDate, NotFlag, NotNumber, NotWord, OutOfRange, TooManyRows}
+use Rattle.admit_core.specs.declared.refusal.Reason.TheVariants.{FieldCount, Header, NotDate, NotFlag, NotNumber}
+use Rattle.admit_core.specs.declared.refusal.Reason.TheVariants.{NotWord, OutOfRange, TooManyRows}
 use Rattle.admit_core.specs.declared.slot.Slot.TheVariants as slot
 use Rattle.admit_core.specs.declared.state.Status.TheVariants as status
 use Rattle.dossier_csv.specs.Rows.{answers, ceilings, groups, programmes, rankings, schools, state, wishes}

@@ -1,5 +1,6 @@
 -- Lists of numbers below a count, none twice.
-use Rattle.std.proofs.Common.{ℕ, ◌≤◌, ◌<◌, ◌≡◌, Bool, true, false, ◌||◌, List, length, take, get_or, refl, sym, ◌∙◌, arith, nat_eq, nat_lt}
+use Rattle.std.proofs.Common.{ℕ, ◌≤◌, ◌<◌, ◌≡◌, Bool, true, false, ◌||◌, List, length, take, get_or, refl, sym, ◌∙◌}
+use Rattle.std.proofs.Common.{arith, nat_eq, nat_lt}
 use Rattle.std.specs.List.{list_all, position_or_len, IsDistinct}
 use Rattle.std.proofs.lemmas.Bool.{and_parts, eq-eqb, ltb-true}
 use Rattle.std.proofs.lemmas.Cmp.{nat_eq_equiv}
@@ -11,7 +12,8 @@ use Rattle.markets.specs.Firsts.{one_of_all}
 use Rattle.markets.specs.Positions.{distinct_from, first_place, at_first}
 
 pub is_distinct_from : (xs : List ℕ) → IsDistinct nat_eq xs → is_distinct xs ≡ true
-is_distinct_from xs apart = eq-eqb (length (distinct xs)) (length xs) (distinct_count-from_IsDistinct nat_eq_equiv xs apart)
+is_distinct_from xs apart = eq-eqb (length (distinct xs)) (length xs) (distinct_count-from_IsDistinct nat_eq_equiv xs
+    apart)
 
 -- the parts of a list of numbers below a count
 pub list_distinct : (n : ℕ) (xs : List ℕ) → is_list_below n xs ≡ true → IsDistinct nat_eq xs
@@ -26,7 +28,8 @@ last_differs true b e = refl
 last_differs false b e = rw e refl
 
 -- one of a front stands at a place of it
-pub earlier : (p : ℕ) (xs : List ℕ) (k : ℕ) → k ≤ length xs → is_among p (take k xs) ≡ true → (j : ℕ) × ((j < k) × (get_or xs j 0 ≡ p))
+pub earlier : (p : ℕ) (xs : List ℕ) (k : ℕ) → k ≤ length xs → is_among p (take k xs) ≡ true
+    → (j : ℕ) × ((j < k) × (get_or xs j 0 ≡ p))
 earlier p xs k le t =
     let j : ℕ = position_or_len (nat_eq p) (take k xs) in
     let j_lt : j < k = omega (arith, first_place p (take k xs) t, length-take-le k xs le) in

@@ -1,5 +1,6 @@
 -- No stable matching is better for anyone than that of the greatest bars: each stable matching has bars that fit.
-use Rattle.std.proofs.Common.{ℕ, ◌≤◌, ◌<◌, ◌≡◌, Bool, true, false, not, List, map, length, get_or, refl, sym, ◌∙◌, ap, arith, nat_eq, nat_lt, inl, inr}
+use Rattle.std.proofs.Common.{ℕ, ◌≤◌, ◌<◌, ◌≡◌, Bool, true, false, not, List, map, length, get_or, refl, sym, ◌∙◌, ap}
+use Rattle.std.proofs.Common.{arith, nat_eq, nat_lt, inl, inr}
 use Rattle.std.specs.Prelude.{Option, Some, slice_index}
 use Rattle.std.specs.List.{list_any, position_or_len, range_with_len}
 use Rattle.std.proofs.lemmas.Bool.{cases_lt, or_right, lt-ltb, lt-leb, le-leb, eq-eqb, false≢true, false_from_ne_true}
@@ -12,7 +13,8 @@ use Rattle.markets.specs.Markets.{MarketRows, IsMarket, list_of, market_order, l
 use Rattle.markets.specs.Matchings.{place_of, is_at, holders, prefers, would_take, IsStable, IsBestForAll}
 use Rattle.markets.specs.Bars.{is_within, best_within, matched_under, market_system}
 use Rattle.markets.specs.Firsts.{among_before, among_filter, any_of, range_has, found_at}
-use Rattle.markets.specs.Positions.{is_candidate, is_programme, in_order, order_distinct, first_place, at_first, only_place, position_is}
+use Rattle.markets.specs.Positions.{is_candidate, is_programme, in_order, order_distinct, first_place, at_first}
+use Rattle.markets.specs.Positions.{only_place, position_is}
 use Rattle.markets.proofs.Held.{holders_are_demanded}
 use Rattle.markets.proofs.Stable.{ceiling_is, beyond_reach}
 
@@ -61,7 +63,8 @@ module _ (m : MarketRows) (is : IsMarket m) (places : List (Option ℕ)) (stable
       let at_i : get_or order i 0 ≡ x = at_first x order (in_order m is p x on_list) in
       let holds : is_at p (place_of places x) ≡ true = ap (is_at p) at ∙ eq-eqb p p refl in
       let content : test x ≡ false =
-      false_from_ne_true (test x) (λ t. false≢true (sym (among_before (λ q. is_at q (place_of places x)) p (list_of m x) t).1 ∙ holds)) in
+      false_from_ne_true (test x)
+      (λ t. false≢true (sym (among_before (λ q. is_at q (place_of places x)) p (list_of m x) t).1 ∙ holds)) in
       let j : ℕ = position_or_len test order in
       let within : i < j =
       elim (cases_lt i j) [
@@ -80,13 +83,16 @@ module _ (m : MarketRows) (is : IsMarket m) (places : List (Option ℕ)) (stable
                   absurd (false≢true (sym content ∙ ap test (sym here) ∙ wants))
             ] in
             let earlier : nat_lt (market_position m p y) (market_position m p x) ≡ true =
-            lt-ltb (market_position m p y) (market_position m p x) (omega (arith, position_is m p y, position_is m p x, y_at, apart)) in
+            lt-ltb (market_position m p y) (market_position m p x)
+            (omega (arith, position_is m p y, position_is m p x, y_at, apart)) in
             let held : is_among x (holders places p) ≡ true =
             (let range : List ℕ = range_with_len 0 (length places) in
             let in_range : is_among x range ≡ true =
-            range_has x 0 (length places) (omega arith) (omega (arith, is_candidate m is p x on_list, stable.matching.one_place_each)) in
+            range_has x 0 (length places) (omega arith)
+            (omega (arith, is_candidate m is p x on_list, stable.matching.one_place_each)) in
             among_filter (λ z. is_at p (place_of places z)) x range ∙ rw (in_range, holds) refl) in
-            let later : list_any (λ z. nat_lt (market_position m p y) (market_position m p z)) (holders places p) ≡ true =
+            let later : list_any (λ z. nat_lt (market_position m p y) (market_position m p z)) (holders places p)
+            ≡ true =
             any_of (λ z. nat_lt (market_position m p y) (market_position m p z)) x (holders places p) held earlier in
             let taken : would_take m places p y ≡ true =
             or_right (nat_lt (length (holders places p)) (slice_index m.seats p))
@@ -100,7 +106,11 @@ module _ (m : MarketRows) (is : IsMarket m) (places : List (Option ℕ)) (stable
   same_places x =
       sym (found_at (is_within m bars_left x) (place_of places x) (list_of m x)
       (λ q t. lt-leb (market_position m q x) (slice_index bars_left q) (left_out x q t))
-      (λ p at. (stable.matching.listed x p at, le-leb (market_position m p x) (slice_index bars_left p) (kept_within x p at))))
+      (λ p at. (
+        stable.matching.listed x p at,
+        le-leb (market_position m p x) (slice_index bars_left p)
+            (kept_within x p at),
+      )))
 
   -- they are no higher than the ceilings
   under : IsAtMost bars_left (map length m.orders)
@@ -111,7 +121,13 @@ module _ (m : MarketRows) (is : IsMarket m) (places : List (Option ℕ)) (stable
         each = λ p.
             elim (cases_lt p (length m.orders)) [
               | inl lt ↦
-                  omega (arith, bar_is p lt, ceiling_is m p, prefix_len-le-length (λ x. not (prefers m places x p)) (market_order m p))
+                  omega (
+                    arith,
+                    bar_is p lt,
+                    ceiling_is m p,
+                    prefix_len-le-length (λ x. not (prefers m places x p))
+                        (market_order m p),
+                  )
               | inr past ↦ omega (arith, get_or_past bars_left p 0 (omega (arith, past, bars_each)))
             ];
       }
@@ -134,7 +150,12 @@ module _ (m : MarketRows) (is : IsMarket m) (places : List (Option ℕ)) (stable
       → prefers m (matched_under m bars) x p ≡ false
   not_better bars greatest x p at =
       false_from_ne_true (prefers m (matched_under m bars) x p) (λ t.
-      omega (arith, beyond_reach m bars x p t, kept_within x p at, (greatest.greatest bars_left stable_bars_fit).each p))
+      omega (
+        arith,
+        beyond_reach m bars x p t,
+        kept_within x p at,
+        (greatest.greatest bars_left stable_bars_fit).each p,
+      ))
 
 pub greatest_is_best : (m : MarketRows) (bars : List ℕ) → IsMarket m → IsGreatest (market_system m) bars
     → IsBestForAll m (matched_under m bars)

@@ -1,11 +1,14 @@
 -- The orders of a dossier's market have those who list their programmes, and nobody else.
-use Rattle.std.proofs.Common.{ℕ, ◌+◌, ◌≤◌, ◌<◌, ◌≡◌, Bool, true, false, not, cond, ◌&&◌, List, [], ◌∷◌, ◌++◌, map, length, take, get_or, filter, inl, inr, refl, sym, ◌∙◌, ap, subst, arith, nat_eq, Some, None, Result, Ok, Err}
+use Rattle.std.proofs.Common.{ℕ, ◌+◌, ◌≤◌, ◌<◌, ◌≡◌, Bool, true, false, not, cond, ◌&&◌, List, [], ◌∷◌, ◌++◌, map}
+use Rattle.std.proofs.Common.{length, take, get_or, filter, inl, inr, refl, sym, ◌∙◌, ap, subst, arith, nat_eq, Some}
+use Rattle.std.proofs.Common.{None, Result, Ok, Err}
 use Rattle.std.specs.Prelude.{All, slice_index_or}
 use Rattle.std.specs.List.{list_all, position, position_or_len, range_with_len, IsDistinct, AllByRecursion}
 use Rattle.std.specs.List.Sorted.{IsStrictlyIncreasing, IsBinarySearchResult}
 use Rattle.std.specs.Ordering.{nat_cmp}
 use Rattle.std.specs.Result.{is_ok, MatchResult}
-use Rattle.std.proofs.lemmas.Bool.{cases_Bool, cases_lt, and_parts, and_from, or_cases, or_left, or_right, eqb-true, eq-eqb, ne_eqb, lt-ltb, false≢true, false_from_ne_true}
+use Rattle.std.proofs.lemmas.Bool.{cases_Bool, cases_lt, and_parts, and_from, or_cases, or_left, or_right, eqb-true}
+use Rattle.std.proofs.lemmas.Bool.{eq-eqb, ne_eqb, lt-ltb, false≢true, false_from_ne_true}
 use Rattle.std.proofs.lemmas.List.{length-map, map-append, take_more, get_or_past, get_or-map, get_or_default}
 use Rattle.std.proofs.lemmas.List.Elements.{filter-append}
 use Rattle.std.proofs.lemmas.List.Filters.{length-filter_both}
@@ -25,7 +28,8 @@ use Rattle.admit_core.specs.declared.ranking.CallOrder.{CallOrder}
 use Rattle.admit_core.proofs.Tests.{among-map}
 use Rattle.proposals.proofs.Calling.{all_called}
 use Rattle.linked_demand.proofs.Seating.{called_once}
-use Rattle.markets.specs.Markets.{MarketRows, IsMarket, IsSmall, is_list_below, is_distinct, lists_it, listers, market_order}
+use Rattle.markets.specs.Markets.{MarketRows, IsMarket, IsSmall, is_list_below, is_distinct, lists_it, listers}
+use Rattle.markets.specs.Markets.{market_order}
 use Rattle.markets.specs.Listers.{AreLists, naming}
 use Rattle.markets.specs.Dossiers.{counts, counted, named, own, by_preference, lists_in, called_in, market_of}
 use Rattle.markets.specs.Firsts.{all_of, among_filter, range_has}
@@ -50,7 +54,8 @@ module _ (ws : List Wish) (p x : ℕ) (names : names_it ws p x ≡ true) where
         | inl lt ↦ lt
         | inr past ↦
             let none : slice_index_or (lists_in ws) x [] ≡ [] =
-            get_or_past (lists_in ws) x [] (omega (arith, past, length-map (named ws) (λ k. by_preference (own ws k)))) in
+            get_or_past (lists_in ws) x []
+            (omega (arith, past, length-map (named ws) (λ k. by_preference (own ws k)))) in
             absurd (false≢true (sym (ap (is_among p) none) ∙ names))
       ]
 
@@ -63,15 +68,18 @@ module _ (ws : List Wish) (p x : ℕ) (names : names_it ws p x ≡ true) where
 
 -- a number that is one of the market's is that of one candidate alone
 named_at : (ws : List Wish) (c : ℕ) → number ws c < length (named ws) → c ≡ get_or (named ws) (number ws c) 0
-named_at ws c lt = eqb-true c (get_or (named ws) (position_or_len (nat_eq c) (named ws)) 0) (passes_at_first (nat_eq c) (named ws) 0 lt)
+named_at ws c lt = eqb-true c (get_or (named ws) (position_or_len (nat_eq c) (named ws)) 0)
+    (passes_at_first (nat_eq c) (named ws) 0 lt)
 
 -- what stands in what is made of a list is made of one of it
-from_map : (f : ℕ → ℕ) (q : ℕ) (xs : List ℕ) → is_among q (map f xs) ≡ true → (c : ℕ) × ((is_among c xs ≡ true) × (q ≡ f c))
+from_map : (f : ℕ → ℕ) (q : ℕ) (xs : List ℕ) → is_among q (map f xs) ≡ true
+    → (c : ℕ) × ((is_among c xs ≡ true) × (q ≡ f c))
 from_map f q [] t = absurd (false≢true t)
 from_map f q (x ∷ xs) t =
     elim (or_cases (nat_eq q (f x)) (is_among q (map f xs)) t) [
       | inl here ↦ (x, (or_left (nat_eq x x) (is_among x xs) (eq-eqb x x refl), eqb-true q (f x) here))
-      | inr later ↦ let (c, (among, is)) = from_map f q xs later in (c, (or_right (nat_eq c x) (is_among c xs) among, is))
+      | inr later ↦ let (c, (among, is)) = from_map f q xs later in
+          (c, (or_right (nat_eq c x) (is_among c xs) among, is))
     ]
 
 -- one who differs from all of a list isn't in it
@@ -83,7 +91,8 @@ differs c (x ∷ xs) all t =
       | inr later ↦ differs c xs all.1 later
     ]
 
-all_differ : (x : ℕ) (xs : List ℕ) → ((q : ℕ) → is_among q xs ≡ true → nat_eq x q ≡ false) → AllByRecursion (λ y. nat_eq x y ≡ false) xs
+all_differ : (x : ℕ) (xs : List ℕ) → ((q : ℕ) → is_among q xs ≡ true → nat_eq x q ≡ false)
+    → AllByRecursion (λ y. nat_eq x y ≡ false) xs
 all_differ x [] each = tt
 all_differ x (y ∷ ys) each = (
   each y (or_left (nat_eq y y) (is_among y ys) (eq-eqb y y refl)),
@@ -108,7 +117,8 @@ numbers_apart ws p (c ∷ cs) apart =
           let (b, (there, is)) = from_map (number ws) q cs both.0 in
           let x_lt : number ws c < length (named ws) = is_number ws p x names in
           let b_lt : number ws b < length (named ws) = omega (arith, x_lt, same, is) in
-          let one : c ≡ b = named_at ws c x_lt ∙ ap (λ k. get_or (named ws) k 0) (same ∙ is) ∙ sym (named_at ws b b_lt) in
+          let one : c ≡ b = named_at ws c x_lt ∙ ap (λ k. get_or (named ws) k 0) (same ∙ is)
+          ∙ sym (named_at ws b b_lt) in
           differs c cs (IsDistinct-head nat_eq c cs apart) (ap (λ k. is_among k cs) one ∙ there))) in
           rw names (IsDistinct-cons nat_eq x later others rest)
       | inr fails ↦ rw fails rest
@@ -119,8 +129,16 @@ module _ (d : DossierRows) (valid : IsValid d) (orders : List CallOrder) (are : 
   each_called : All (λ (w : Wish). is_among w.candidate (order_of d orders w.programme) ≡ true) d.wishes
   each_called k e lt =
       let P : Wish → Type 0 = λ w. is_among w.candidate (order_of d orders w.programme) ≡ true in
-      let none : Wish = record { id = 0; candidate = 0; programme = 0; school = None; board_rank = 0; preference = 0 } in
-      subst P (unwrap_or-slice_get d.wishes k none ∙ get_or_default d.wishes k none e lt) ((all_called d valid orders are).each k lt)
+      let none : Wish = record {
+        id = 0;
+        candidate = 0;
+        programme = 0;
+        school = None;
+        board_rank = 0;
+        preference = 0;
+      } in
+      subst P (unwrap_or-slice_get d.wishes k none ∙ get_or_default d.wishes k none e lt)
+      ((all_called d valid orders are).each k lt)
 
   -- an order is one: it has those who list the programme, and nobody else
   order_is_one : (p : ℕ) → p < length d.programmes
@@ -135,7 +153,8 @@ module _ (d : DossierRows) (valid : IsValid d) (orders : List CallOrder) (are : 
       let numbers : List ℕ = map (number ws) call in
       let order : List ℕ = called_in ws p call in
       let range : List ℕ = range_with_len 0 (length (lists_in ws)) in
-      let once : is_distinct order ≡ true = is_distinct_from order (numbers_apart ws p call (called_once d valid orders are p)) in
+      let once : is_distinct order ≡ true = is_distinct_from order (numbers_apart ws p call
+      (called_once d valid orders are p)) in
       let list : list_all (names_it ws p) order ≡ true =
       all_of (names_it ws p) order (λ x among.
       (and_parts (is_among x numbers) (names_it ws p x) (sym (among_filter (names_it ws p) x numbers) ∙ among)).1) in
@@ -145,7 +164,8 @@ module _ (d : DossierRows) (valid : IsValid d) (orders : List CallOrder) (are : 
       (and_parts (is_among x range) (names_it ws p x) (sym (among_filter (names_it ws p) x range) ∙ among)).1 in
       let c : ℕ = get_or (named ws) x 0 in
       let P : Wish → Type 0 = λ w. is_among w.candidate (order_of d orders w.programme) ≡ true in
-      let (w, (called, for)) = one_counted d P (is_for p c) each_called (sym (lists_wish ws p c) ∙ their_list ws p x names) in
+      let (w, (called, for)) = one_counted d P (is_for p c) each_called
+      (sym (lists_wish ws p c) ∙ their_list ws p x names) in
       let parts = and_parts (nat_eq c w.candidate) (nat_eq p w.programme) for in
       let in_call : is_among c call ≡ true =
       ap (λ k. is_among k call) (eqb-true c w.candidate parts.0)
@@ -155,8 +175,10 @@ module _ (d : DossierRows) (valid : IsValid d) (orders : List CallOrder) (are : 
       among_filter (names_it ws p) x numbers ∙ and_from (is_among x numbers) (names_it ws p x) in_numbers names) in
       rw (once, list, whole) refl
 
-  order_at : (p : ℕ) → p < length d.programmes → market_order (market_of d orders) p ≡ called_in (counted d) p (order_of d orders p)
-  order_at p lt = get_or-map-range_with_len (λ q. called_in (counted d) q (order_of d orders q)) 0 (length d.programmes) p p [] lt
+  order_at : (p : ℕ) → p < length d.programmes
+      → market_order (market_of d orders) p ≡ called_in (counted d) p (order_of d orders p)
+  order_at p lt = get_or-map-range_with_len (λ q. called_in (counted d) q (order_of d orders q)) 0
+      (length d.programmes) p p [] lt
       (omega arith)
 
   pub orders_long : length (market_of d orders).orders ≡ length d.programmes
@@ -169,7 +191,8 @@ module _ (d : DossierRows) (valid : IsValid d) (orders : List CallOrder) (are : 
       let x_lt : x < length (named ws) = omega (arith, lt, length-map (named ws) (λ k. by_preference (own ws k))) in
       let P : List ℕ → Type 0 = λ list. is_list_below n list ≡ true in
       subst P (sym (get_or-map (λ k. by_preference (own ws k)) (named ws) x 0 [] x_lt))
-      (ap (λ k. is_list_below k (by_preference (own ws (get_or (named ws) x 0)))) is ∙ is_list_of d valid (get_or (named ws) x 0))
+      (ap (λ k. is_list_below k (by_preference (own ws (get_or (named ws) x 0)))) is
+      ∙ is_list_of d valid (get_or (named ws) x 0))
 
   pub market_stands : IsMarket (market_of d orders)
   market_stands =
@@ -204,10 +227,12 @@ module _ (d : DossierRows) (valid : IsValid d) (orders : List CallOrder) (are : 
 
 -- those who list a programme rise
 pub listers_rise : (lists : List (List ℕ)) (p n : ℕ) → IsStrictlyIncreasing (naming lists p n)
-listers_rise lists p n = IsStrictlyIncreasing-filter (λ x. is_among p (slice_index_or lists x [])) (range_with_len 0 n) (range_rises 0 n)
+listers_rise lists p n = IsStrictlyIncreasing-filter (λ x. is_among p (slice_index_or lists x [])) (range_with_len 0 n)
+    (range_rises 0 n)
 
 -- and are those whose lists name it
-pub called_by_listers : (ws : List Wish) (p : ℕ) (order listers : List ℕ) → listers ≡ naming (lists_in ws) p (length (lists_in ws))
+pub called_by_listers : (ws : List Wish) (p : ℕ) (order listers : List ℕ)
+    → listers ≡ naming (lists_in ws) p (length (lists_in ws))
     → filter (λ x. is_among x listers) (map (λ c. position_or_len (nat_eq c) (named ws)) order) ≡ called_in ws p order
 called_by_listers ws p order listers is =
     let lists : List (List ℕ) = lists_in ws in
@@ -232,7 +257,8 @@ none_called [] xs none = sym (nobody xs)
 none_called (l ∷ ls) xs none = absurd (omega (arith, none))
 
 -- a candidate more of an order
-pub called_more : (t : ℕ → Bool) (f : ℕ → ℕ) (order : List ℕ) (i c : ℕ) (passes : Bool) → i < length order → c ≡ get_or order i 0
+pub called_more : (t : ℕ → Bool) (f : ℕ → ℕ) (order : List ℕ) (i c : ℕ) (passes : Bool) → i < length order
+    → c ≡ get_or order i 0
     → passes ≡ t (f c)
     → filter t (map f (take (i + 1) order)) ≡ filter t (map f (take i order)) ++ cond passes (f c ∷ []) []
 called_more t f order i c passes lt read told =
@@ -247,14 +273,16 @@ pub place_of_none : (test : ℕ → Bool) (xs : List ℕ) → position test xs �
 place_of_none test xs none =
     elim (cases_lt (position_or_len test xs) (length xs)) [
       | inl lt ↦
-          let some : position test xs ≡ Some (position_or_len test xs) = rw (lt-ltb (position_or_len test xs) (length xs) lt) refl in
+          let some : position test xs ≡ Some (position_or_len test xs) =
+          rw (lt-ltb (position_or_len test xs) (length xs) lt) refl in
           let no : Some (position_or_len test xs) ≡ None = sym some ∙ none in
           absurd (cc no)
       | inr le ↦ omega (arith, le, prefix_len-le-length (λ x. not (test x)) xs)
     ]
 
 -- whether a number stands in a rising list, by a search
-pub found_in : (xs : List ℕ) (x : ℕ) (r : Result ℕ ℕ) → IsStrictlyIncreasing xs → IsBinarySearchResult (λ y. nat_cmp y x) xs r
+pub found_in : (xs : List ℕ) (x : ℕ) (r : Result ℕ ℕ) → IsStrictlyIncreasing xs
+    → IsBinarySearchResult (λ y. nat_cmp y x) xs r
     → is_ok r ≡ is_among x xs
 found_in xs x r rises is = by r (searched xs x r is up)
   where
@@ -266,7 +294,8 @@ found_in xs x r rises is = by r (searched xs x r is up)
         ]
 
     by : (s : Result ℕ ℕ) → MatchResult s (λ i. (i < length xs) × (get_or xs i 0 ≡ x))
-        (λ i. (i ≤ length xs) × ((k : ℕ) → k < i → get_or xs k 0 < x) × ((k : ℕ) → i ≤ k → k < length xs → x < get_or xs k 0))
+        (λ i. (i ≤ length xs) × ((k : ℕ) → k < i → get_or xs k 0 < x)
+        × ((k : ℕ) → i ≤ k → k < length xs → x < get_or xs k 0))
         → is_ok s ≡ is_among x xs
     by (Ok i) (lt, at) = sym (ap (λ y. is_among y xs) (sym at) ∙ among_at xs i lt)
     by (Err i) (le, below, above) =
@@ -280,13 +309,17 @@ found_in xs x r rises is = by r (searched xs x r is up)
         ]))
 
 -- the parts of a dossier's market
-pub market_is : (d : DossierRows) (orders : List CallOrder) (ws : List Wish) (names : List ℕ) (lists called : List (List ℕ))
+pub market_is : (d : DossierRows) (orders : List CallOrder) (ws : List Wish) (names : List ℕ)
+    (lists called : List (List ℕ))
     (seats : List ℕ)
-    → ws ≡ counted d → names ≡ named ws → lists ≡ map (λ c. by_preference (own ws c)) names → called ≡ (market_of d orders).orders
+    → ws ≡ counted d → names ≡ named ws → lists ≡ map (λ c. by_preference (own ws c)) names
+    → called ≡ (market_of d orders).orders
     → seats ≡ (market_of d orders).seats
     → record { lists = lists; orders = called; seats = seats } ≡ market_of d orders
 market_is d orders ws names lists called seats ws_are names_are lists_are called_are seats_are =
     let m : MarketRows = market_of d orders in
-    let made : List (List ℕ) → List (List ℕ) → List ℕ → MarketRows = λ ls os ss. record { lists = ls; orders = os; seats = ss } in
+    let made : List (List ℕ) → List (List ℕ) → List ℕ → MarketRows =
+    λ ls os ss. record { lists = ls; orders = os; seats = ss } in
     let all : lists ≡ m.lists = lists_are ∙ ap (map (λ c. by_preference (own ws c))) names_are ∙ ap lists_in ws_are in
-    ap (λ ls. made ls called seats) all ∙ ap (λ os. made m.lists os seats) called_are ∙ ap (made m.lists m.orders) seats_are
+    ap (λ ls. made ls called seats) all ∙ ap (λ os. made m.lists os seats) called_are
+    ∙ ap (made m.lists m.orders) seats_are

@@ -1,5 +1,6 @@
 -- Every lawful system has greatest bars: those that the falls of the first overfilled place lead to.
-use Rattle.std.proofs.Common.{ℕ, zero, suc, ◌≤◌, ◌<◌, ◌≡◌, true, List, [], ◌∷◌, ◌++◌, length, get_or, refl, sym, ap, subst, arith}
+use Rattle.std.proofs.Common.{ℕ, zero, suc, ◌≤◌, ◌<◌, ◌≡◌, true, List, [], ◌∷◌, ◌++◌, length, get_or, refl, sym, ap}
+use Rattle.std.proofs.Common.{subst, arith}
 use Rattle.std.specs.Prelude.{All, sum}
 use Rattle.std.specs.List.{range_with_len}
 use Rattle.std.proofs.lemmas.List.Elements.{filter_passes}
@@ -23,7 +24,8 @@ module _ (sys : FallingSystem) (lawful : IsLawful sys) where
       → PickedFall sys first told bars (fall_of sys bars i) (told ++ i ∷ []) (fallen bars (fall_of sys bars i))
   first_falls bars told i is list =
       let over : ℕ → Type 0 = λ j. is_overfilled sys bars j ≡ true in
-      let all : All over (i ∷ is) = subst (All over) list (filter_passes (is_overfilled sys bars) (range_with_len 0 (length sys.ceilings)))
+      let all : All over (i ∷ is) = subst (All over) list (filter_passes (is_overfilled sys bars)
+      (range_with_len 0 (length sys.ceilings)))
       in
       record {
         overfilled = all 0 i (omega arith);
@@ -37,27 +39,38 @@ module _ (sys : FallingSystem) (lawful : IsLawful sys) where
       → (greatest : List ℕ) × IsGreatest sys greatest
   falls_on zero falls bars told so_far le =
       by_list (all_overfilled sys bars)
-      (λ none. (bars, greatest_so_far sys lawful first [] falls bars told so_far (settled_from_none sys bars [] (sym none) refl)))
+      (λ none. (
+        bars,
+        greatest_so_far sys lawful first [] falls bars told so_far
+            (settled_from_none sys bars [] (sym none) refl),
+      ))
       (λ i is list.
       let f : Fall = fall_of sys bars i in
       absurd (omega (
         arith,
         le,
-        sum_falls sys lawful first told bars f (told ++ i ∷ []) (fallen bars f) (under_so_far sys lawful first [] falls bars told so_far)
+        sum_falls sys lawful first told bars f (told ++ i ∷ []) (fallen bars f)
+            (under_so_far sys lawful first [] falls bars told so_far)
             (first_falls bars told i is list),
       )))
   falls_on (suc fuel) falls bars told so_far le =
       by_list (all_overfilled sys bars)
-      (λ none. (bars, greatest_so_far sys lawful first [] falls bars told so_far (settled_from_none sys bars [] (sym none) refl)))
+      (λ none. (
+        bars,
+        greatest_so_far sys lawful first [] falls bars told so_far
+            (settled_from_none sys bars [] (sym none) refl),
+      ))
       (λ i is list.
       let f : Fall = fall_of sys bars i in
       let fell = first_falls bars told i is list in
       let less : sum (fallen bars f) < sum bars =
-      sum_falls sys lawful first told bars f (told ++ i ∷ []) (fallen bars f) (under_so_far sys lawful first [] falls bars told so_far)
+      sum_falls sys lawful first told bars f (told ++ i ∷ []) (fallen bars f)
+      (under_so_far sys lawful first [] falls bars told so_far)
       fell in
       falls_on fuel (falls ++ f ∷ []) (fallen bars f) (told ++ i ∷ [])
       (one_more sys lawful first [] falls bars told f (told ++ i ∷ []) (fallen bars f) so_far fell)
       (omega (arith, le, less)))
 
   pub greatest_exists : (greatest : List ℕ) × IsGreatest sys greatest
-  greatest_exists = falls_on (sum sys.ceilings) [] sys.ceilings [] (none_so_far sys lawful first [] sys.ceilings refl) (omega arith)
+  greatest_exists = falls_on (sum sys.ceilings) [] sys.ceilings [] (none_so_far sys lawful first [] sys.ceilings refl)
+      (omega arith)

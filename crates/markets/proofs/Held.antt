@@ -1,5 +1,6 @@
 -- Who holds a place in a programme under bars: as many as the positions that are demanded.
-use Rattle.std.proofs.Common.{ℕ, suc, ◌+◌, ◌-◌, ◌≤◌, ◌<◌, ◌≡◌, Bool, true, false, ◌&&◌, List, [], ◌∷◌, length, get_or, refl, sym, ◌∙◌, ap, arith, filter, inl, inr}
+use Rattle.std.proofs.Common.{ℕ, suc, ◌+◌, ◌-◌, ◌≤◌, ◌<◌, ◌≡◌, Bool, true, false, ◌&&◌, List, [], ◌∷◌, length, get_or}
+use Rattle.std.proofs.Common.{refl, sym, ◌∙◌, ap, arith, filter, inl, inr}
 use Rattle.std.specs.Prelude.{Option, None, find}
 use Rattle.std.specs.List.{range_with_len}
 use Rattle.std.proofs.lemmas.Bool.{cases_Bool, cases_lt}
@@ -27,7 +28,8 @@ place_under m bars x =
     elim (cases_lt x (length m.lists)) [
       | inl lt ↦ get_or-map-range_with_len (best_within m bars) 0 (length m.lists) x x None lt (omega arith)
       | inr past ↦
-          get_or_past (matched_under m bars) x None (omega (arith, past, length-map-range_with_len (best_within m bars) 0 (length m.lists)))
+          get_or_past (matched_under m bars) x None
+          (omega (arith, past, length-map-range_with_len (best_within m bars) 0 (length m.lists)))
           ∙ sym (past_lists m bars x past)
     ]
 
@@ -38,7 +40,8 @@ same_count t [] a at same = refl
 same_count t (x ∷ xs) a at same =
     let here : at a ≡ x = (let e : a + 0 ≡ a = omega arith in ap at (sym e) ∙ same 0 (omega arith)) in
     let rest : length (filter (λ r. t (at r)) (range_with_len (a + 1) (length xs))) ≡ length (filter t xs) =
-    same_count t xs (a + 1) at (λ k lt. let e : a + 1 + k ≡ a + suc k = omega arith in ap at e ∙ same (suc k) (omega (arith, lt))) in
+    same_count t xs (a + 1) at (λ k lt. let e : a + 1 + k ≡ a + suc k = omega arith in
+    ap at e ∙ same (suc k) (omega (arith, lt))) in
     elim (cases_Bool (t x)) [
       | inl passes ↦ let there : t (at a) ≡ true = ap t here ∙ passes in rw (there, passes) (ap suc rest)
       | inr fails ↦ let there : t (at a) ≡ false = ap t here ∙ fails in rw (there, fails) rest
@@ -51,7 +54,8 @@ none_and false true = refl
 none_and false false = refl
 
 -- where each has the best programme within reach, a programme has as many as it has demanded positions
-pub holders_are_demanded : (m : MarketRows) → IsMarket m → (bars : List ℕ) (places : List (Option ℕ)) → length places ≡ length m.lists
+pub holders_are_demanded : (m : MarketRows) → IsMarket m → (bars : List ℕ) (places : List (Option ℕ))
+    → length places ≡ length m.lists
     → ((x : ℕ) → place_of places x ≡ best_within m bars x) → (p : ℕ) → p < length m.orders
     → length (holders places p) ≡ length (demanded m bars p)
 holders_are_demanded m is bars places each are p lt =
@@ -60,7 +64,8 @@ holders_are_demanded m is bars places each are p lt =
     let holds : ℕ → Bool = λ x. is_at p (place_of places x) in
     let range : List ℕ = range_with_len 0 (length places) in
     let by_position : length (demanded m bars p) ≡ length (filter chosen order) =
-    same_count chosen order 1 (candidate_at m p) (λ k k_lt. let e : 1 + k - 1 ≡ k = omega arith in ap (λ i. get_or order i 0) e) in
+    same_count chosen order 1 (candidate_at m p)
+    (λ k k_lt. let e : 1 + k - 1 ≡ k = omega arith in ap (λ i. get_or order i 0) e) in
     let listed : (x : ℕ) → chosen x ≡ true
     → lists_it m p x ≡ true = λ x t. best_is_listed m bars x p (at_place p (best_within m bars x) t) in
     let same : (x : ℕ) → is_among x (filter holds range) ≡ is_among x (filter chosen order) =
@@ -74,7 +79,8 @@ holders_are_demanded m is bars places each are p lt =
           among_filter holds x range ∙ rw (held, in_range) (sym (among_filter chosen x order ∙ rw (t, in_it) refl))
       | inr f ↦
           let held : holds x ≡ false = ap (is_at p) (are x) ∙ f in
-          among_filter holds x range ∙ ap (λ b. is_among x range && b) held ∙ none_and (is_among x range) (is_among x order)
+          among_filter holds x range ∙ ap (λ b. is_among x range && b) held
+          ∙ none_and (is_among x range) (is_among x order)
           ∙ ap (λ b. is_among x order && b) (sym f) ∙ sym (among_filter chosen x order)
     ] in
     length-from_same_keys nat_eq_equiv (filter holds range) (filter chosen order)

@@ -1,5 +1,6 @@
 -- The numbers of a list, each once, in the order in which they come first.
-use Rattle.std.proofs.Common.{ℕ, ◌+◌, ◌≤◌, ◌<◌, ◌≡◌, true, false, List, [], ◌∷◌, ◌++◌, map, length, take, get_or, fold, inl, inr, ◌∙◌, ap, arith, nat_eq}
+use Rattle.std.proofs.Common.{ℕ, ◌+◌, ◌≤◌, ◌<◌, ◌≡◌, true, false, List, [], ◌∷◌, ◌++◌, map, length, take, get_or, fold}
+use Rattle.std.proofs.Common.{inl, inr, ◌∙◌, ap, arith, nat_eq}
 use Rattle.std.specs.Prelude.{if◌then◌else◌}
 use Rattle.std.specs.List.{IsDistinct}
 use Rattle.std.proofs.lemmas.Bool.{cases_Bool, or_cases, or_left, or_right, eqb-true, false≢true}
@@ -44,7 +45,8 @@ noted_keeps : (c n : ℕ) (seen : List ℕ) → is_among c seen ≡ true → is_
 noted_keeps c n seen t =
     elim (cases_Bool (is_among n seen)) [
       | inl has ↦ rw has t
-      | inr lacks ↦ rw lacks (list_any-append (nat_eq c) seen (n ∷ []) ∙ or_left (is_among c seen) (is_among c (n ∷ [])) t)
+      | inr lacks ↦ rw lacks (list_any-append (nat_eq c) seen (n ∷ [])
+          ∙ or_left (is_among c seen) (is_among c (n ∷ [])) t)
     ]
 
 noted_has : (c n : ℕ) (seen : List ℕ) → nat_eq c n ≡ true → is_among c (noted seen n) ≡ true

@@ -5,7 +5,8 @@ use Rattle.bar_fixpoint.proofs.RunLaws.{picks_fix}
 use Rattle.bar_fixpoint.specs.Chosen.{EndsEarly, IsRunBy, TellsOfFalls}
 use Rattle.markets.specs.Solving.{IsLedTo}
 
-pub led : (seen sys : FallingSystem) (choice : List ℕ → List ℕ → ℕ) (told told_after low bars : List ℕ) → seen ≡ sys → IsRunBy seen choice told told_after low → bars ≡ low
+pub led : (seen sys : FallingSystem) (choice : List ℕ → List ℕ → ℕ) (told told_after low bars : List ℕ) → seen ≡ sys
+    → IsRunBy seen choice told told_after low → bars ≡ low
     → IsLedTo sys choice told told_after bars
 led seen sys choice told told_after low bars same run bars_are =
     let P : FallingSystem → Type 0 = λ s. IsLedTo s choice told told_after bars in
@@ -19,7 +20,8 @@ led seen sys choice told told_after low bars same run bars_are =
     })
 
 -- the greatest bars of the system that the engine sees
-pub greatest_here : (seen sys : FallingSystem) (low bars : List ℕ) → seen ≡ sys → IsGreatest seen low → bars ≡ low → IsGreatest sys bars
+pub greatest_here : (seen sys : FallingSystem) (low bars : List ℕ) → seen ≡ sys → IsGreatest seen low → bars ≡ low
+    → IsGreatest sys bars
 greatest_here seen sys low bars same greatest bars_are =
     subst (IsGreatest sys) (sym bars_are) (subst (λ s. IsGreatest s low) same greatest)
 

@@ -1,5 +1,6 @@
 -- Rows that are filled list by list.
-use Rattle.std.proofs.Common.{ℕ, ◌+◌, ◌≤◌, ◌<◌, ◌≡◌, Bool, true, false, cond, ◌||◌, List, [], ◌∷◌, ◌++◌, map, length, take, get_or, inl, inr, refl, sym, ◌∙◌, ap, subst, arith, nat_eq, filter, Some, Vec}
+use Rattle.std.proofs.Common.{ℕ, ◌+◌, ◌≤◌, ◌<◌, ◌≡◌, Bool, true, false, cond, ◌||◌, List, [], ◌∷◌, ◌++◌, map, length}
+use Rattle.std.proofs.Common.{take, get_or, inl, inr, refl, sym, ◌∙◌, ap, subst, arith, nat_eq, filter, Some, Vec}
 use Rattle.std.specs.Prelude.{slice_get, if◌then◌else◌}
 use Rattle.std.specs.List.{range_with_len}
 use Rattle.std.specs.declared.alloc.Global.{Global}
@@ -19,7 +20,10 @@ use Rattle.admit_core.proofs.Plain.{get_set_here, get_set_other, get_push}
 
 -- empty rows, and one more
 pub listers_none : AreListers [] 0 0 []
-listers_none = record { one_each = refl; each = λ p row at. absurd (omega (arith, slice_get_within {A = Vec ℕ Global} [] p row at)) }
+listers_none = record {
+  one_each = refl;
+  each = λ p row at. absurd (omega (arith, slice_get_within {A = Vec ℕ Global} [] p row at));
+}
 
 pub empty_more : (n : ℕ) (rows : List (Vec ℕ Global)) (row : Vec ℕ Global) → AreListers [] n 0 rows → row.items ≡ []
     → AreListers [] (n + 1) 0 (rows ++ row ∷ [])
@@ -33,7 +37,8 @@ empty_more n rows row are none =
     }
 
 -- empty rows are those of no list, whichever they are
-pub listers_start : (lists : List (List ℕ)) (n : ℕ) (rows : List (Vec ℕ Global)) → AreListers [] n 0 rows → AreListers lists n 0 rows
+pub listers_start : (lists : List (List ℕ)) (n : ℕ) (rows : List (Vec ℕ Global)) → AreListers [] n 0 rows
+    → AreListers lists n 0 rows
 listers_start lists n rows are = record { one_each = are.one_each; each = are.each }
 
 -- nothing is put in, and one more number of the list
@@ -52,7 +57,8 @@ put_more item xs k old rows before after is_list lt read pushed are =
     let absent : is_among g front ≡ false =
     false_from_ne_true (is_among g front) (λ t.
     let (j, (j_lt, j_at)) = earlier g xs k (omega (arith, lt)) t in
-    false≢true (sym (apart_from_distinct nat_eq xs j k 0 (list_distinct (length old) xs is_list) j_lt lt) ∙ eq-eqb (get_or xs j 0) g j_at))
+    false≢true (sym (apart_from_distinct nat_eq xs j k 0 (list_distinct (length old) xs is_list) j_lt lt)
+    ∙ eq-eqb (get_or xs j 0) g j_at))
     in
     let grown : (p : ℕ) → is_among p (take (k + 1) xs) ≡ (is_among p front || (nat_eq p g || false)) =
     λ p. ap (is_among p) (take_more xs k 0 lt) ∙ list_any-append (nat_eq p) front (g ∷ []) in
@@ -63,7 +69,8 @@ put_more item xs k old rows before after is_list lt read pushed are =
             let is : after ≡ row = get_set_here rows g after row (rw here at at) in
             let found : slice_get rows g ≡ Some before = slice_get_read rows (length rows) g before refl g_lt read in
             let (first, first_at, items) = are.each g before found in
-            let none : before.items ≡ first.items = items ∙ ap (λ b. first.items ++ (if b then item g ∷ [] else [])) absent
+            let none : before.items ≡ first.items = items ∙ ap (λ b. first.items ++ (if b then item g ∷ [] else []))
+            absent
             ∙ append-nil first.items in
             let among : is_among p (take (k + 1) xs) ≡ true = grown p
             ∙ or_right (is_among p front) (nat_eq p g || false) (or_left (nat_eq p g) false (eq-eqb p g here)) in
@@ -94,7 +101,8 @@ pub naming_more : (lists : List (List ℕ)) (p k : ℕ)
     → naming lists p (k + 1) ≡ naming lists p k ++ cond (is_among p (get_or lists k [])) (k ∷ []) []
 naming_more lists p k =
     let t : ℕ → Bool = λ x. is_among p (get_or lists x []) in
-    let more : filter t (map (λ x. x) (range_with_len 0 (k + 1))) ≡ filter t (map (λ x. x) (range_with_len 0 k)) ++ cond (t k) (k ∷ []) [] =
+    let more : filter t (map (λ x. x) (range_with_len 0 (k + 1)))
+    ≡ filter t (map (λ x. x) (range_with_len 0 k)) ++ cond (t k) (k ∷ []) [] =
     filter_of_map_range_with_len_more t (λ x. x) 0 k k (omega arith) in
     rw (map-id (range_with_len 0 (k + 1)), map-id (range_with_len 0 k)) at more
 
@@ -106,12 +114,14 @@ listers_more lists n k rows new are put =
       one_each = put.as_many ∙ are.one_each;
       each = λ p row at.
           let (before, found, items) = put.each p row at in
-          items ∙ ap (λ (ys : List ℕ). ys ++ (if is_among p (get_or lists k []) then k ∷ [] else [])) (are.each p before found)
+          items ∙ ap (λ (ys : List ℕ). ys ++ (if is_among p (get_or lists k []) then k ∷ [] else []))
+          (are.each p before found)
           ∙ sym (naming_more lists p k);
     }
 
 -- the row of a number
-pub row_is : (lists : List (List ℕ)) (n k p : ℕ) (rows : List (Vec ℕ Global)) (row : Vec ℕ Global) → AreListers lists n k rows → p < n
+pub row_is : (lists : List (List ℕ)) (n k p : ℕ) (rows : List (Vec ℕ Global)) (row : Vec ℕ Global)
+    → AreListers lists n k rows → p < n
     → row ≡ get_or rows p row → row.items ≡ naming lists p k
 row_is lists n k p rows row are lt read = are.each p row
     (slice_get_read rows (length rows) p row refl (omega (arith, lt, are.one_each)) read)

@@ -1,9 +1,11 @@
 -- What is noted of the candidates of a matching, one after another: how many each programme has.
-use Rattle.std.proofs.Common.{ℕ, ◌+◌, ◌-◌, ◌≤◌, ◌<◌, ◌≡◌, Bool, true, false, cond, List, [], ◌∷◌, ◌++◌, length, get_or, inl, inr, refl, ◌∙◌, ap, subst, arith, nat_eq, filter, Option, Some, None, set}
+use Rattle.std.proofs.Common.{ℕ, ◌+◌, ◌-◌, ◌≤◌, ◌<◌, ◌≡◌, Bool, true, false, cond, List, [], ◌∷◌, ◌++◌, length, get_or}
+use Rattle.std.proofs.Common.{inl, inr, refl, ◌∙◌, ap, subst, arith, nat_eq, filter, Option, Some, None, set}
 use Rattle.std.specs.Prelude.{slice_index, replicate}
 use Rattle.std.specs.List.{range_with_len}
 use Rattle.std.proofs.lemmas.Bool.{cases_eq, eq-eqb, ne_eqb}
-use Rattle.std.proofs.lemmas.List.{length-set, length-append, length-replicate, get_or-replicate, get_or-set_same, get_or-set_other}
+use Rattle.std.proofs.lemmas.List.{length-set, length-append, length-replicate, get_or-replicate, get_or-set_same}
+use Rattle.std.proofs.lemmas.List.{get_or-set_other}
 use Rattle.std.proofs.lemmas.List.FromFn.{length-range_with_len}
 use Rattle.std.proofs.lemmas.List.Sums.{length-filter, count_by-le-length}
 use Rattle.bar_fixpoint.proofs.Listing.{filter_more}
@@ -25,7 +27,13 @@ pub record AreCountsTo (n : ℕ) (places : List (Option ℕ)) (k : ℕ) (counts 
 pub few_to : (places : List (Option ℕ)) (p k : ℕ) → length (holders_to places p k) ≤ k
 few_to places p k =
     let t : ℕ → Bool = λ y. is_at p (place_of places y) in
-    omega (arith, length-filter t (range_with_len 0 k), count_by-le-length t (range_with_len 0 k), length-range_with_len 0 k)
+    omega (
+      arith,
+      length-filter t (range_with_len 0 k),
+      count_by-le-length t
+          (range_with_len 0 k),
+      length-range_with_len 0 k,
+    )
 
 one_more : (t : Bool) (xs : List ℕ) (k : ℕ) → length (xs ++ cond t (k ∷ []) []) ≡ length xs + one_if t
 one_more true xs k = length-append xs (k ∷ [])
@@ -44,7 +52,8 @@ added counts (Some q) p within =
           let one : one_if (nat_eq p q) ≡ 1 = ap one_if (eq-eqb p q here) in
           omega (arith, now, one, ap (slice_index counts) here)
       | inr other ↦
-          let now : slice_index (set counts q (slice_index counts q + 1)) p ≡ slice_index counts p = get_or-set_other counts q p
+          let now : slice_index (set counts q (slice_index counts q + 1)) p ≡ slice_index counts p =
+          get_or-set_other counts q p
           (slice_index counts q + 1) 0 other in
           let none : one_if (nat_eq p q) ≡ 0 = ap one_if (ne_eqb p q other) in
           omega (arith, now, none)
@@ -54,14 +63,16 @@ pub as_long : (counts : List ℕ) (o : Option ℕ) → length (counted_in counts
 as_long counts None = refl
 as_long counts (Some q) = length-set counts q (slice_index counts q + 1)
 
-pub counts_none : (n : ℕ) (places : List (Option ℕ)) (counts : List ℕ) → counts ≡ replicate n 0 → AreCountsTo n places 0 counts
+pub counts_none : (n : ℕ) (places : List (Option ℕ)) (counts : List ℕ) → counts ≡ replicate n 0
+    → AreCountsTo n places 0 counts
 counts_none n places counts are =
     record {
       one_each = ap length are ∙ length-replicate n 0;
       each = λ p lt. ap (λ (xs : List ℕ). get_or xs p 0) are ∙ get_or-replicate n p 0 0 lt;
     }
 
-pub counts_more : (n : ℕ) (places : List (Option ℕ)) (k : ℕ) (counts new : List ℕ) (o : Option ℕ) → place_of places k ≡ o
+pub counts_more : (n : ℕ) (places : List (Option ℕ)) (k : ℕ) (counts new : List ℕ) (o : Option ℕ)
+    → place_of places k ≡ o
     → ((p : ℕ) → o ≡ Some p → p < n)
     → AreCountsTo n places k counts → new ≡ counted_in counts o → AreCountsTo n places (k + 1) new
 counts_more n places k counts new o is within are new_is =
@@ -81,7 +92,8 @@ counts_more n places k counts new o is within are new_is =
           );
     }
 
-pub counts_all : (n k : ℕ) (places : List (Option ℕ)) (counts : List ℕ) → k ≡ length places → AreCountsTo n places k counts
+pub counts_all : (n k : ℕ) (places : List (Option ℕ)) (counts : List ℕ) → k ≡ length places
+    → AreCountsTo n places k counts
     → AreCounts n places counts
 counts_all n k places counts k_is are =
     let P : ℕ → Type 0 = λ j. AreCountsTo n places j counts in
@@ -90,7 +102,8 @@ counts_all n k places counts k_is are =
 
 -- how many have a place, once one candidate has another
 turned : (places : List (Option ℕ)) (x p : ℕ) (place : Option ℕ) → x < length places
-    → length (holders (set places x place) p) + one_if (is_at p (place_of places x)) ≡ length (holders places p) + one_if (is_at p place)
+    → length (holders (set places x place) p) + one_if (is_at p (place_of places x))
+    ≡ length (holders places p) + one_if (is_at p place)
 turned places x p place lt =
     let t : ℕ → Bool = λ y. is_at p (place_of places y) in
     let u : ℕ → Bool = λ y. is_at p (place_of (set places x place) y) in
@@ -100,13 +113,15 @@ turned places x p place lt =
     ∙ ap (λ (o : Option ℕ). length (holders places p) + one_if (is_at p o)) (get_or-set_same places x place None lt)
 
 -- whoever has a place is counted
-pub one_holds : (places : List (Option ℕ)) (x had : ℕ) → x < length places → place_of places x ≡ Some had → 1 ≤ length (holders places had)
+pub one_holds : (places : List (Option ℕ)) (x had : ℕ) → x < length places → place_of places x ≡ Some had
+    → 1 ≤ length (holders places had)
 one_holds places x had lt is =
     let one : one_if (is_at had (place_of places x)) ≡ 1 = ap (λ (o : Option ℕ). one_if (is_at had o)) is
     ∙ ap one_if (eq-eqb had had refl) in
     omega (arith, turned places x had None lt, one)
 
-pub counts_put : (n : ℕ) (places : List (Option ℕ)) (x had : ℕ) (place : Option ℕ) (counts new : List ℕ) → x < length places
+pub counts_put : (n : ℕ) (places : List (Option ℕ)) (x had : ℕ) (place : Option ℕ) (counts new : List ℕ)
+    → x < length places
     → place_of places x ≡ Some had → had < n
     → ((p : ℕ) → place ≡ Some p → p < n) → AreCounts n places counts
     → new ≡ counted_in (set counts had (slice_index counts had - 1)) place → AreCounts n (set places x place) new
@@ -126,7 +141,8 @@ counts_put n places x had place counts new lt is had_lt within are new_is =
                 let one : one_if (nat_eq p had) ≡ 1 = ap one_if (eq-eqb p had here) in
                 omega (arith, now, one, some, ap (slice_index counts) here)
             | inr other ↦
-                let now : slice_index less p ≡ slice_index counts p = get_or-set_other counts had p (slice_index counts had - 1) 0 other in
+                let now : slice_index less p ≡ slice_index counts p =
+                get_or-set_other counts had p (slice_index counts had - 1) 0 other in
                 let none : one_if (nat_eq p had) ≡ 0 = ap one_if (ne_eqb p had other) in
                 omega (arith, now, none)
           ] in
@@ -142,7 +158,8 @@ counts_put n places x had place counts new lt is had_lt within are new_is =
     }
 
 -- counts that one is taken from fit
-pub put_few : (n : ℕ) (places : List (Option ℕ)) (counts : List ℕ) (had v p : ℕ) → AreCounts n places counts → had < n → p < n
+pub put_few : (n : ℕ) (places : List (Option ℕ)) (counts : List ℕ) (had v p : ℕ) → AreCounts n places counts → had < n
+    → p < n
     → v ≤ slice_index counts had
     → slice_index (set counts had v) p ≤ length places
 put_few n places counts had v p are had_lt lt le =
@@ -156,7 +173,13 @@ put_few n places counts had v p are had_lt lt le =
             are.each had had_lt,
             few_to places had (length places),
           )
-      | inr other ↦ omega (arith, get_or-set_other counts had p v 0 other, are.each p lt, few_to places p (length places))
+      | inr other ↦ omega (
+        arith,
+        get_or-set_other counts had p v 0 other,
+        are.each p lt,
+        few_to places p
+            (length places),
+      )
     ]
 
 -- a count fits

@@ -1,8 +1,11 @@
 -- An order has the candidates whose lists name its programme: by counts and stamps.
-use Rattle.std.proofs.Common.{ℕ, zero, suc, ◌+◌, ◌-◌, ◌≤◌, ◌<◌, ◌≡◌, Bool, true, false, cond, not, ◌&&◌, List, [], ◌∷◌, length, replicate, get_or, inl, inr, refl, sym, ◌∙◌, ap, subst, arith, nat_eq, nat_lt, Vec}
+use Rattle.std.proofs.Common.{ℕ, zero, suc, ◌+◌, ◌-◌, ◌≤◌, ◌<◌, ◌≡◌, Bool, true, false, cond, not, ◌&&◌, List, [], ◌∷◌}
+use Rattle.std.proofs.Common.{length, replicate, get_or, inl, inr, refl, sym, ◌∙◌, ap, subst, arith, nat_eq, nat_lt}
+use Rattle.std.proofs.Common.{Vec}
 use Rattle.std.specs.Prelude.{◌==◌, Option, Some, None, find, position, slice_index, All}
 use Rattle.std.specs.List.{list_all, position_or_len, range_with_len, IsDistinct, AllByRecursion}
-use Rattle.std.proofs.lemmas.Bool.{cases_Bool, cases_eq, cases_lt, and_parts, or_parts, and_from, or_cases, or_left, or_right, eqb-true, eq-eqb, lt-ltb, false≢true, false_from_ne_true, not-false}
+use Rattle.std.proofs.lemmas.Bool.{cases_Bool, cases_eq, cases_lt, and_parts, or_parts, and_from, or_cases, or_left}
+use Rattle.std.proofs.lemmas.Bool.{or_right, eqb-true, eq-eqb, lt-ltb, false≢true, false_from_ne_true, not-false}
 use Rattle.std.proofs.lemmas.Cmp.{nat_eq_equiv}
 use Rattle.std.proofs.lemmas.List.{get_or_past, length-replicate}
 use Rattle.std.proofs.lemmas.List.Folds.{list_any_at}
@@ -13,7 +16,8 @@ use Rattle.std.proofs.lemmas.Map.Made.{length-le_from_is_member, length-from_sam
 use Rattle.admit_core.specs.Lists.{is_among}
 use Rattle.admit_core.proofs.Counting.{distinct_kept}
 use Rattle.admit_core.proofs.FullBeds.{rising_distinct}
-use Rattle.markets.specs.Markets.{MarketRows, IsMarket, market_order, lists_it, listers, is_list_below, is_order, is_distinct, first_bad_list, first_bad_order}
+use Rattle.markets.specs.Markets.{MarketRows, IsMarket, market_order, lists_it, listers, is_list_below, is_order}
+use Rattle.markets.specs.Markets.{is_distinct, first_bad_list, first_bad_order}
 use Rattle.markets.specs.Listers.{AreLists, AreListers}
 use Rattle.markets.specs.Rows.{has_all_of}
 use Rattle.markets.specs.Stamps.{AreUpTo, BearStamp}
@@ -33,7 +37,8 @@ all_pass t (x ∷ xs) h =
     (all_pass t xs (λ q among. h q (or_right (nat_eq q x) (is_among q xs) among)))
 
 -- who bears the stamp stands in the list
-pub stamped_same : (stamp : ℕ) (ns stamps xs : List ℕ) → BearStamp stamp ns stamps → ((q : ℕ) → is_among q xs ≡ true → q < length stamps)
+pub stamped_same : (stamp : ℕ) (ns stamps xs : List ℕ) → BearStamp stamp ns stamps
+    → ((q : ℕ) → is_among q xs ≡ true → q < length stamps)
     → list_all (λ n. nat_eq (slice_index stamps n) stamp) xs ≡ list_all (λ x. is_among x ns) xs
 stamped_same stamp ns stamps xs bear within =
     same_test (list_all (λ n. nat_eq (slice_index stamps n) stamp) xs) (list_all (λ x. is_among x ns) xs)
@@ -45,7 +50,8 @@ stamped_same stamp ns stamps xs bear within =
 -- what is not among a list differs from each of it
 all_differ : (q : ℕ) (xs : List ℕ) → is_among q xs ≡ false → AllByRecursion (λ x. nat_eq q x ≡ false) xs
 all_differ q [] absent = tt
-all_differ q (x ∷ xs) absent = let parts = or_parts (nat_eq q x) (is_among q xs) absent in (parts.0, all_differ q xs parts.1)
+all_differ q (x ∷ xs) absent = let parts = or_parts (nat_eq q x) (is_among q xs) absent in
+    (parts.0, all_differ q xs parts.1)
 
 -- one more in front of a list that doesn't have it
 distinct_cons : (q : ℕ) (xs : List ℕ) → is_among q xs ≡ false → IsDistinct nat_eq xs → IsDistinct nat_eq (q ∷ xs)
@@ -60,7 +66,8 @@ lister_within m p x t =
     ]
 
 -- a distinct list with all of a distinct list of its length has nobody else
-no_other : (xs ys : List ℕ) (q : ℕ) → IsDistinct nat_eq xs → length ys ≡ length xs → ((x : ℕ) → is_among x xs ≡ true → is_among x ys ≡ true)
+no_other : (xs ys : List ℕ) (q : ℕ) → IsDistinct nat_eq xs → length ys ≡ length xs
+    → ((x : ℕ) → is_among x xs ≡ true → is_among x ys ≡ true)
     → is_among q ys ≡ true → is_among q xs ≡ true
 no_other xs ys q apart long all there =
     elim (cases_Bool (is_among q xs)) [
@@ -75,23 +82,27 @@ no_other xs ys q apart long all there =
           absurd (omega (arith, more, long))
     ]
 
-pub order_is : (m : MarketRows) (p : ℕ) → p < length m.orders → has_all_of (length m.lists) (listers m p) (market_order m p) ≡ is_order m p
+pub order_is : (m : MarketRows) (p : ℕ) → p < length m.orders
+    → has_all_of (length m.lists) (listers m p) (market_order m p) ≡ is_order m p
 order_is m p lt =
     let n : ℕ = length m.lists in
     let order : List ℕ = market_order m p in
     let names : List ℕ = listers m p in
     let range : List ℕ = range_with_len 0 n in
-    let apart : IsDistinct nat_eq names = distinct_kept (lists_it m p) range (rising_distinct range (range_rises 0 n)) in
+    let apart : IsDistinct nat_eq names = distinct_kept (lists_it m p) range
+    (rising_distinct range (range_rises 0 n)) in
     let lister : (x : ℕ) → is_among x names ≡ true → (x < n) × (lists_it m p x ≡ true) =
     λ x t. (let both = and_parts (is_among x range) (lists_it m p x) (sym (among_filter (lists_it m p) x range) ∙ t) in
     let within = among_range x 0 n both.0 in
     (omega (arith, within.1), both.1)) in
     let is_lister : (x : ℕ) → lists_it m p x ≡ true → is_among x names ≡ true =
-    λ x t. (let within : is_among x range ≡ true = range_has x 0 n (omega arith) (omega (arith, lister_within m p x t)) in
+    λ x t. (let within : is_among x range ≡ true =
+    range_has x 0 n (omega arith) (omega (arith, lister_within m p x t)) in
     among_filter (lists_it m p) x range ∙ rw (within, t) refl) in
     same_test (has_all_of n names order) (is_order m p)
     (λ t.
-    let first = and_parts (is_list_below n order && (length order == length names)) (list_all (λ x. is_among x order) names) t in
+    let first = and_parts (is_list_below n order && (length order == length names))
+    (list_all (λ x. is_among x order) names) t in
     let second = and_parts (is_list_below n order) (length order == length names) first.0 in
     let third = and_parts (is_distinct order) (list_all (λ x. nat_lt x n) order) second.0 in
     let inside : (x : ℕ) → is_among x names ≡ true
@@ -102,7 +113,8 @@ order_is m p lt =
     and_from (is_distinct order && list_all (lists_it m p) order) (list_all (λ x. is_among x order) names)
     (and_from (is_distinct order) (list_all (lists_it m p) order) third.0 only) first.1)
     (λ t.
-    let first = and_parts (is_distinct order && list_all (lists_it m p) order) (list_all (λ x. is_among x order) names) t in
+    let first = and_parts (is_distinct order && list_all (lists_it m p) order)
+    (list_all (λ x. is_among x order) names) t in
     let second = and_parts (is_distinct order) (list_all (lists_it m p) order) first.0 in
     let outside : (x : ℕ) → is_among x order ≡ true
     → is_among x names ≡ true = λ x among. is_lister x (one_of_all (lists_it m p) x order second.1 among) in
@@ -127,10 +139,12 @@ range_found t a (suc n) k le lt fails passes =
       | inl here ↦ let now : t a ≡ true = ap t here ∙ passes in rw now (ap Some here)
       | inr other ↦
           let now : t a ≡ false = fails a (omega arith) (omega (arith, le, other)) in
-          rw now (range_found t (a + 1) n k (omega (arith, le, other)) (omega (arith, lt)) (λ i i_le. fails i (omega (arith, i_le))) passes)
+          rw now (range_found t (a + 1) n k (omega (arith, le, other)) (omega (arith, lt))
+          (λ i i_le. fails i (omega (arith, i_le))) passes)
     ]
 
-pub range_none : (t : ℕ → Bool) (a n : ℕ) → ((i : ℕ) → a ≤ i → i < a + n → t i ≡ false) → find t (range_with_len a n) ≡ None
+pub range_none : (t : ℕ → Bool) (a n : ℕ) → ((i : ℕ) → a ≤ i → i < a + n → t i ≡ false)
+    → find t (range_with_len a n) ≡ None
 range_none t a zero fails = refl
 range_none t a (suc n) fails =
     let now : t a ≡ false = fails a (omega arith) (omega arith) in
@@ -152,13 +166,16 @@ orders_start m stamps are =
       stood = λ i le lt. absurd (omega (arith, lt));
     }
 
-told_order : (m : MarketRows) (k stamp : ℕ) (stamps : List ℕ) (result : Bool) → k < length m.orders → OrdersStood m k stamp stamps
+told_order : (m : MarketRows) (k stamp : ℕ) (stamps : List ℕ) (result : Bool) → k < length m.orders
+    → OrdersStood m k stamp stamps
     → result ≡ has_all_of (length stamps) (listers m k) (market_order m k) → result ≡ is_order m k
-told_order m k stamp stamps result lt so told = told ∙ ap (λ n. has_all_of n (listers m k) (market_order m k)) so.as_many ∙ order_is m k lt
+told_order m k stamp stamps result lt so told =
+    told ∙ ap (λ n. has_all_of n (listers m k) (market_order m k)) so.as_many ∙ order_is m k lt
 
 pub orders_more : (m : MarketRows) (k stamp : ℕ) (stamps after : List ℕ) (result : Bool) → k < length m.orders
     → OrdersStood m k stamp stamps
-    → length after ≡ length stamps → AreUpTo (stamp + 1) after → result ≡ has_all_of (length stamps) (listers m k) (market_order m k)
+    → length after ≡ length stamps → AreUpTo (stamp + 1) after
+    → result ≡ has_all_of (length stamps) (listers m k) (market_order m k)
     → result ≡ true
     → OrdersStood m (k + 1) (stamp + 1) after
 orders_more m k stamp stamps after result lt so long up_to told stood =
@@ -168,14 +185,17 @@ orders_more m k stamp stamps after result lt so long up_to told stood =
       up_to = up_to;
       stood = λ i le i_lt.
           elim (cases_eq i k) [
-            | inl here ↦ ap (λ j. not (is_order m j)) here ∙ ap not (sym (told_order m k stamp stamps result lt so told) ∙ stood)
+            | inl here ↦ ap (λ j. not (is_order m j)) here
+                ∙ ap not (sym (told_order m k stamp stamps result lt so told) ∙ stood)
             | inr other ↦ so.stood i le (omega (arith, i_lt, other))
           ];
     }
 
 -- the first bad order is found, or there is none
-pub orders_found : (m : MarketRows) (k stamp : ℕ) (stamps : List ℕ) (result : Bool) → k < length m.orders → OrdersStood m k stamp stamps
-    → result ≡ has_all_of (length stamps) (listers m k) (market_order m k) → result ≡ false → first_bad_order m ≡ Some (stamp + 1 - 1)
+pub orders_found : (m : MarketRows) (k stamp : ℕ) (stamps : List ℕ) (result : Bool) → k < length m.orders
+    → OrdersStood m k stamp stamps
+    → result ≡ has_all_of (length stamps) (listers m k) (market_order m k) → result ≡ false
+    → first_bad_order m ≡ Some (stamp + 1 - 1)
 orders_found m k stamp stamps result lt so told fails =
     let at : k ≡ stamp + 1 - 1 = omega (arith, so.stamp_is) in
     range_found (λ p. not (is_order m p)) 0 (length m.orders) k (omega arith) (omega (arith, lt)) so.stood
@@ -197,26 +217,32 @@ listers_within m p k d lt =
     omega (arith, within.1)
 
 -- the row and the order of a programme, as they are read
-pub row_read : (m : MarketRows) (k stamp : ℕ) (rows : List (Vec ℕ Global)) (row : Vec ℕ Global) (slice : List ℕ) → stamp ≡ k
+pub row_read : (m : MarketRows) (k stamp : ℕ) (rows : List (Vec ℕ Global)) (row : Vec ℕ Global) (slice : List ℕ)
+    → stamp ≡ k
     → k < length m.orders
-    → AreListers m.lists (length m.orders) (length m.lists) rows → row ≡ get_or rows stamp row → slice ≡ row.items → slice ≡ listers m k
+    → AreListers m.lists (length m.orders) (length m.lists) rows → row ≡ get_or rows stamp row → slice ≡ row.items
+    → slice ≡ listers m k
 row_read m k stamp rows row slice same lt are read is =
-    is ∙ row_is m.lists (length m.orders) (length m.lists) stamp rows row are (omega (arith, same, lt)) read ∙ ap (listers m) same
+    is ∙ row_is m.lists (length m.orders) (length m.lists) stamp rows row are (omega (arith, same, lt)) read
+    ∙ ap (listers m) same
 
-pub told_now : (m : MarketRows) (n k : ℕ) (row order : List ℕ) (result : Bool) → row ≡ listers m k → order ≡ market_order m k
+pub told_now : (m : MarketRows) (n k : ℕ) (row order : List ℕ) (result : Bool) → row ≡ listers m k
+    → order ≡ market_order m k
     → result ≡ has_all_of n row order
     → result ≡ has_all_of n (listers m k) (market_order m k)
 told_now m n k row order result row_is order_is told = told ∙ ap (λ xs. has_all_of n xs order) row_is
     ∙ ap (λ xs. has_all_of n (listers m k) xs) order_is
 
-pub row_within : (m : MarketRows) (n k : ℕ) (row : List ℕ) → row ≡ listers m k → n ≡ length m.lists → All (λ x. x < n) row
+pub row_within : (m : MarketRows) (n k : ℕ) (row : List ℕ) → row ≡ listers m k → n ≡ length m.lists
+    → All (λ x. x < n) row
 row_within m n k row row_is n_is =
     let P : List ℕ → Type 0 = λ xs. All (λ x. x < n) xs in
     let Q : ℕ → Type 0 = λ j. All (λ x. x < j) (listers m k) in
     subst P (sym row_is) (subst Q (sym n_is) (listers_within m k))
 
 -- where no list is bad, each stands; and so it is with orders
-pub lists_stand : (n : ℕ) (lists : List (List ℕ)) → position (λ list. not (is_list_below n list)) lists ≡ None → AreLists n lists
+pub lists_stand : (n : ℕ) (lists : List (List ℕ)) → position (λ list. not (is_list_below n list)) lists ≡ None
+    → AreLists n lists
 lists_stand n lists none x lt =
     let test : List ℕ → Bool = λ list. not (is_list_below n list) in
     let k : ℕ = position_or_len test lists in
@@ -236,11 +262,17 @@ orders_stand m none p lt =
     let range : List ℕ = range_with_len 0 (length m.orders) in
     not-false (is_order m p)
     (false_from_ne_true (test p) (λ t. false≢true
-    (sym (find_none test range none) ∙ any_of test p range (range_has p 0 (length m.orders) (omega arith) (omega (arith, lt))) t)))
+    (sym (find_none test range none) ∙ any_of test p range (range_has p 0 (length m.orders) (omega arith)
+    (omega (arith, lt))) t)))
 
-pub market_stands : (m : MarketRows) → length m.seats ≡ length m.orders → first_bad_list m ≡ None → first_bad_order m ≡ None → IsMarket m
+pub market_stands : (m : MarketRows) → length m.seats ≡ length m.orders → first_bad_list m ≡ None
+    → first_bad_order m ≡ None → IsMarket m
 market_stands m seats lists orders =
-    record { one_seat_each = seats; lists = lists_stand (length m.orders) m.lists lists; orders = orders_stand m orders }
+    record {
+      one_seat_each = seats;
+      lists = lists_stand (length m.orders) m.lists lists;
+      orders = orders_stand m orders;
+    }
 
 -- the answers of both tests, on lists and orders as they are read
 pub bad_list_is : (answer : Option ℕ) (n : ℕ) (lists xs : List (List ℕ)) (orders : List (List ℕ)) (seats : List ℕ)
@@ -256,9 +288,11 @@ pub bad_order_is : (answer : Option ℕ) (lists ys orders zs : List (List ℕ)) 
     → first_bad_order (record { lists = lists; orders = orders; seats = seats }) ≡ answer
 bad_order_is answer lists ys orders zs seats ys_is zs_is e =
     let P : List (List ℕ) → Type 0 = λ xs. first_bad_order (record { lists = xs; orders = zs; seats = [] }) ≡ answer in
-    let Q : List (List ℕ) → Type 0 = λ xs. first_bad_order (record { lists = lists; orders = xs; seats = [] }) ≡ answer in
+    let Q : List (List ℕ) → Type 0 = λ xs. first_bad_order (record { lists = lists; orders = xs; seats = [] })
+    ≡ answer in
     subst Q zs_is (subst P ys_is e)
 
-pub lists_ready : (n : ℕ) (xs ys zs : List (List ℕ)) → n ≡ length zs → xs ≡ ys → position (λ list. not (is_list_below n list)) xs ≡ None
+pub lists_ready : (n : ℕ) (xs ys zs : List (List ℕ)) → n ≡ length zs → xs ≡ ys
+    → position (λ list. not (is_list_below n list)) xs ≡ None
     → AreLists (length zs) ys
 lists_ready n xs ys zs n_is same none = lists_stand (length zs) ys (bad_list_is None n ys xs zs [] n_is same none)

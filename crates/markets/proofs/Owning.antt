@@ -1,5 +1,6 @@
 -- Wishes laid into the rows of their candidates.
-use Rattle.std.proofs.Common.{◌≡◌, ℕ, suc, Bool, true, false, nat_eq, List, [], ◌∷◌, ◌++◌, map, get_or, refl, sym, ap, ◌∙◌, true≢false}
+use Rattle.std.proofs.Common.{◌≡◌, ℕ, suc, Bool, true, false, nat_eq, List, [], ◌∷◌, ◌++◌, map, get_or, refl, sym, ap}
+use Rattle.std.proofs.Common.{◌∙◌, true≢false}
 use Prim.Native.Nat.{zero}
 use Rattle.std.proofs.Math.ListN.{set}
 use Rattle.std.specs.List.{list_any, IsDistinct}
@@ -9,7 +10,8 @@ use Rattle.admit_core.specs.declared.dossier.Wish.{Wish}
 use Rattle.markets.specs.Dossiers.{own}
 
 -- a wish more is in the row of its candidate, and in no other
-in_own : (rows : List Wish) (row : Wish) (k : ℕ) → nat_eq k row.candidate ≡ true → own (rows ++ row ∷ []) k ≡ own rows k ++ row ∷ []
+in_own : (rows : List Wish) (row : Wish) (k : ℕ) → nat_eq k row.candidate ≡ true
+    → own (rows ++ row ∷ []) k ≡ own rows k ++ row ∷ []
 in_own [] row k e = rw e refl
 in_own (r ∷ rows) row k e = by (nat_eq k r.candidate) refl (in_own rows row k e)
   where
@@ -18,7 +20,8 @@ in_own (r ∷ rows) row k e = by (nat_eq k r.candidate) refl (in_own rows row k 
     by true f ih = rw f (ap (λ l. r ∷ l) ih)
     by false f ih = rw f ih
 
-in_other : (rows : List Wish) (row : Wish) (k : ℕ) → nat_eq k row.candidate ≡ false → own (rows ++ row ∷ []) k ≡ own rows k
+in_other : (rows : List Wish) (row : Wish) (k : ℕ) → nat_eq k row.candidate ≡ false
+    → own (rows ++ row ∷ []) k ≡ own rows k
 in_other [] row k e = rw e refl
 in_other (r ∷ rows) row k e = by (nat_eq k r.candidate) refl (in_other rows row k e)
   where
@@ -46,9 +49,14 @@ pub lay : (rows : List Wish) (row : Wish) (ks : List ℕ) (i : ℕ) → IsDistin
 unfolding IsDistinct
 lay rows row [] i apart at = absurd at
 lay rows row (k ∷ ks) zero apart at =
-    rw (in_own rows row k (nat_eq_sym k row.candidate ∙ at), in_none rows row ks (none_after row.candidate k ks at apart.0)) refl
+    rw (
+      in_own rows row k (nat_eq_sym k row.candidate ∙ at),
+      in_none rows row ks
+          (none_after row.candidate k ks at apart.0),
+    ) refl
 lay rows row (k ∷ ks) (suc i) apart (not_here, there) =
-    rw (in_other rows row k (nat_eq_sym k row.candidate ∙ not_here)) (ap (λ l. own rows k ∷ l) (lay rows row ks i apart.1 there))
+    rw (in_other rows row k (nat_eq_sym k row.candidate ∙ not_here))
+    (ap (λ l. own rows k ∷ l) (lay rows row ks i apart.1 there))
 
 pub lay_none : (rows : List Wish) (row : Wish) (ks : List ℕ) → list_any (nat_eq row.candidate) ks ≡ false
     → map (own rows) ks ≡ map (own (rows ++ row ∷ [])) ks

@@ -1,5 +1,6 @@
 -- The lists of a dossier's market name its programmes, none twice.
-use Rattle.std.proofs.Common.{ℕ, ◌<◌, ◌≡◌, ◌≢◌, Bool, true, not, ◌&&◌, List, [], ◌∷◌, map, length, get_or, inl, inr, refl, sym, ◌∙◌, subst, arith, nat_eq, nat_lt, Option, Some, None}
+use Rattle.std.proofs.Common.{ℕ, ◌<◌, ◌≡◌, ◌≢◌, Bool, true, not, ◌&&◌, List, [], ◌∷◌, map, length, get_or, inl, inr}
+use Rattle.std.proofs.Common.{refl, sym, ◌∙◌, subst, arith, nat_eq, nat_lt, Option, Some, None}
 use Rattle.std.specs.Prelude.{All, is_some}
 use Rattle.std.specs.List.{list_any, list_all, AllPairs, IsDistinct}
 use Rattle.std.proofs.lemmas.Bool.{and_parts, or_cases, or_left, or_right, eqb-true, lt-ltb, false≢true}
@@ -34,7 +35,8 @@ lists_wish ws p c =
     let key : Wish → ℕ = λ w. w.preference in
     let theirs : List Wish = own ws c in
     any-map (nat_eq p) (λ w. w.programme) (sorted_by key theirs)
-    ∙ sym (list_any-IsPermutation (λ w. nat_eq p w.programme) theirs (sorted_by key theirs) (IsPermutation-sorted_by key theirs))
+    ∙ sym (list_any-IsPermutation (λ w. nat_eq p w.programme) theirs (sorted_by key theirs)
+    (IsPermutation-sorted_by key theirs))
     ∙ sym (any-map (nat_eq p) (λ w. w.programme) theirs)
     ∙ among-map_filter (λ w. w.programme) (λ w. nat_eq c w.candidate) p ws
 
@@ -48,7 +50,8 @@ any_named p c (w ∷ ws) t =
       | inr later ↦ or_right (nat_eq c w.candidate) (is_among c (map (λ v. v.candidate) ws)) (any_named p c ws later)
     ]
 
-pub lister_named : (ws : List Wish) (p c : ℕ) → is_among p (by_preference (own ws c)) ≡ true → is_among c (named ws) ≡ true
+pub lister_named : (ws : List Wish) (p c : ℕ) → is_among p (by_preference (own ws c)) ≡ true
+    → is_among c (named ws) ≡ true
 lister_named ws p c t = in_turn_has c (map (λ w. w.candidate) ws) (any_named p c ws (sym (lists_wish ws p c) ∙ t))
 
 no_school : (o : Option ℕ) → not (is_some o) ≡ true → o ≡ None
@@ -56,7 +59,8 @@ no_school None t = refl
 no_school (Some h) t = absurd (false≢true t)
 
 -- one of the wishes that count passes a test; it is as all wishes are
-pub one_counted : (d : DossierRows) (P : Wish → Type 0) (t : Wish → Bool) → All P d.wishes → list_any t (counted d) ≡ true
+pub one_counted : (d : DossierRows) (P : Wish → Type 0) (t : Wish → Bool) → All P d.wishes
+    → list_any t (counted d) ≡ true
     → (w : Wish) × (P w × (t w ≡ true))
 one_counted d P t all some =
     let (k, w, lt, at, passes) = Any-from_list_any t (counted d) some in
@@ -71,7 +75,8 @@ module _ (d : DossierRows) (valid : IsValid d) where
       let are : AllPairs IsApart ws = AllPairs-filter IsApart is_own (counted d)
       (AllPairs-filter IsApart counts d.wishes valid.wishes_apart) in
       let theirs : All (λ w. is_own w ≡ true) ws = filter_passes is_own (counted d) in
-      let count : All (λ w. counts w ≡ true) ws = All-filter is_own (λ w. counts w ≡ true) (counted d) (filter_passes counts d.wishes) in
+      let count : All (λ w. counts w ≡ true) ws =
+      All-filter is_own (λ w. counts w ≡ true) (counted d) (filter_passes counts d.wishes) in
       let v : Wish = get_or ws i e in
       let w : Wish = get_or ws j e in
       let i_in : i < length ws = omega (arith, i_lt, j_lt) in
@@ -88,17 +93,21 @@ module _ (d : DossierRows) (valid : IsValid d) where
       IsDistinct-from_AllPairs Decides-eqb (map programme ws) (λ i j e i_lt j_lt same.
       let long : length (map programme ws) ≡ length ws = length-map ws programme in
       let x : Wish = record { id = 0; candidate = 0; programme = e; school = None; board_rank = 0; preference = 0 } in
-      own_apart c i j x i_lt (omega (arith, j_lt, long)) (sym (get_or-map programme ws i x) ∙ same ∙ get_or-map programme ws j x))
+      own_apart c i j x i_lt (omega (arith, j_lt, long))
+      (sym (get_or-map programme ws i x) ∙ same ∙ get_or-map programme ws j x))
 
   -- so a list is one
   pub is_list_of : (c : ℕ) → is_list_below (length d.programmes) (by_preference (own (counted d) c)) ≡ true
   is_list_of c =
       let list : List ℕ = by_preference (own (counted d) c) in
-      let once : IsDistinct nat_eq list = IsDistinct-sorted_by (λ w. w.preference) (λ w. w.programme) (own (counted d) c)
+      let once : IsDistinct nat_eq list = IsDistinct-sorted_by (λ w. w.preference) (λ w. w.programme)
+      (own (counted d) c)
       (programmes_apart c) in
       let below : list_all (λ p. nat_lt p (length d.programmes)) list ≡ true =
       all_of (λ p. nat_lt p (length d.programmes)) list (λ p among.
-      let (w, (is, for)) = one_counted d (IsValidWish d) (is_for p c) valid.wishes (sym (lists_wish (counted d) p c) ∙ among) in
-      let same : p ≡ w.programme = eqb-true p w.programme (and_parts (nat_eq c w.candidate) (nat_eq p w.programme) for).1 in
+      let (w, (is, for)) = one_counted d (IsValidWish d) (is_for p c) valid.wishes
+      (sym (lists_wish (counted d) p c) ∙ among) in
+      let same : p ≡ w.programme = eqb-true p w.programme (and_parts (nat_eq c w.candidate)
+      (nat_eq p w.programme) for).1 in
       lt-ltb p (length d.programmes) (omega (arith, same, is.programme))) in
       rw (is_distinct_from list once, below) refl

@@ -1,5 +1,6 @@
 -- The positions of candidates, noted order by order, and how one is found.
-use Rattle.std.proofs.Common.{ℕ, ◌+◌, ◌≤◌, ◌<◌, ◌≡◌, Bool, true, false, cond, ◌&&◌, List, [], ◌∷◌, ◌++◌, map, length, get_or, inl, inr, refl, sym, ◌∙◌, ap, subst, arith, nat_eq, nat_lt, nat_cmp, Vec}
+use Rattle.std.proofs.Common.{ℕ, ◌+◌, ◌≤◌, ◌<◌, ◌≡◌, Bool, true, false, cond, ◌&&◌, List, [], ◌∷◌, ◌++◌, map, length}
+use Rattle.std.proofs.Common.{get_or, inl, inr, refl, sym, ◌∙◌, ap, subst, arith, nat_eq, nat_lt, nat_cmp, Vec}
 use Rattle.std.specs.Prelude.{if◌then◌else◌, Result, Ok, Err}
 use Rattle.std.specs.List.{list_all, before_first, range_with_len, IsDistinct}
 use Rattle.std.specs.List.Sorted.{IsStrictlyIncreasing, IsBinarySearchResult}
@@ -37,11 +38,14 @@ one_more f true k = refl
 one_more f false k = refl
 
 -- those in one more order
-pub positions_more : (m : MarketRows) (k : ℕ) (order : List ℕ) (rows new : List (Vec ℕ Global)) → order ≡ market_order m k
+pub positions_more : (m : MarketRows) (k : ℕ) (order : List ℕ) (rows new : List (Vec ℕ Global))
+    → order ≡ market_order m k
     → ArePositions m k rows
-    → ArePutIn (λ x. is_among x order) (λ x. length (before_first (nat_eq x) order) + 1) rows new → ArePositions m (k + 1) new
+    → ArePutIn (λ x. is_among x order) (λ x. length (before_first (nat_eq x) order) + 1) rows new
+    → ArePositions m (k + 1) new
 positions_more m k order rows new order_is are put =
-    let P : List ℕ → Type 0 = λ xs. ArePutIn (λ x. is_among x xs) (λ x. length (before_first (nat_eq x) xs) + 1) rows new in
+    let P : List ℕ → Type 0 = λ xs. ArePutIn (λ x. is_among x xs) (λ x. length (before_first (nat_eq x) xs) + 1) rows
+    new in
     let put_here : P (market_order m k) = subst P order_is put in
     record {
       one_each = put_here.as_many ∙ are.one_each;
@@ -65,11 +69,13 @@ orders_are_lists m is p lt =
     (λ x among. lt-ltb x (length m.lists) (is_candidate m is p x (order_lists m is p x lt among))))
 
 -- who isn't in an order stands past its end
-past_end : (m : MarketRows) (p x : ℕ) → is_among x (market_order m p) ≡ false → market_position m p x ≡ length (market_order m p) + 1
+past_end : (m : MarketRows) (p x : ℕ) → is_among x (market_order m p) ≡ false
+    → market_position m p x ≡ length (market_order m p) + 1
 past_end m p x absent =
     let order : List ℕ = market_order m p in
     let fails : (k : ℕ) → k < length order → nat_eq x (get_or order k 0) ≡ false =
-    λ k lt. false_from_ne_true (nat_eq x (get_or order k 0)) (λ t. false≢true (sym absent ∙ list_any_at (nat_eq x) order k 0 lt t)) in
+    λ k lt. false_from_ne_true (nat_eq x (get_or order k 0))
+    (λ t. false≢true (sym absent ∙ list_any_at (nat_eq x) order k 0 lt t)) in
     omega (
       arith,
       position_is m p x,
@@ -79,14 +85,17 @@ past_end m p x absent =
 
 -- what a search in the programmes of a candidate finds
 pub looked_up : (m : MarketRows) (p x : ℕ) (programmes positions : List ℕ) (r : Result ℕ ℕ) → p < length m.orders
-    → programmes ≡ naming m.orders x (length m.orders) → positions ≡ map (λ q. market_position m q x) (naming m.orders x (length m.orders))
+    → programmes ≡ naming m.orders x (length m.orders)
+    → positions ≡ map (λ q. market_position m q x) (naming m.orders x (length m.orders))
     → IsBinarySearchResult (λ y. nat_cmp y p) programmes r
     → MatchResult r (λ i. (i < length positions) × ((d : ℕ) → get_or positions i d ≡ market_position m p x))
     (λ i. market_position m p x ≡ length (market_order m p) + 1)
-looked_up m p x programmes positions r p_lt are at is = by r (searched programmes p r is up) (found_in programmes p r rises is)
+looked_up m p x programmes positions r p_lt are at is =
+    by r (searched programmes p r is up) (found_in programmes p r rises is)
   where
     rises : IsStrictlyIncreasing programmes
-    rises = let P : List ℕ → Type 0 = λ xs. IsStrictlyIncreasing xs in subst P (sym are) (listers_rise m.orders x (length m.orders))
+    rises = let P : List ℕ → Type 0 = λ xs. IsStrictlyIncreasing xs in
+        subst P (sym are) (listers_rise m.orders x (length m.orders))
 
     up : (i j : ℕ) → i ≤ j → j < length programmes → get_or programmes i 0 ≤ get_or programmes j 0
     up i j le lt =
@@ -105,7 +114,8 @@ looked_up m p x programmes positions r p_lt are at is = by r (searched programme
         → MatchResult s (λ i. (i < length positions) × ((d : ℕ) → get_or positions i d ≡ market_position m p x))
         (λ i. market_position m p x ≡ length (market_order m p) + 1)
     by (Ok i) (lt, here) among =
-        let long : length positions ≡ length programmes = ap length at ∙ length-map (naming m.orders x (length m.orders)) place
+        let long : length positions ≡ length programmes =
+        ap length at ∙ length-map (naming m.orders x (length m.orders)) place
         ∙ ap length (sym are) in
         let lt_now : i < length positions = omega (arith, lt, long) in (
           lt_now,
@@ -117,4 +127,5 @@ looked_up m p x programmes positions r p_lt are at is = by r (searched programme
         let t : ℕ → Bool = λ q. is_among x (market_order m q) in
         let both : (is_among p (range_with_len 0 (length m.orders)) && t p) ≡ false =
         sym (among_filter t p (range_with_len 0 (length m.orders))) ∙ ap (is_among p) (sym are) ∙ sym among in
-        past_end m p x (sym (ap (λ b. b && t p) (range_has p 0 (length m.orders) (omega arith) (omega (arith, p_lt)))) ∙ both)
+        past_end m p x (sym (ap (λ b. b && t p) (range_has p 0 (length m.orders) (omega arith) (omega (arith, p_lt))))
+        ∙ both)

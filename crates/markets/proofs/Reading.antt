@@ -1,5 +1,6 @@
 -- What the lists and orders of a market have, as they are read.
-use Rattle.std.proofs.Common.{ℕ, ◌≤◌, ◌<◌, ◌≡◌, true, List, [], ◌∷◌, length, get_or, refl, ◌∙◌, ap, arith, nat_eq, nat_lt}
+use Rattle.std.proofs.Common.{ℕ, ◌≤◌, ◌<◌, ◌≡◌, true, List, [], ◌∷◌, length, get_or, refl, ◌∙◌, ap, arith, nat_eq}
+use Rattle.std.proofs.Common.{nat_lt}
 use Rattle.std.specs.Prelude.{All, IsTrue}
 use Rattle.std.specs.List.{list_all, range_with_len}
 use Rattle.std.proofs.lemmas.Bool.{and_parts, ltb-true, eq-eqb}
@@ -26,17 +27,22 @@ none_below (n ∷ ns) below =
     absurd (omega (arith, ltb-true n 0 (one_of_all (λ q. nat_lt q 0) n (n ∷ ns) parts.1 here)))
 
 -- an item of a list of lists, as it is read
-pub list_read : (lists : List (List ℕ)) (k : ℕ) (item slice : List ℕ) → k < length lists → item ≡ get_or lists k item → slice ≡ item
+pub list_read : (lists : List (List ℕ)) (k : ℕ) (item slice : List ℕ) → k < length lists → item ≡ get_or lists k item
+    → slice ≡ item
     → slice ≡ get_or lists k []
 list_read lists k item slice lt item_is slice_is = slice_is ∙ item_is ∙ get_or_default lists k item [] lt
 
-pub list_within : (m : MarketRows) → IsMarket m → (x : ℕ) → x < length m.lists → All (λ p. p < length m.orders) (list_of m x)
+pub list_within : (m : MarketRows) → IsMarket m → (x : ℕ) → x < length m.lists
+    → All (λ p. p < length m.orders) (list_of m x)
 list_within m is x x_lt k d lt =
-    let both = and_parts (is_distinct (list_of m x)) (list_all (λ q. nat_lt q (length m.orders)) (list_of m x)) (is.lists x x_lt) in
+    let both = and_parts (is_distinct (list_of m x)) (list_all (λ q. nat_lt q (length m.orders)) (list_of m x))
+    (is.lists x x_lt) in
     let p : ℕ = get_or (list_of m x) k d in
-    ltb-true p (length m.orders) (one_of_all (λ q. nat_lt q (length m.orders)) p (list_of m x) both.1 (among_place (list_of m x) k d lt))
+    ltb-true p (length m.orders) (one_of_all (λ q. nat_lt q (length m.orders)) p (list_of m x) both.1
+    (among_place (list_of m x) k d lt))
 
-pub order_within : (m : MarketRows) → IsMarket m → (p : ℕ) → p < length m.orders → All (λ x. x < length m.lists) (market_order m p)
+pub order_within : (m : MarketRows) → IsMarket m → (p : ℕ) → p < length m.orders
+    → All (λ x. x < length m.lists) (market_order m p)
 order_within m is p p_lt k d lt =
     is_candidate m is p (get_or (market_order m p) k d)
     (order_lists m is p (get_or (market_order m p) k d) p_lt (among_place (market_order m p) k d lt))
@@ -54,12 +60,14 @@ list_short m is x x_lt =
     omega (arith, le, length-range_with_len 0 (length m.orders))
 
 -- an order is no longer than the market has candidates
-pub order_short : (m : MarketRows) → IsMarket m → (p : ℕ) → p < length m.orders → length (market_order m p) ≤ length m.lists
+pub order_short : (m : MarketRows) → IsMarket m → (p : ℕ) → p < length m.orders
+    → length (market_order m p) ≤ length m.lists
 order_short m is p p_lt =
     let range : List ℕ = range_with_len 0 (length m.lists) in
     let le : length (market_order m p) ≤ length range =
     length-le_from_is_member nat_eq_equiv (market_order m p) range (order_distinct m is p p_lt)
-    (λ x t. range_has x 0 (length m.lists) (omega arith) (omega (arith, is_candidate m is p x (order_lists m is p x p_lt t)))) in
+    (λ x t. range_has x 0 (length m.lists) (omega arith)
+    (omega (arith, is_candidate m is p x (order_lists m is p x p_lt t)))) in
     omega (arith, le, length-range_with_len 0 (length m.lists))
 
 -- a list as it is read from the rows that are seen as these

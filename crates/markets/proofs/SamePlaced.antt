@@ -1,9 +1,11 @@
 -- The same candidates have a place in every stable matching, and each programme has as many: against the best matching,
 -- who has a place in another has one in it, and no programme has fewer in the other.
-use Rattle.std.proofs.Common.{ℕ, zero, suc, ◌+◌, ◌≤◌, ◌<◌, ◌≡◌, Bool, true, false, cond, List, [], ◌∷◌, length, filter, inl, inr, refl, sym, ◌∙◌, ap, arith, nat_eq, nat_lt}
+use Rattle.std.proofs.Common.{ℕ, zero, suc, ◌+◌, ◌≤◌, ◌<◌, ◌≡◌, Bool, true, false, cond, List, [], ◌∷◌, length, filter}
+use Rattle.std.proofs.Common.{inl, inr, refl, sym, ◌∙◌, ap, arith, nat_eq, nat_lt}
 use Rattle.std.specs.Prelude.{Option, Some, None, is_some, slice_index}
 use Rattle.std.specs.List.{before_first, range_with_len}
-use Rattle.std.proofs.lemmas.Bool.{cases_Bool, cases_lt, and_parts, or_cases, or_left, or_right, or_parts, eqb-true, eq-eqb, lt-ltb, le-ltb, false≢true, false_from_ne_true}
+use Rattle.std.proofs.lemmas.Bool.{cases_Bool, cases_lt, and_parts, or_cases, or_left, or_right, or_parts, eqb-true}
+use Rattle.std.proofs.lemmas.Bool.{eq-eqb, lt-ltb, le-ltb, false≢true, false_from_ne_true}
 use Rattle.std.proofs.lemmas.Cmp.{nat_eq_equiv}
 use Rattle.std.proofs.lemmas.List.{get_or_past}
 use Rattle.std.proofs.lemmas.Map.Made.{length-le_from_is_member}
@@ -60,7 +62,8 @@ total_one q (suc n) =
     let rest = total_one q n in
     elim (cases_lt q n) [
       | inl lt ↦
-          let other : one_if (nat_eq n q) ≡ 0 = ap one_if (false_from_ne_true (nat_eq n q) (λ t. omega (arith, eqb-true n q t, lt))) in
+          let other : one_if (nat_eq n q) ≡ 0 = ap one_if (false_from_ne_true (nat_eq n q)
+          (λ t. omega (arith, eqb-true n q t, lt))) in
           let front : one_if (nat_lt q n) ≡ 1 = ap one_if (lt-ltb q n lt) in
           let whole : one_if (nat_lt q (suc n)) ≡ 1 = ap one_if (lt-ltb q (suc n) (omega (arith, lt))) in
           omega (arith, rest, other, front, whole)
@@ -69,7 +72,8 @@ total_one q (suc n) =
           elim (cases_Bool (nat_eq n q)) [
             | inl here ↦
                 let one : one_if (nat_eq n q) ≡ 1 = ap one_if here in
-                let whole : one_if (nat_lt q (suc n)) ≡ 1 = ap one_if (lt-ltb q (suc n) (omega (arith, eqb-true n q here))) in
+                let whole : one_if (nat_lt q (suc n)) ≡ 1 =
+                ap one_if (lt-ltb q (suc n) (omega (arith, eqb-true n q here))) in
                 omega (arith, rest, one, front, whole)
             | inr other ↦
                 let none : one_if (nat_eq n q) ≡ 0 = ap one_if other in
@@ -79,7 +83,8 @@ total_one q (suc n) =
           ]
     ]
 
-total_place : (o : Option ℕ) (n : ℕ) → ((q : ℕ) → o ≡ Some q → q < n) → total (λ p. one_if (is_at p o)) n ≡ one_if (is_some o)
+total_place : (o : Option ℕ) (n : ℕ) → ((q : ℕ) → o ≡ Some q → q < n)
+    → total (λ p. one_if (is_at p o)) n ≡ one_if (is_some o)
 total_place None n below = total_none n
 total_place (Some q) n below = total_one q n ∙ ap one_if (lt-ltb q n (below q refl))
 
@@ -107,10 +112,17 @@ total_placed place n below (x ∷ xs) =
     total_both (λ p. one_if (is_at p (place x))) (λ p. length (filter (λ y. is_at p (place y)) xs))
     (λ p. length (filter (λ y. is_at p (place y)) (x ∷ xs))) n
     (λ p. counted_more (λ y. is_at p (place y)) x xs)
-    ∙ omega (arith, total_place (place x) n (below x), total_placed place n below xs, counted_more (λ y. is_some (place y)) x xs)
+    ∙ omega (
+      arith,
+      total_place (place x) n (below x),
+      total_placed place n below xs,
+      counted_more
+          (λ y. is_some (place y)) x xs,
+    )
 
 -- where as many pass a weaker test, the same pass
-same_kept : (t u : ℕ → Bool) → Implies t u → (xs : List ℕ) → length (filter t xs) ≡ length (filter u xs) → (x : ℕ) → is_among x xs ≡ true
+same_kept : (t u : ℕ → Bool) → Implies t u → (xs : List ℕ) → length (filter t xs) ≡ length (filter u xs) → (x : ℕ)
+    → is_among x xs ≡ true
     → t x ≡ u x
 same_kept t u weaker [] same x among = absurd (false≢true among)
 same_kept t u weaker (y ∷ ys) same x among =
@@ -151,19 +163,29 @@ other_first p o (y ∷ ys) among apart out =
       | inl here ↦
           let o_is : o ≡ Some y = at_place y o here in
           let differs : own y ≡ false =
-          false_from_ne_true (nat_eq y p) (λ e. false≢true (sym apart ∙ ap (λ k. is_at k o) (sym (eqb-true y p e)) ∙ here)) in
-          (y, (o_is, rw (before_no own y ys differs) (or_left (nat_eq y y) (is_among y (before_first own ys)) (eq-eqb y y refl))))
+          false_from_ne_true (nat_eq y p)
+          (λ e. false≢true (sym apart ∙ ap (λ k. is_at k o) (sym (eqb-true y p e)) ∙ here)) in (
+            y,
+            (
+              o_is,
+              rw (before_no own y ys differs)
+                  (or_left (nat_eq y y) (is_among y (before_first own ys)) (eq-eqb y y refl)),
+            ),
+          )
       | inr there ↦
-          let parts = or_parts (nat_eq p y) (is_among p (before_first test ys)) (rw (before_no test y ys there) at out) in
+          let parts = or_parts (nat_eq p y) (is_among p (before_first test ys))
+          (rw (before_no test y ys there) at out) in
           let later : is_among p ys ≡ true =
-          elim (or_cases (nat_eq p y) (is_among p ys) among) [ inl e ↦ absurd (false≢true (sym parts.0 ∙ e)) | inr l ↦ l ] in
+          elim (or_cases (nat_eq p y) (is_among p ys) among)
+          [ inl e ↦ absurd (false≢true (sym parts.0 ∙ e)) | inr l ↦ l ] in
           let differs : own y ≡ false =
           false_from_ne_true (nat_eq y p) (λ e. false≢true (sym parts.0 ∙ eq-eqb p y (sym (eqb-true y p e)))) in
           let (q, (o_is, first)) = other_first p o ys later apart parts.1 in
           (q, (o_is, rw (before_no own y ys differs) (or_right (nat_eq q y) (is_among q (before_first own ys)) first)))
     ]
 
-module _ (m : MarketRows) (is : IsMarket m) (best : List (Option ℕ)) (stable : IsStable m best) (is_best : IsBestForAll m best)
+module _ (m : MarketRows) (is : IsMarket m) (best : List (Option ℕ)) (stable : IsStable m best)
+    (is_best : IsBestForAll m best)
     (other : List (Option ℕ)) (other_stable : IsStable m other) where
   range : List ℕ
   range = range_with_len 0 (length m.lists)
@@ -176,7 +198,8 @@ module _ (m : MarketRows) (is : IsMarket m) (best : List (Option ℕ)) (stable :
   unfolding placed_in
   placed_stay x t = by (place_of other x) refl (place_of best x) refl t
     where
-      by : (o : Option ℕ) → place_of other x ≡ o → (b : Option ℕ) → place_of best x ≡ b → is_some o ≡ true → is_some b ≡ true
+      by : (o : Option ℕ) → place_of other x ≡ o → (b : Option ℕ) → place_of best x ≡ b → is_some o ≡ true
+          → is_some b ≡ true
       by None at b b_at some = absurd (false≢true some)
       by (Some p) at (Some q) b_at some = refl
       by (Some p) at None b_at some =
@@ -198,12 +221,17 @@ module _ (m : MarketRows) (is : IsMarket m) (best : List (Option ℕ)) (stable :
             length-le_from_is_member nat_eq_equiv (holders best p) (holders other p)
             (distinct_kept (at best) (range_of best) (rising_distinct (range_of best) (range_rises 0 (length best))))
             (λ x among.
-            let both = and_parts (is_among x (range_of best)) (at best x) (sym (among_filter (at best) x (range_of best)) ∙ among) in
+            let both = and_parts (is_among x (range_of best)) (at best x)
+            (sym (among_filter (at best) x (range_of best)) ∙ among) in
             let here : place_of best x ≡ Some p = at_place p (place_of best x) both.1 in
             let on_list : lists_it m p x ≡ true = stable.matching.listed x p here in
             elim (cases_Bool (at other x)) [
               | inl holds ↦
-                  let x_lt : x < length other = omega (arith, is_candidate m is p x on_list, other_stable.matching.one_place_each) in
+                  let x_lt : x < length other = omega (
+                    arith,
+                    is_candidate m is p x on_list,
+                    other_stable.matching.one_place_each,
+                  ) in
                   among_filter (at other) x (range_of other)
                   ∙ rw (range_has x 0 (length other) (omega arith) (omega (arith, x_lt)), holds) refl
               | inr apart ↦
@@ -222,7 +250,8 @@ module _ (m : MarketRows) (is : IsMarket m) (best : List (Option ℕ)) (stable :
             ])
       ]
 
-  programme_below : (places : List (Option ℕ)) → IsStable m places → (x q : ℕ) → place_of places x ≡ Some q → q < length m.orders
+  programme_below : (places : List (Option ℕ)) → IsStable m places → (x q : ℕ) → place_of places x ≡ Some q
+      → q < length m.orders
   programme_below places its x q at = is_programme m is q x (its.matching.listed x q at)
 
   -- all who have a place, counted by programmes
@@ -234,7 +263,8 @@ module _ (m : MarketRows) (is : IsMarket m) (best : List (Option ℕ)) (stable :
       ∙ ap (λ n. length (filter (λ x. is_some (place_of places x)) (range_with_len 0 n))) its.matching.one_place_each
 
   as_many : (length (filter (placed_in other) range) ≡ length (filter (placed_in best) range))
-      × (total (λ p. length (holders best p)) (length m.orders) ≡ total (λ p. length (holders other p)) (length m.orders))
+      × (total (λ p. length (holders best p)) (length m.orders)
+      ≡ total (λ p. length (holders other p)) (length m.orders))
   as_many =
       let placed = filter_implied (placed_in other) (placed_in best) placed_stay range in
       let sums = total_le (λ p. length (holders best p)) (λ p. length (holders other p)) (length m.orders) no_fewer in
@@ -254,12 +284,14 @@ module _ (m : MarketRows) (is : IsMarket m) (best : List (Option ℕ)) (stable :
               ap is_some (get_or_past best x None (omega (arith, past, stable.matching.one_place_each)))
               ∙ sym (ap is_some (get_or_past other x None (omega (arith, past, other_stable.matching.one_place_each))))
         ];
-        programmes = total_same (λ p. length (holders best p)) (λ p. length (holders other p)) (length m.orders) no_fewer as_many.1;
+        programmes = total_same (λ p. length (holders best p)) (λ p. length (holders other p))
+            (length m.orders) no_fewer as_many.1;
       }
 
 pub placed_in_all : GreatestBarsPlaceTheSame
 placed_in_all = λ m bars is greatest others stable.
-    same_placed m is (matched_under m bars) (greatest_is_stable m bars is greatest) (greatest_is_best m bars is greatest) others stable
+    same_placed m is (matched_under m bars) (greatest_is_stable m bars is greatest)
+    (greatest_is_best m bars is greatest) others stable
 
 pub there_is_a_best : ThereIsABest
 there_is_a_best = λ m is.

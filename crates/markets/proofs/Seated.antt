@@ -1,9 +1,11 @@
 -- Where candidates stand under bars, and who moves on as a bar falls by one position.
-use Rattle.std.proofs.Common.{ℕ, ◌+◌, ◌-◌, ◌≤◌, ◌<◌, ◌≡◌, ◌≢◌, ◌⊎◌, true, false, List, [], ◌∷◌, ◌++◌, length, get_or, inl, inr, refl, sym, ◌∙◌, ap, subst, arith, nat_eq, nat_le, Option, Some, None, set}
+use Rattle.std.proofs.Common.{ℕ, ◌+◌, ◌-◌, ◌≤◌, ◌<◌, ◌≡◌, ◌≢◌, ◌⊎◌, true, false, List, [], ◌∷◌, ◌++◌, length, get_or}
+use Rattle.std.proofs.Common.{inl, inr, refl, sym, ◌∙◌, ap, subst, arith, nat_eq, nat_le, Option, Some, None, set}
 use Rattle.std.specs.Prelude.{All, slice_get, slice_index}
 use Rattle.std.specs.List.{position_or_len}
 use Rattle.std.proofs.lemmas.Bool.{cases_eq, cases_lt, eqb-true, eq-eqb, leb-false, le-leb, lt-leb, false≢true}
-use Rattle.std.proofs.lemmas.List.{length-set, length-append, get_or-set_same, get_or-set_other, get_or_append_left, get_or-append_right, get_or_default, get_or_past}
+use Rattle.std.proofs.lemmas.List.{length-set, length-append, get_or-set_same, get_or-set_other, get_or_append_left}
+use Rattle.std.proofs.lemmas.List.{get_or-append_right, get_or_default, get_or_past}
 use Rattle.std.proofs.lemmas.List.FromFn.{fill_by_all, length-map-range_with_len}
 use Rattle.std.proofs.lemmas.List.Sums.{passes_at_first}
 use Rattle.std.proofs.lemmas.Option.{slice_get-get_or, slice_get_past, slice_get_within, get_or_from_slice_get}
@@ -22,12 +24,14 @@ use Rattle.markets.proofs.Rounds.{best_found, best_nowhere}
 
 -- one entry more is beyond reach
 pub beyond_more : (m : MarketRows) (bars : List ℕ) (x s : ℕ) → AreBeyond m bars x s
-    → slice_index bars (slice_index (list_of m x) s) < market_position m (slice_index (list_of m x) s) x → AreBeyond m bars x (s + 1)
+    → slice_index bars (slice_index (list_of m x) s) < market_position m (slice_index (list_of m x) s) x
+    → AreBeyond m bars x (s + 1)
 beyond_more m bars x s beyond out k lt =
     elim (cases_eq k s) [
       | inl here ↦
           ap (λ j. is_within m bars x (slice_index (list_of m x) j)) here
-          ∙ lt-leb (market_position m (slice_index (list_of m x) s) x) (slice_index bars (slice_index (list_of m x) s)) out
+          ∙ lt-leb (market_position m (slice_index (list_of m x) s) x)
+          (slice_index bars (slice_index (list_of m x) s)) out
       | inr other ↦ beyond k (omega (arith, lt, other))
     ]
 
@@ -39,7 +43,8 @@ stand_from m bars x s le beyond reached =
       within = le;
       beyond = beyond;
       best = elim (cases_lt s (length (list_of m x))) [
-        | inl lt ↦ slice_get-get_or (list_of m x) s 0 lt ∙ best_found m bars x s (list_of m x) refl lt beyond (reached lt)
+        | inl lt ↦ slice_get-get_or (list_of m x) s 0 lt
+            ∙ best_found m bars x s (list_of m x) refl lt beyond (reached lt)
         | inr past ↦ slice_get_past (list_of m x) s past ∙ best_nowhere m bars x s (list_of m x) refl past beyond
       ];
     }
@@ -49,7 +54,8 @@ pub reached_at : (m : MarketRows) (bars : List ℕ) (x s : ℕ) → IsStand m ba
     → is_within m bars x (slice_index (list_of m x) s) ≡ true
 reached_at m bars x s stand lt =
     let p : ℕ = slice_index (list_of m x) s in
-    le-leb (market_position m p x) (slice_index bars p) (best_is_within m bars x p (sym stand.best ∙ slice_get-get_or (list_of m x) s 0 lt))
+    le-leb (market_position m p x) (slice_index bars p)
+    (best_is_within m bars x p (sym stand.best ∙ slice_get-get_or (list_of m x) s 0 lt))
 
 -- the stands of the first k candidates
 pub record AreStandsTo (m : MarketRows) (bars : List ℕ) (k : ℕ) (stands : List ℕ) : Type 0 where
@@ -59,7 +65,8 @@ pub record AreStandsTo (m : MarketRows) (bars : List ℕ) (k : ℕ) (stands : Li
 pub stands_none : (m : MarketRows) (bars stands : List ℕ) → stands ≡ [] → AreStandsTo m bars 0 stands
 stands_none m bars stands are = record { one_each = ap length are; each = λ x lt. absurd (omega (arith, lt)) }
 
-pub stands_more : (m : MarketRows) (bars : List ℕ) (k s : ℕ) (stands new : List ℕ) → new ≡ stands ++ s ∷ [] → IsStand m bars k s
+pub stands_more : (m : MarketRows) (bars : List ℕ) (k s : ℕ) (stands new : List ℕ) → new ≡ stands ++ s ∷ []
+    → IsStand m bars k s
     → AreStandsTo m bars k stands → AreStandsTo m bars (k + 1) new
 stands_more m bars k s stands new new_is stand are =
     let P : List ℕ → Type 0 = λ xs. AreStandsTo m bars (k + 1) xs in
@@ -71,7 +78,8 @@ stands_more m bars k s stands new new_is stand are =
             | inl here ↦
                 let now : slice_index (stands ++ s ∷ []) x ≡ s =
                 get_or-append_right stands (s ∷ []) (length stands) x 0 refl (omega (arith, here, are.one_each))
-                ∙ ap (λ i. get_or (s ∷ []) i 0) (let e : x - length stands ≡ 0 = omega (arith, here, are.one_each) in e) in
+                ∙ ap (λ i. get_or (s ∷ []) i 0) (let e : x - length stands ≡ 0 = omega (arith, here, are.one_each) in
+                e) in
                 let R : ℕ → Type 0 = λ y. IsStand m bars y s in
                 subst Q (sym now) (subst R (sym here) stand)
             | inr other ↦
@@ -81,7 +89,8 @@ stands_more m bars k s stands new new_is stand are =
     })
 
 -- a bar falls by one position
-module _ (m : MarketRows) (is : IsMarket m) (bars : List ℕ) (p : ℕ) (p_lt : p < length m.orders) (each : length bars ≡ length m.orders)
+module _ (m : MarketRows) (is : IsMarket m) (bars : List ℕ) (p : ℕ) (p_lt : p < length m.orders)
+    (each : length bars ≡ length m.orders)
     (above : 0 < slice_index bars p) (under : slice_index bars p ≤ length (market_order m p)) where
   abbrev bar : ℕ
   bar = slice_index bars p
@@ -140,7 +149,8 @@ module _ (m : MarketRows) (is : IsMarket m) (bars : List ℕ) (p : ℕ) (p_lt : 
   still_beyond : (x s : ℕ) → AreBeyond m bars x s → AreBeyond m lower x s
   still_beyond x s beyond k lt =
       let q : ℕ = slice_index (list_of m x) k in
-      let out : slice_index bars q < market_position m q x = leb-false (market_position m q x) (slice_index bars q) (beyond k lt) in
+      let out : slice_index bars q < market_position m q x =
+      leb-false (market_position m q x) (slice_index bars q) (beyond k lt) in
       lt-leb (market_position m q x) (slice_index lower q) (omega (arith, out, lower_le q))
 
   -- the others stand where they stood
@@ -167,10 +177,19 @@ module _ (m : MarketRows) (is : IsMarket m) (bars : List ℕ) (p : ℕ) (p_lt : 
       let entry : slice_index (list_of m who) s ≡ p = get_or_from_slice_get (list_of m who) s p 0 found in (
         slice_get_within (list_of m who) s p found,
         beyond_more m lower who s (still_beyond who s stand.beyond)
-            (omega (arith, ap (slice_index lower) entry, lower_here, ap (λ o. market_position m o who) entry, at_who, above)),
+            (omega (
+              arith,
+              ap (slice_index lower) entry,
+              lower_here,
+              ap
+                  (λ o. market_position m o who) entry,
+              at_who,
+              above,
+            )),
       )
 
-  under_now : ((q : ℕ) → slice_index bars q ≤ length (market_order m q)) → (q : ℕ) → slice_index lower q ≤ length (market_order m q)
+  under_now : ((q : ℕ) → slice_index bars q ≤ length (market_order m q)) → (q : ℕ)
+      → slice_index lower q ≤ length (market_order m q)
   under_now all q = omega (arith, lower_le q, all q)
 
   others_best : (stands : List ℕ) → AreStands m bars stands → (x : ℕ) → x ≢ who → x < length m.lists
@@ -181,7 +200,8 @@ module _ (m : MarketRows) (is : IsMarket m) (bars : List ℕ) (p : ℕ) (p_lt : 
 
 -- the places are those of the best within reach, for all or up to the end of the lists
 pub places_from : (m : MarketRows) (bars : List ℕ) (places : List (Option ℕ)) → length places ≡ length m.lists
-    → ((x : ℕ) → x < length m.lists → place_of places x ≡ best_within m bars x) → (x : ℕ) → place_of places x ≡ best_within m bars x
+    → ((x : ℕ) → x < length m.lists → place_of places x ≡ best_within m bars x) → (x : ℕ)
+    → place_of places x ≡ best_within m bars x
 places_from m bars places each are x =
     elim (cases_lt x (length m.lists)) [
       | inl lt ↦ are x lt
@@ -192,7 +212,8 @@ pub are_matched : (m : MarketRows) (bars : List ℕ) (places : List (Option ℕ)
     → ((x : ℕ) → place_of places x ≡ best_within m bars x) → places ≡ matched_under m bars
 are_matched m bars places each are = fill_by_all (best_within m bars) places (length m.lists) None each (λ k lt. are k)
 
-module _ (m : MarketRows) (bars stands : List ℕ) (places : List (Option ℕ)) (f : Fill) (round : IsRound m bars stands places f)
+module _ (m : MarketRows) (bars stands : List ℕ) (places : List (Option ℕ)) (f : Fill)
+    (round : IsRound m bars stands places f)
     (p : ℕ) (p_lt : p < length m.orders) (above : 0 < slice_index bars p) where
   abbrev low : List ℕ
   low = set bars p (slice_index bars p - 1)
@@ -204,23 +225,27 @@ module _ (m : MarketRows) (bars stands : List ℕ) (places : List (Option ℕ)) 
   low_each = length-set bars p (slice_index bars p - 1) ∙ round.seated.one_bar_each
 
   low_under : (q : ℕ) → slice_index low q ≤ length (market_order m q)
-  low_under = under_now m round.valid bars p p_lt round.seated.one_bar_each above (round.seated.under p) round.seated.under
+  low_under = under_now m round.valid bars p p_lt round.seated.one_bar_each above
+      (round.seated.under p) round.seated.under
 
   others : (x : ℕ) → x ≢ next → x < length m.lists → IsStand m low x (slice_index stands x)
   others x other lt =
-      others_stand m round.valid bars p p_lt round.seated.one_bar_each above (round.seated.under p) x (slice_index stands x) other
+      others_stand m round.valid bars p p_lt round.seated.one_bar_each above (round.seated.under p) x
+      (slice_index stands x) other
       (round.seated.stood.each x lt)
 
   -- nobody moves on
   stays : next < length m.lists → is_at p (place_of places next) ≡ false → IsRound m low stands places f
   stays next_lt away =
-      let away_best : is_at p (best_within m bars next) ≡ false = ap (is_at p) (sym (round.seated.placed next)) ∙ away in
+      let away_best : is_at p (best_within m bars next) ≡ false =
+      ap (is_at p) (sym (round.seated.placed next)) ∙ away in
       let Q : ℕ → Type 0 = λ z. IsStand m low z (slice_index stands z) in
       let stood : (x : ℕ) → x < length m.lists → IsStand m low x (slice_index stands x) =
       λ x lt. elim (cases_eq x next) [
         | inl here ↦
             subst Q (sym here)
-            (stands_elsewhere m round.valid bars p p_lt round.seated.one_bar_each above (round.seated.under p) (slice_index stands next)
+            (stands_elsewhere m round.valid bars p p_lt round.seated.one_bar_each above (round.seated.under p)
+            (slice_index stands next)
             away_best
             (round.seated.stood.each next next_lt))
         | inr other ↦ others x other lt
@@ -241,8 +266,10 @@ module _ (m : MarketRows) (bars stands : List ℕ) (places : List (Option ℕ)) 
       }
 
   -- who has a place at the bar moves on
-  moves : (new : List ℕ) (now : List (Option ℕ)) (g : Fill) → next < length m.lists → IsStand m low next (slice_index new next)
-      → new ≡ set stands next (slice_index new next) → now ≡ set places next (best_within m low next) → g.seats ≡ f.seats
+  moves : (new : List ℕ) (now : List (Option ℕ)) (g : Fill) → next < length m.lists
+      → IsStand m low next (slice_index new next)
+      → new ≡ set stands next (slice_index new next) → now ≡ set places next (best_within m low next)
+      → g.seats ≡ f.seats
       → AreCounts (length m.orders) now g.counts → IsRound m low new now g
   moves new now g next_lt stand new_is now_is seats counts =
       let s : ℕ = slice_index new next in
@@ -263,11 +290,13 @@ module _ (m : MarketRows) (bars stands : List ℕ) (places : List (Option ℕ)) 
         | inl here ↦
             let same : place_of now next ≡ best_within m low next =
             ap (λ (xs : List (Option ℕ)). get_or xs next None) now_is
-            ∙ get_or-set_same places next (best_within m low next) None (omega (arith, next_lt, round.seated.one_place_each)) in
+            ∙ get_or-set_same places next (best_within m low next) None
+            (omega (arith, next_lt, round.seated.one_place_each)) in
             let S : ℕ → Type 0 = λ z. place_of now z ≡ best_within m low z in
             subst S (sym here) same
         | inr other ↦
-            ap (λ (xs : List (Option ℕ)). get_or xs x None) now_is ∙ get_or-set_other places next x (best_within m low next) None other
+            ap (λ (xs : List (Option ℕ)). get_or xs x None) now_is
+            ∙ get_or-set_other places next x (best_within m low next) None other
             ∙ round.seated.placed x ∙ sym (round.seated.stood.each x lt).best ∙ (others x other lt).best
       ] in
       record {
@@ -275,7 +304,10 @@ module _ (m : MarketRows) (bars stands : List ℕ) (places : List (Option ℕ)) 
         seated = record {
           one_bar_each = low_each;
           under = low_under;
-          stood = record { one_each = ap length new_is ∙ length-set stands next s ∙ round.seated.stood.one_each; each = stood };
+          stood = record {
+            one_each = ap length new_is ∙ length-set stands next s ∙ round.seated.stood.one_each;
+            each = stood;
+          };
           one_place_each = now_long;
           placed = places_from m low now now_long placed;
         };
@@ -284,9 +316,11 @@ module _ (m : MarketRows) (bars stands : List ℕ) (places : List (Option ℕ)) 
       }
 
 -- what is read of a market, of its bars and of the places, as a bar falls
-module _ {m : MarketRows} {bars stands : List ℕ} {places : List (Option ℕ)} {f : Fill} (round : IsRound m bars stands places f)
+module _ {m : MarketRows} {bars stands : List ℕ} {places : List (Option ℕ)} {f : Fill}
+    (round : IsRound m bars stands places f)
     (p : ℕ) (p_lt : p < length m.orders) (above : 0 < slice_index bars p)
-    {r : MarketRows} (same : r ≡ m) {order : List ℕ} (order_is : order ≡ market_order r p) (within : All (λ x. x < length r.lists) order)
+    {r : MarketRows} (same : r ≡ m) {order : List ℕ} (order_is : order ≡ market_order r p)
+    (within : All (λ x. x < length r.lists) order)
     {height : ℕ} (height_is : height ≡ get_or bars p height) where
   abbrev who_is_there : ℕ
   who_is_there = get_or order (height - 1) 0
@@ -304,7 +338,8 @@ module _ {m : MarketRows} {bars stands : List ℕ} {places : List (Option ℕ)} 
   who_within = omega (arith, within (height - 1) 0 position_within, ap (λ (rows : MarketRows). length rows.lists) same)
 
   next_is : who_is_there ≡ next m bars stands places f round p p_lt above
-  next_is = ap (λ n. get_or order (n - 1) 0) bar_read ∙ ap (λ (xs : List ℕ). get_or xs (slice_index bars p - 1) 0) order_read
+  next_is = ap (λ n. get_or order (n - 1) 0) bar_read
+      ∙ ap (λ (xs : List ℕ). get_or xs (slice_index bars p - 1) 0) order_read
 
   next_within : next m bars stands places f round p p_lt above < length m.lists
   next_within = omega (arith, who_within, next_is)
@@ -318,7 +353,8 @@ module _ {m : MarketRows} {bars stands : List ℕ} {places : List (Option ℕ)} 
 
     module _ {place : Option ℕ} (place_is : place ≡ get_or places who_is_there place) where
       place_read : place ≡ place_of places who_is_there
-      place_read = place_is ∙ get_or_default places who_is_there place None (omega (arith, who_within, round.seated.one_place_each))
+      place_read = place_is ∙ get_or_default places who_is_there place None
+          (omega (arith, who_within, round.seated.one_place_each))
 
       pub nobody_moves : is_at p place ≡ false → IsRound m lower_bars stands places f
       nobody_moves away =
@@ -340,9 +376,11 @@ module _ {m : MarketRows} {bars stands : List ℕ} {places : List (Option ℕ)} 
           let P : ℕ → List ℕ → Type 0 =
           λ z bs. (slice_index stands z < length (list_of m z)) × AreBeyond m bs z (slice_index stands z + 1) in
           let here : P x (low m bars stands places f round p p_lt above) =
-          now_beyond m round.valid bars p p_lt round.seated.one_bar_each above (round.seated.under p) (slice_index stands x) best
+          now_beyond m round.valid bars p p_lt round.seated.one_bar_each above (round.seated.under p)
+          (slice_index stands x) best
           (round.seated.stood.each x next_within) in
-          subst (P who_is_there) (sym lowered) (subst (λ z. P z (low m bars stands places f round p p_lt above)) (sym next_is) here)
+          subst (P who_is_there) (sym lowered) (subst (λ z. P z (low m bars stands places f round p p_lt above))
+          (sym next_is) here)
 
       pub leaving : is_at p place ≡ true → IsLeaving m lower_bars who_is_there p stands places
       leaving holds =
@@ -373,7 +411,8 @@ module _ {m : MarketRows} {bars stands : List ℕ} {places : List (Option ℕ)} 
 
 -- a round, as it begins: what is read of its market, and what is made of it
 module _ {m : MarketRows} (is : IsMarket m) {bars : List ℕ} (each : length bars ≡ length m.orders)
-    (under : (p : ℕ) → slice_index bars p ≤ length (market_order m p)) {stands : List ℕ} (stood : AreStands m bars stands)
+    (under : (p : ℕ) → slice_index bars p ≤ length (market_order m p)) {stands : List ℕ}
+    (stood : AreStands m bars stands)
     {r : MarketRows} (same : r ≡ m) {places : List (Option ℕ)} (are : places ≡ matched_under r bars)
     {r' : MarketRows} (same' : r' ≡ m) {read : List (Option ℕ)} (read_is : read ≡ places) {counts : List ℕ}
     (counted : AreCounts (length r'.orders) read counts)

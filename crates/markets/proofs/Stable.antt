@@ -40,7 +40,8 @@ holder_within m bars p y t =
     best_is_within m bars y p (sym (place_under m bars y) ∙ at_place p (place_of places y) both.1)
 
 -- the position of one who lists a programme is at most its ceiling
-pub position_le : (m : MarketRows) → IsMarket m → (p x : ℕ) → lists_it m p x ≡ true → market_position m p x ≤ length (market_order m p)
+pub position_le : (m : MarketRows) → IsMarket m → (p x : ℕ) → lists_it m p x ≡ true
+    → market_position m p x ≤ length (market_order m p)
 position_le m is p x t = omega (arith, position_is m p x, first_place x (market_order m p) (in_order m is p x t))
 
 pub greatest_is_stable : (m : MarketRows) (bars : List ℕ) → IsMarket m → IsGreatest (market_system m) bars
@@ -64,11 +65,13 @@ greatest_is_stable m bars is greatest =
           let p_lt = is_programme m is p x on_list in
           let low : slice_index bars p < slice_index (map length m.orders) p = omega
           (arith, out, position_le m is p x on_list, ceiling_is m p) in
-          let full : length (demanded m bars p) ≡ slice_index m.seats p = full_below (market_system m) (market_is_lawful m is) bars
+          let full : length (demanded m bars p) ≡ slice_index m.seats p =
+          full_below (market_system m) (market_is_lawful m is) bars
           greatest p low in
           or_from (nat_lt (length (holders places p)) (slice_index m.seats p))
           (list_any (λ y. nat_lt (market_position m p x) (market_position m p y)) (holders places p))
           (le-ltb (length (holders places p)) (slice_index m.seats p) (omega (arith, held p p_lt, full)))
           (none_of (λ y. nat_lt (market_position m p x) (market_position m p y)) (holders places p)
-          (λ y holds. le-ltb (market_position m p x) (market_position m p y) (omega (arith, out, holder_within m bars p y holds))));
+          (λ y holds. le-ltb (market_position m p x) (market_position m p y)
+          (omega (arith, out, holder_within m bars p y holds))));
     }

@@ -1,11 +1,14 @@
 -- Stamps along a list.
-use Rattle.std.proofs.Common.{ℕ, ◌+◌, ◌≤◌, ◌<◌, ◌≡◌, Bool, true, false, not, List, [], ◌∷◌, ◌++◌, length, take, drop, replicate, get_or, inl, inr, refl, sym, ◌∙◌, ap, subst, arith, nat_eq, nat_lt}
+use Rattle.std.proofs.Common.{ℕ, ◌+◌, ◌≤◌, ◌<◌, ◌≡◌, Bool, true, false, not, List, [], ◌∷◌, ◌++◌, length, take, drop}
+use Rattle.std.proofs.Common.{replicate, get_or, inl, inr, refl, sym, ◌∙◌, ap, subst, arith, nat_eq, nat_lt}
 use Rattle.std.specs.Prelude.{slice_index}
 use Rattle.std.specs.List.{list_all}
 use Rattle.std.proofs.Math.ListN.{set}
-use Rattle.std.proofs.lemmas.Bool.{cases_eq, and_parts, and_from, eq-eqb, ne_eqb, lt-ltb, false≢true, false_from_ne_true, or_left, or_right}
+use Rattle.std.proofs.lemmas.Bool.{cases_eq, and_parts, and_from, eq-eqb, ne_eqb, lt-ltb, false≢true}
+use Rattle.std.proofs.lemmas.Bool.{false_from_ne_true, or_left, or_right}
 use Rattle.std.proofs.lemmas.Cmp.{nat_eq_equiv}
-use Rattle.std.proofs.lemmas.List.{append-nil, drop_all, get_or-replicate, length-replicate, length-set, take_all, take_more}
+use Rattle.std.proofs.lemmas.List.{append-nil, drop_all, get_or-replicate, length-replicate, length-set, take_all}
+use Rattle.std.proofs.lemmas.List.{take_more}
 use Rattle.std.proofs.lemmas.List.Folds.{list_all-append, list_any-append}
 use Rattle.std.proofs.lemmas.Grind.{get_or-set_at}
 use Rattle.std.proofs.lemmas.Map.Keys.{IsDistinct-push, apart_from_distinct}
@@ -62,11 +65,13 @@ stamped_more n stamp xs stamps k lt below fresh so =
                 let now : slice_index (set stamps p stamp) q ≡ slice_index stamps q =
                 elim (at_set stamps p stamp q p_lt) [ inl here ↦ absurd (other here.0) | inr there ↦ there ] in
                 ap (λ v. nat_eq v stamp) now ∙ so.bear q (omega (arith, q_lt, length-set stamps p stamp))
-                ∙ sym (list_any-append (nat_eq q) front (p ∷ []) ∙ last_differs (is_among q front) (nat_eq q p) (ne_eqb q p other))
+                ∙ sym (list_any-append (nat_eq q) front (p ∷ [])
+                ∙ last_differs (is_among q front) (nat_eq q p) (ne_eqb q p other))
           ];
       is_list =
           and_from (is_distinct (front ++ p ∷ [])) (list_all (λ q. nat_lt q n) (front ++ p ∷ []))
-          (is_distinct_from (front ++ p ∷ []) (IsDistinct-push nat_eq_equiv front p (distinct_from front parts.0) absent))
+          (is_distinct_from (front ++ p ∷ []) (IsDistinct-push nat_eq_equiv front p
+          (distinct_from front parts.0) absent))
           (list_all-append (λ q. nat_lt q n) front (p ∷ []) ∙ rw (parts.1, lt-ltb p n below) refl);
     })
 
@@ -100,7 +105,8 @@ none_newer n stamps are q lt =
     let within : q < n = omega (arith, lt, ap length are ∙ length-replicate n 0) in
     omega (arith, ap (λ (xs : List ℕ). slice_index xs q) are ∙ get_or-replicate n q 0 0 within)
 
-pub stood_none : (n : ℕ) (lists : List (List ℕ)) (stamps : List ℕ) → stamps ≡ replicate n 0 → AllStood n lists 0 0 stamps
+pub stood_none : (n : ℕ) (lists : List (List ℕ)) (stamps : List ℕ) → stamps ≡ replicate n 0
+    → AllStood n lists 0 0 stamps
 stood_none n lists stamps are =
     record {
       stamp_is = refl;
@@ -110,8 +116,10 @@ stood_none n lists stamps are =
     }
 
 -- whether a list stands the test, as it is read
-pub told_list : (n : ℕ) (lists : List (List ℕ)) (k : ℕ) (item slice stamps now : List ℕ) (result : Bool) → k < length lists
-    → item ≡ get_or lists k item → slice ≡ item → now ≡ stamps → length stamps ≡ n → result ≡ is_list_below (length now) slice
+pub told_list : (n : ℕ) (lists : List (List ℕ)) (k : ℕ) (item slice stamps now : List ℕ) (result : Bool)
+    → k < length lists
+    → item ≡ get_or lists k item → slice ≡ item → now ≡ stamps → length stamps ≡ n
+    → result ≡ is_list_below (length now) slice
     → result ≡ is_list_below n (get_or lists k [])
 told_list n lists k item slice stamps now result lt item_is slice_is now_is as_many told =
     told ∙ ap (λ m. is_list_below m slice) (ap length now_is ∙ as_many)
@@ -133,7 +141,8 @@ stood_more n lists k stamp stamps after so long up_to told =
     }
 
 -- what is written back of a slice of a whole list
-pub put_back : (new old : List ℕ) (n : ℕ) → length new ≡ length old → n ≡ length old → take n (new ++ drop (length new) old) ≡ new
+pub put_back : (new old : List ℕ) (n : ℕ) → length new ≡ length old → n ≡ length old
+    → take n (new ++ drop (length new) old) ≡ new
 put_back new old n long n_is =
     let bare : drop (length new) old ≡ [] = drop_all (length new) old (omega (arith, long)) in
     ap (λ ys. take n (new ++ ys)) bare ∙ ap (take n) (append-nil new) ∙ take_all n new (omega (arith, long, n_is))

@@ -1,5 +1,6 @@
 -- What ties the stands, the places and the counts of a seating, as it begins and as one moves on.
-use Rattle.std.proofs.Common.{ℕ, ◌-◌, ◌<◌, ◌≡◌, List, length, inl, inr, sym, ◌∙◌, ap, subst, arith, Option, Some, None, set}
+use Rattle.std.proofs.Common.{ℕ, ◌-◌, ◌<◌, ◌≡◌, List, length, inl, inr, sym, ◌∙◌, ap, subst, arith, Option, Some, None}
+use Rattle.std.proofs.Common.{set}
 use Rattle.std.specs.Prelude.{is_some, slice_index}
 use Rattle.std.proofs.lemmas.Bool.{cases_eq, cases_lt, false≢true}
 use Rattle.std.proofs.lemmas.List.{length-set, get_or-set_same, get_or-set_other, get_or_past}
@@ -38,7 +39,8 @@ tied_from {m} {bars} {stands} {places} {f} small round =
 
 -- one candidate has another place, or none
 module _ {stands : List ℕ} {places : List (Option ℕ)} {f : Fill} (tied : AreTied stands places f) (x had : ℕ)
-    (is : place_of places x ≡ Some had) (place : Option ℕ) (within : (p : ℕ) → place ≡ Some p → p < length f.seats) where
+    (is : place_of places x ≡ Some had) (place : Option ℕ)
+    (within : (p : ℕ) → place ≡ Some p → p < length f.seats) where
   x_lt : x < length places
   x_lt = placed_below places x had is
 
@@ -53,7 +55,8 @@ module _ {stands : List ℕ} {places : List (Option ℕ)} {f : Fill} (tied : Are
       ]
 
   pub tied_put : (g : Fill) → g.seats ≡ f.seats
-      → g.counts ≡ counted_in (set f.counts had (slice_index f.counts had - 1)) place → AreTied stands (set places x place) g
+      → g.counts ≡ counted_in (set f.counts had (slice_index f.counts had - 1)) place
+      → AreTied stands (set places x place) g
   tied_put g seats counts =
       let n : ℕ = length f.seats in
       let P : ℕ → Type 0 = λ k. AreCounts k (set places x place) g.counts in
@@ -62,5 +65,6 @@ module _ {stands : List ℕ} {places : List (Option ℕ)} {f : Fill} (tied : Are
         few = omega (arith, length-set places x place, tied.few);
         within = λ y p e. omega (arith, others_within y p e, ap length seats);
         counts = subst P (sym (ap length seats))
-            (counts_put n places x had place f.counts g.counts x_lt is (tied.within x had is) within tied.counts counts);
+            (counts_put n places x had place f.counts g.counts x_lt is
+            (tied.within x had is) within tied.counts counts);
       }

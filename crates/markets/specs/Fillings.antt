@@ -1,5 +1,6 @@
 -- How many candidates programmes have, and which have more than their seats.
-use Rattle.std.specs.Prelude.{◌≡◌, ℕ, ◌+◌, ◌≤◌, Bool, List, length, filter, nat_lt, slice_index, slice_set, Option, Some, None}
+use Rattle.std.specs.Prelude.{◌≡◌, ℕ, ◌+◌, ◌≤◌, Bool, List, length, filter, nat_lt, slice_index, slice_set, Option}
+use Rattle.std.specs.Prelude.{Some, None}
 use Rattle.std.specs.List.{range_with_len}
 
 -- the seats of each programme, and its candidates

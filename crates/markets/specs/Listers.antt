@@ -1,5 +1,6 @@
 -- For each programme the candidates whose lists name it.
-use Rattle.std.specs.Prelude.{◌≡◌, ℕ, ◌<◌, Bool, List, [], ◌∷◌, ◌++◌, length, filter, Some, slice_get, slice_index_or, if◌then◌else◌, IsTrue, Vec}
+use Rattle.std.specs.Prelude.{◌≡◌, ℕ, ◌<◌, Bool, List, [], ◌∷◌, ◌++◌, length, filter, Some, slice_get, slice_index_or}
+use Rattle.std.specs.Prelude.{if◌then◌else◌, IsTrue, Vec}
 use Rattle.std.specs.List.{range_with_len}
 use Rattle.std.specs.declared.alloc.Global.{Global}
 use Rattle.admit_core.specs.Lists.{is_among}

@@ -1,5 +1,6 @@
 -- A market: candidates who list programmes, and programmes that order their candidates.
-use Rattle.std.specs.Prelude.{◌≡◌, ℕ, ◌+◌, ◌-◌, ◌≤◌, ◌<◌, Bool, not, ◌&&◌, ◌==◌, List, [], length, filter, nat_eq, nat_lt, find, position, Option, slice_index, slice_index_or, IsTrue}
+use Rattle.std.specs.Prelude.{◌≡◌, ℕ, ◌+◌, ◌-◌, ◌≤◌, ◌<◌, Bool, not, ◌&&◌, ◌==◌, List, [], length, filter, nat_eq}
+use Rattle.std.specs.Prelude.{nat_lt, find, position, Option, slice_index, slice_index_or, IsTrue}
 use Rattle.std.specs.List.{list_all, before_first, range_with_len}
 use Rattle.admit_core.specs.Lists.{is_among, distinct}
 

@@ -1,5 +1,6 @@
 -- Who has a place where, and what makes it stable.
-use Rattle.std.specs.Prelude.{◌≡◌, ℕ, ◌≤◌, ◌<◌, Bool, false, ◌||◌, List, length, filter, nat_eq, nat_lt, find, Option, Some, None, slice_index, slice_index_or, IsTrue}
+use Rattle.std.specs.Prelude.{◌≡◌, ℕ, ◌≤◌, ◌<◌, Bool, false, ◌||◌, List, length, filter, nat_eq, nat_lt, find, Option}
+use Rattle.std.specs.Prelude.{Some, None, slice_index, slice_index_or, IsTrue}
 use Rattle.std.specs.List.{list_any, before_first, range_with_len}
 use Rattle.admit_core.specs.Lists.{is_among}
 use Rattle.markets.specs.Markets.{MarketRows, list_of, lists_it, market_position}

@@ -1,5 +1,6 @@
 -- Positions in orders, and what the rows of a market say of them.
-use Rattle.std.proofs.Common.{ℕ, suc, ◌+◌, ◌-◌, ◌≤◌, ◌<◌, ◌≡◌, Bool, true, false, cond, not, ◌&&◌, List, [], ◌∷◌, length, get_or, inl, inr, refl, sym, ◌∙◌, ap, arith, nat_eq, nat_lt}
+use Rattle.std.proofs.Common.{ℕ, suc, ◌+◌, ◌-◌, ◌≤◌, ◌<◌, ◌≡◌, Bool, true, false, cond, not, ◌&&◌, List, [], ◌∷◌}
+use Rattle.std.proofs.Common.{length, get_or, inl, inr, refl, sym, ◌∙◌, ap, arith, nat_eq, nat_lt}
 use Rattle.std.specs.List.{list_all, before_first, position_or_len, range_with_len, IsDistinct}
 use Rattle.std.proofs.lemmas.Bool.{cases_lt, cases_order, and_parts, or_cases, eqb-true, eq-eqb, ltb-true, false≢true}
 use Rattle.std.proofs.lemmas.Cmp.{nat_eq_equiv}
@@ -9,7 +10,8 @@ use Rattle.std.proofs.lemmas.List.Sums.{passes_at_first, prefix_len-le-length}
 use Rattle.std.proofs.lemmas.Map.Made.{IsDistinct-from_count}
 use Rattle.std.proofs.lemmas.Map.Keys.{apart_from_distinct}
 use Rattle.admit_core.specs.Lists.{is_among, distinct}
-use Rattle.markets.specs.Markets.{MarketRows, IsMarket, list_of, market_order, lists_it, listers, is_distinct, market_position, candidate_at}
+use Rattle.markets.specs.Markets.{MarketRows, IsMarket, list_of, market_order, lists_it, listers, is_distinct}
+use Rattle.markets.specs.Markets.{market_position, candidate_at}
 use Rattle.markets.specs.Firsts.{among_filter, one_of_all, range_has}
 
 -- one who is in an order stands at a first place of it

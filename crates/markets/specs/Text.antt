@@ -1,5 +1,6 @@
 -- A market that is solved, as a text.
-use Rattle.std.specs.Prelude.{ℕ, List, [], ◌∷◌, ◌++◌, Option, Some, None, codes, flat_map, length, map, slice_index, zip}
+use Rattle.std.specs.Prelude.{ℕ, List, [], ◌∷◌, ◌++◌, Option, Some, None, codes, flat_map, length, map, slice_index}
+use Rattle.std.specs.Prelude.{zip}
 use Rattle.std.specs.Fmt.{decimal}
 use Rattle.std.specs.List.{enumerate_from}
 use Rattle.admit_core.specs.DossierRows.{DossierRows}

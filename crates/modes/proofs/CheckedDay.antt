@@ -1,5 +1,6 @@
 -- A day whose chain is tested.
-use Rattle.std.proofs.Common.{◌≡◌, ◌∙◌, ℕ, ◌+◌, List, [], ◌∷◌, Option, Some, None, Result, IsSomeAnd, IfSome, All, ap, length, map, refl, subst, sym}
+use Rattle.std.proofs.Common.{◌≡◌, ◌∙◌, ℕ, ◌+◌, List, [], ◌∷◌, Option, Some, None, Result, IsSomeAnd, IfSome, All, ap}
+use Rattle.std.proofs.Common.{length, map, refl, subst, sym}
 use Rattle.std.specs.Prelude.{option_map}
 use Rattle.std.specs.List.{range_with_len}
 use Rattle.std.specs.Option.{option_or}
@@ -36,24 +37,32 @@ use Rattle.modes.specs.declared.unproved.Unproved.{Unproved}
 use Rattle.modes.specs.declared.unproved.Unproved.TheVariants.{Unfit, Rejected, OutOfMemory}
 
 -- an answer that does not fit
-pub unfit_stops : (d : DossierRows) (day : ℕ) (unfit : Option (ℕ × Status)) (fault : Option Unproved) (refusal : DayRefusal) (why : Unproved) → why ≡ why_of refusal
-    → IsSomeAnd unfit (λ x. refusal ≡ refusals.Unfit (unfit_refusal d day x)) → StopsBy why (option_or (option_map (λ x. Unfit (unfit_refusal d day x)) unfit) fault)
+pub unfit_stops : (d : DossierRows) (day : ℕ) (unfit : Option (ℕ × Status)) (fault : Option Unproved)
+    (refusal : DayRefusal) (why : Unproved) → why ≡ why_of refusal
+    → IsSomeAnd unfit (λ x. refusal ≡ refusals.Unfit (unfit_refusal d day x))
+    → StopsBy why (option_or (option_map (λ x. Unfit (unfit_refusal d day x)) unfit) fault)
 unfit_stops d day None fault refusal why is some = absurd some
 unfit_stops d day (Some x) fault refusal why is some =
     subst (λ (y : Unproved). StopsBy y (Some (Unfit (unfit_refusal d day x)))) (sym (is ∙ ap why_of some)) refl
 
 -- where all answers fit, the chain's first fault tells why
-module _ (terms : Option Terms) (orders : List CallOrder) (day : ℕ) (old dawn : State) (ceilings : List ℕ) (chain : DayChain) (fits : unfit_on terms day old ≡ None) (begins : dawn ≡ morning terms day old)
+module _ (terms : Option Terms) (orders : List CallOrder) (day : ℕ) (old dawn : State) (ceilings : List ℕ)
+    (chain : DayChain) (fits : unfit_on terms day old ≡ None) (begins : dawn ≡ morning terms day old)
     (under : ceilings ≡ ceilings_of old.dossier day) where
-  fault_same : day_fault orders ceilings day dawn chain ≡ day_fault orders (ceilings_of old.dossier day) day (morning terms day old) chain
-  fault_same = ap (λ (cs : List ℕ). day_fault orders cs day dawn chain) under ∙ ap (λ (s : State). day_fault orders (ceilings_of old.dossier day) day s chain) begins
+  fault_same : day_fault orders ceilings day dawn chain
+      ≡ day_fault orders (ceilings_of old.dossier day) day (morning terms day old) chain
+  fault_same = ap (λ (cs : List ℕ). day_fault orders cs day dawn chain) under
+      ∙ ap (λ (s : State). day_fault orders (ceilings_of old.dossier day) day s chain) begins
 
-  pub chain_tells : {X : Type 0} (result : Result X Unproved) → TellsWhy result (option_map (λ (x : ℕ × CheckReason). Rejected x.0 x.1) (day_fault orders ceilings day dawn chain)) → TellsWhy result (why_not terms orders day old chain)
+  pub chain_tells : {X : Type 0} (result : Result X Unproved)
+      → TellsWhy result (option_map (λ (x : ℕ × CheckReason). Rejected x.0 x.1)
+      (day_fault orders ceilings day dawn chain)) → TellsWhy result (why_not terms orders day old chain)
   chain_tells result tells =
       subst (TellsWhy result)
       (ap (option_map (λ (x : ℕ × CheckReason). Rejected x.0 x.1)) fault_same
       ∙ ap (λ (u : Option (ℕ × Status)). option_or (option_map (λ x. Unfit (unfit_refusal old.dossier day x)) u)
-      (option_map (λ (x : ℕ × CheckReason). Rejected x.0 x.1) (day_fault orders (ceilings_of old.dossier day) day (morning terms day old) chain))) (sym fits))
+      (option_map (λ (x : ℕ × CheckReason). Rejected x.0 x.1)
+      (day_fault orders (ceilings_of old.dossier day) day (morning terms day old) chain))) (sym fits))
       tells
 
   module _ (evening : State) (valid : IsDayChain orders ceilings day dawn chain evening) where
@@ -63,7 +72,8 @@ module _ (terms : Option Terms) (orders : List CallOrder) (day : ℕ) (old dawn 
         (subst (λ (cs : List ℕ). IsDayChain orders cs day dawn chain evening) under valid)
 
     pub leads : evening ≡ evening_by terms orders day old chain
-    leads = evening_is orders (ceilings_of old.dossier day) day 1 (morning terms day old) chain.passes evening valid_here
+    leads = evening_is orders (ceilings_of old.dossier day) day 1
+        (morning terms day old) chain.passes evening valid_here
 
     -- a valid chain tells a day of the rules
     told : DayRecord
@@ -80,7 +90,8 @@ module _ (terms : Option Terms) (orders : List CallOrder) (day : ℕ) (old dawn 
     is_day = record {
       lapsed = refl;
       fits = fits;
-      passes = chains_tell_the_day orders (ceilings_of old.dossier day) day (morning terms day old) chain evening valid_here;
+      passes = chains_tell_the_day orders (ceilings_of old.dossier day) day
+          (morning terms day old) chain evening valid_here;
       left = refl;
       free = refl;
     }
@@ -93,7 +104,8 @@ module _ (terms : Option Terms) (orders : List CallOrder) (day : ℕ) (old dawn 
     keeps_stamps = stamps_kept terms orders (ceilings_of old.dossier day) old told evening is_day
 
 -- the days from a place on
-pub why_stops : (found : Unproved) (why rest all : Option Unproved) → all ≡ option_or why rest → StopsBy found why → StopsBy found all
+pub why_stops : (found : Unproved) (why rest all : Option Unproved) → all ≡ option_or why rest → StopsBy found why
+    → StopsBy found all
 why_stops (Unfit refusal) why rest all is stops = is ∙ ap (λ o. option_or o rest) stops
 why_stops (Rejected row reason) why rest all is stops = is ∙ ap (λ o. option_or o rest) stops
 why_stops OutOfMemory why rest all is stops = tt
@@ -102,41 +114,57 @@ pub why_goes_on : (why rest all : Option Unproved) → all ≡ option_or why res
 why_goes_on why rest all is none = is ∙ ap (λ o. option_or o rest) none
 
 -- a stop of the test is that of the days
-pub stop_ends : (d : DossierRows) (found : Unproved) (why : Option Unproved) (whole : List ℕ) (exit : Exit) (text : List ℕ) → StopsBy found why → IsUnproved d found exit text → EndsProof d why whole exit text
-stop_ends d (Unfit refusal) why whole exit text stops is = subst (λ (o : Option Unproved). EndsProof d o whole exit text) (sym stops) is
-stop_ends d (Rejected row reason) why whole exit text stops is = subst (λ (o : Option Unproved). EndsProof d o whole exit text) (sym stops) is
+pub stop_ends : (d : DossierRows) (found : Unproved) (why : Option Unproved) (whole : List ℕ) (exit : Exit)
+    (text : List ℕ) → StopsBy found why → IsUnproved d found exit text → EndsProof d why whole exit text
+stop_ends d (Unfit refusal) why whole exit text stops is =
+    subst (λ (o : Option Unproved). EndsProof d o whole exit text) (sym stops) is
+stop_ends d (Rejected row reason) why whole exit text stops is =
+    subst (λ (o : Option Unproved). EndsProof d o whole exit text) (sym stops) is
 stop_ends d OutOfMemory why whole exit text stops is = absurd is
 
 -- days that are proved have nothing against them, and lead to their evening
-none_against : (terms : Option Terms) (orders : List CallOrder) (day : ℕ) (old : State) (chain : DayChain) (evening : State) → unfit_on terms day old ≡ None
-    → IsDayChain orders (ceilings_of old.dossier day) day (morning terms day old) chain evening → why_not terms orders day old chain ≡ None
+none_against : (terms : Option Terms) (orders : List CallOrder) (day : ℕ) (old : State) (chain : DayChain)
+    (evening : State) → unfit_on terms day old ≡ None
+    → IsDayChain orders (ceilings_of old.dossier day) day (morning terms day old) chain evening
+    → why_not terms orders day old chain ≡ None
 none_against terms orders day old chain evening fits valid =
     ap (λ (u : Option (ℕ × Status)). option_or (option_map (λ x. Unfit (unfit_refusal old.dossier day x)) u)
-    (option_map (λ (x : ℕ × CheckReason). Rejected x.0 x.1) (day_fault orders (ceilings_of old.dossier day) day (morning terms day old) chain))) fits
-    ∙ ap (option_map (λ (x : ℕ × CheckReason). Rejected x.0 x.1)) ((no_fault_where_valid orders (ceilings_of old.dossier day) day (morning terms day old) chain).1 (evening, valid))
+    (option_map (λ (x : ℕ × CheckReason). Rejected x.0 x.1)
+    (day_fault orders (ceilings_of old.dossier day) day (morning terms day old) chain))) fits
+    ∙ ap (option_map (λ (x : ℕ × CheckReason). Rejected x.0 x.1))
+    ((no_fault_where_valid orders (ceilings_of old.dossier day) day (morning terms day old) chain).1
+    (evening, valid))
 
-pub proved_none : (terms : Option Terms) (orders : List CallOrder) (d : ℕ) (old : State) (chains : List DayChain) (new : State) → AreProvedDays terms orders d old chains new → why_none terms orders d old chains ≡ None
+pub proved_none : (terms : Option Terms) (orders : List CallOrder) (d : ℕ) (old : State) (chains : List DayChain)
+    (new : State) → AreProvedDays terms orders d old chains new → why_none terms orders d old chains ≡ None
 proved_none terms orders d old [] new are = refl
 proved_none terms orders d old (chain ∷ chains) new are =
     let evening = are.0 in
     let leads_to = evening_is orders (ceilings_of old.dossier d) d 1 (morning terms d old) chain.passes evening are.2 in
-    ap (λ (o : Option Unproved). option_or o (why_none terms orders (d + 1) (evening_by terms orders d old chain) chains)) (none_against terms orders d old chain evening are.1 are.2)
+    ap (λ (o : Option Unproved). option_or o (why_none terms orders (d + 1)
+    (evening_by terms orders d old chain) chains)) (none_against terms orders d old chain evening are.1 are.2)
     ∙ ap (λ (s : State). why_none terms orders (d + 1) s chains) (sym leads_to)
     ∙ proved_none terms orders (d + 1) evening chains new are.3
 
 -- the test goes on after a day that is proved, and stops at one that is not
-module _ (terms : Option Terms) (orders : List CallOrder) (k : ℕ) (s next : State) (chain : DayChain) (rest : List DayChain) where
-  pub days_go_on : (whole : Option Unproved) → whole ≡ why_none terms orders k s (chain ∷ rest) → why_not terms orders k s chain ≡ None → next ≡ evening_by terms orders k s chain
+module _ (terms : Option Terms) (orders : List CallOrder) (k : ℕ) (s next : State) (chain : DayChain)
+    (rest : List DayChain) where
+  pub days_go_on : (whole : Option Unproved) → whole ≡ why_none terms orders k s (chain ∷ rest)
+      → why_not terms orders k s chain ≡ None → next ≡ evening_by terms orders k s chain
       → whole ≡ why_none terms orders (k + 1) next rest
   days_go_on whole e none is =
-      why_goes_on (why_not terms orders k s chain) (why_none terms orders (k + 1) (evening_by terms orders k s chain) rest) whole e none
+      why_goes_on (why_not terms orders k s chain)
+      (why_none terms orders (k + 1) (evening_by terms orders k s chain) rest) whole e none
       ∙ ap (λ (t : State). why_none terms orders (k + 1) t rest) (sym is)
 
-  pub evening_goes_on : (whole : State) → whole ≡ evening_after terms orders k s (chain ∷ rest) → next ≡ evening_by terms orders k s chain → whole ≡ evening_after terms orders (k + 1) next rest
+  pub evening_goes_on : (whole : State) → whole ≡ evening_after terms orders k s (chain ∷ rest)
+      → next ≡ evening_by terms orders k s chain → whole ≡ evening_after terms orders (k + 1) next rest
   evening_goes_on whole e is = e ∙ ap (λ (t : State). evening_after terms orders (k + 1) t rest) (sym is)
 
-  pub days_stop : (found : Unproved) (whole : Option Unproved) → whole ≡ why_none terms orders k s (chain ∷ rest) → StopsBy found (why_not terms orders k s chain) → StopsBy found whole
-  days_stop found whole e stops = why_stops found (why_not terms orders k s chain) (why_none terms orders (k + 1) (evening_by terms orders k s chain) rest) whole e stops
+  pub days_stop : (found : Unproved) (whole : Option Unproved) → whole ≡ why_none terms orders k s (chain ∷ rest)
+      → StopsBy found (why_not terms orders k s chain) → StopsBy found whole
+  days_stop found whole e stops = why_stops found (why_not terms orders k s chain)
+      (why_none terms orders (k + 1) (evening_by terms orders k s chain) rest) whole e stops
 
 -- the same days along the same orders from the same evening
 module _ {terms told : Option Terms} {orders lent : List CallOrder} {first begun : State} (days : List DayChain)
@@ -148,16 +176,21 @@ module _ {terms told : Option Terms} {orders lent : List CallOrder} {first begun
   evening_alike = λ i. evening_after (as_told i) (as_lent i) 1 (as_begun i) days
 
 -- a run is done where nothing is against its days
-pub proof_ends : (d : DossierRows) (found : Option Unproved) (whole : List ℕ) (exit : Exit) (text : List ℕ) → found ≡ None → IsReply exits.Done whole exit text → EndsProof d found whole exit text
-proof_ends d found whole exit text none is = subst (λ (o : Option Unproved). EndsProof d o whole exit text) (sym none) is
+pub proof_ends : (d : DossierRows) (found : Option Unproved) (whole : List ℕ) (exit : Exit) (text : List ℕ)
+    → found ≡ None → IsReply exits.Done whole exit text → EndsProof d found whole exit text
+proof_ends d found whole exit text none is =
+    subst (λ (o : Option Unproved). EndsProof d o whole exit text) (sym none) is
 
 -- the evening after days from the first one on can be written with its dates
-pub evening_dated : (d : DossierRows) (dated : Option DatedTerms) (begun evening : State) → begun ≡ first_evening d → evening.dossier ≡ begun.dossier → (All (IsStampedBy 366) begun.marks → All (IsStampedBy 366) evening.marks)
+pub evening_dated : (d : DossierRows) (dated : Option DatedTerms) (begun evening : State) → begun ≡ first_evening d
+    → evening.dossier ≡ begun.dossier → (All (IsStampedBy 366) begun.marks → All (IsStampedBy 366) evening.marks)
     → IfSome dated (AreDatedFor d) → CanBeDated dated evening
 evening_dated d dated begun evening first same keeps known =
-    finals_dated evening dated (subst (λ (e : DossierRows). IfSome dated (AreDatedFor e)) (sym (same ∙ ap (λ (s : State). s.dossier) first)) known)
+    finals_dated evening dated (subst (λ (e : DossierRows). IfSome dated (AreDatedFor e))
+    (sym (same ∙ ap (λ (s : State). s.dossier) first)) known)
     (keeps (subst (λ (s : State). All (IsStampedBy 366) s.marks) (sym first) (first_known d dated).stamped))
 
 -- the places of days that can be written are those that their chain names
-pub chain_written : (d : DossierRows) (dated : Option DatedTerms) (days : List DayRecord) → All (CanBeWritten d dated) days → All (HasPassesOf d) days
+pub chain_written : (d : DossierRows) (dated : Option DatedTerms) (days : List DayRecord)
+    → All (CanBeWritten d dated) days → All (HasPassesOf d) days
 chain_written d dated days can = λ k x lt n y within. ((can k x lt).passes n y within).falls

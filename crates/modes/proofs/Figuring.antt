@@ -1,5 +1,6 @@
 -- The figures of a school, and what the picker told as they were found.
-use Rattle.std.proofs.Common.{◌≡◌, ◌∙◌, ℕ, ◌-◌, List, Option, Some, Result, Ok, Err, IfOk, ap, length, nat_eq, position, refl, subst, sym}
+use Rattle.std.proofs.Common.{◌≡◌, ◌∙◌, ℕ, ◌-◌, List, Option, Some, Result, Ok, Err, IfOk, ap, length, nat_eq, position}
+use Rattle.std.proofs.Common.{refl, subst, sym}
 use Rattle.admit_core.specs.Boarding.{boarding}
 use Rattle.admit_core.specs.CallOrder.{AreCallOrders}
 use Rattle.admit_core.specs.DossierRows.{DossierRows, beds_of}
@@ -23,34 +24,48 @@ use Rattle.modes.specs.Asking.{TellsPicks}
 use Rattle.modes.specs.Beds.{IsAsked, IsOnlyText, IsTextOf, PicksForFigures, TellsFigures}
 
 -- the figures that were found, with what the picker told
-module _ (s : State) (d : DossierRows) (orders : List CallOrder) (ceilings : List ℕ) (place need more : ℕ) (before after : List ℕ) (choice choice' : List ℕ → List ℕ → ℕ) (told between told' : List ℕ)
-    (same : s.dossier ≡ d) (lack : more ≡ need - beds_of d place) (least : IsLeastBeds s orders ceilings place need) (growth : IsGrowth s orders ceilings ceilings place more before after)
-    (told_least : TellsOfRun (with_n_beds s orders ceilings place 2000000000) choice told between) (chooses : choice' ≡ choice)
-    (told_growth : TellsOfBoth (boarding s orders ceilings) (with_more_beds s orders ceilings place more) choice' between told') where
+module _ (s : State) (d : DossierRows) (orders : List CallOrder) (ceilings : List ℕ) (place need more : ℕ)
+    (before after : List ℕ) (choice choice' : List ℕ → List ℕ → ℕ) (told between told' : List ℕ)
+    (same : s.dossier ≡ d) (lack : more ≡ need - beds_of d place) (least : IsLeastBeds s orders ceilings place need)
+    (growth : IsGrowth s orders ceilings ceilings place more before after)
+    (told_least : TellsOfRun (with_n_beds s orders ceilings place 2000000000) choice told between)
+    (chooses : choice' ≡ choice)
+    (told_growth : TellsOfBoth (boarding s orders ceilings)
+    (with_more_beds s orders ceilings place more) choice' between told') where
   lacks_so : more ≡ lacks s place need
   lacks_so = lack ∙ ap (λ (e : DossierRows). need - beds_of e place) (sym same)
 
   found : Figures
   found = record { need = need; before = before; after = after }
 
-  figured : (text : List ℕ) → text ≡ beds_text d place need before after → (figures : Figures) × IsTextOf d s orders ceilings place figures text × TellsOfFigures s orders ceilings place figures.need choice told told'
+  figured : (text : List ℕ) → text ≡ beds_text d place need before after
+      → (figures : Figures) × IsTextOf d s orders ceilings place figures text
+      × TellsOfFigures s orders ceilings place figures.need choice told told'
   unfolding found
   figured text is = (
     found,
     record {
-      are_figures = record { need = least; growth = subst (λ (n : ℕ). IsGrowth s orders ceilings ceilings place n before after) lacks_so growth };
+      are_figures = record {
+        need = least;
+        growth = subst (λ (n : ℕ). IsGrowth s orders ceilings ceilings place n before
+            after) lacks_so growth;
+      };
       is_text = is;
     },
     record {
       between = between;
       least = told_least;
-      grown = subst (λ (n : ℕ). TellsOfBoth (boarding s orders ceilings) (with_more_beds s orders ceilings place n) choice between told') lacks_so
-          (subst (λ c. TellsOfBoth (boarding s orders ceilings) (with_more_beds s orders ceilings place more) c between told') chooses told_growth);
+      grown = subst (λ (n : ℕ). TellsOfBoth (boarding s orders ceilings)
+          (with_more_beds s orders ceilings place n) choice between told') lacks_so
+          (subst (λ c. TellsOfBoth (boarding s orders ceilings)
+          (with_more_beds s orders ceilings place more) c between told') chooses told_growth);
     },
   )
 
-  pub all_figured : {T E : Type 0} (bytes : T → List ℕ) (r : Result T E) → IfOk r (λ text. bytes text ≡ beds_text d place need before after)
-      → IfOk r (λ text. (figures : Figures) × IsTextOf d s orders ceilings place figures (bytes text) × TellsOfFigures s orders ceilings place figures.need choice told told')
+  pub all_figured : {T E : Type 0} (bytes : T → List ℕ) (r : Result T E)
+      → IfOk r (λ text. bytes text ≡ beds_text d place need before after)
+      → IfOk r (λ text. (figures : Figures) × IsTextOf d s orders ceilings place figures (bytes text)
+      × TellsOfFigures s orders ceilings place figures.need choice told told')
   all_figured bytes (Ok text) is = figured (bytes text) is
   all_figured bytes (Err e) is = tt
 
@@ -70,29 +85,38 @@ figured_there d ceilings place choice told after bytes r one other same =
 one_place : (found one other : ℕ) (p : Option ℕ) → p ≡ Some one → p ≡ Some other → one ≡ other
 one_place found one other p is also = cc (is, also)
 
-module _ (d : DossierRows) (ids : Ids) (orders : List CallOrder) (days : List DayRecord) (desk : DeskStates) (school : ℕ) where
+module _ (d : DossierRows) (ids : Ids) (orders : List CallOrder) (days : List DayRecord) (desk : DeskStates)
+    (school : ℕ) where
   one_day : (one other : DayRecord) → IsLastOf days one → IsLastOf days other → one ≡ other
   one_day one other is also = cc (is, also)
 
-  one_pass : (p q : ℕ) (one other : LastPass) → IsAsked d ids orders days desk school p one → IsAsked d ids orders days desk school q other → (p ≡ q) × (one ≡ other)
+  one_pass : (p q : ℕ) (one other : LastPass) → IsAsked d ids orders days desk school p one
+      → IsAsked d ids orders days desk school q other → (p ≡ q) × (one ≡ other)
   one_pass p q one other is also = (
     one_place p p q (position (nat_eq school) ids.schools) is.is_place also.is_place,
-    is.is_pass ∙ ap (λ (day : DayRecord). pass_on d orders day desk) (one_day is.day also.day is.is_last also.is_last) ∙ sym also.is_pass,
+    is.is_pass ∙ ap (λ (day : DayRecord). pass_on d orders day desk) (one_day is.day also.day is.is_last also.is_last)
+        ∙ sym also.is_pass,
   )
 
   -- one text tells the figures
-  pub only_text : (one other : List ℕ) → TellsFigures d ids orders days desk school one → TellsFigures d ids orders days desk school other → other ≡ one
+  pub only_text : (one other : List ℕ) → TellsFigures d ids orders days desk school one
+      → TellsFigures d ids orders days desk school other → other ≡ one
   only_text one other is also =
       let same = one_pass also.place is.place also.pass is.pass also.is_asked is.is_asked in
       let P : ℕ → LastPass → Type 0 = λ p x. AreFigures x.opening x.orders x.ceilings p also.figures in
       let there : P is.place is.pass =
-      subst (λ (x : LastPass). P is.place x) same.1 (subst (λ (p : ℕ). P p also.pass) same.0 also.is_text.are_figures) in
-      let figures : also.figures ≡ is.figures = figures_are_fixed is.pass.opening is.pass.orders is.pass.ceilings is.place also.figures is.figures there is.is_text.are_figures in
-      also.is_text.is_text ∙ ap (λ (p : ℕ). beds_text d p also.figures.need also.figures.before also.figures.after) same.0
+      subst (λ (x : LastPass). P is.place x) same.1
+      (subst (λ (p : ℕ). P p also.pass) same.0 also.is_text.are_figures) in
+      let figures : also.figures ≡ is.figures =
+      figures_are_fixed is.pass.opening is.pass.orders is.pass.ceilings is.place also.figures is.figures there
+      is.is_text.are_figures in
+      also.is_text.is_text ∙ ap (λ (p : ℕ). beds_text d p also.figures.need also.figures.before also.figures.after)
+      same.0
       ∙ ap (λ (f : Figures). beds_text d is.place f.need f.before f.after) figures ∙ sym is.is_text.is_text
 
 -- the school of an id in the last pass
-module _ (d : DossierRows) (ids : Ids) (orders : List CallOrder) (days : List DayRecord) (desk : DeskStates) (school place : ℕ) (day : DayRecord) (is_place : position (nat_eq school) ids.schools ≡ Some place)
+module _ (d : DossierRows) (ids : Ids) (orders : List CallOrder) (days : List DayRecord) (desk : DeskStates)
+    (school place : ℕ) (day : DayRecord) (is_place : position (nat_eq school) ids.schools ≡ Some place)
     (is_last : IsLastOf days day) (after : IsDeskAfter d orders days desk) where
   abbrev last : LastPass
   last = pass_on d orders day desk
@@ -113,22 +137,33 @@ module _ (d : DossierRows) (ids : Ids) (orders : List CallOrder) (days : List Da
   opening_ceilings = ends_so.of_dossier.ceilings
 
   -- what was figured in the opening under the day's ceilings
-  module _ (opening : State) (ceilings : List ℕ) (choice : List ℕ → List ℕ → ℕ) (told told' : List ℕ) (opens : opening ≡ desk.opening) (ceil : ceilings ≡ last.ceilings) (more : TellsMore told told') where
+  module _ (opening : State) (ceilings : List ℕ) (choice : List ℕ → List ℕ → ℕ) (told told' : List ℕ)
+      (opens : opening ≡ desk.opening) (ceil : ceilings ≡ last.ceilings) (more : TellsMore told told') where
     abbrev Figured : List ℕ → Type 0
-    Figured text = (figures : Figures) × IsTextOf d opening orders ceilings place figures text × TellsOfFigures opening orders ceilings place figures.need choice told told'
+    Figured text = (figures : Figures) × IsTextOf d opening orders ceilings place figures text
+        × TellsOfFigures opening orders ceilings place figures.need choice told told'
 
     in_last : (text : List ℕ) → Figured text
-        → (figures : Figures) × IsTextOf d last.opening orders last.ceilings place figures text × TellsOfFigures last.opening orders last.ceilings place figures.need choice told told'
+        → (figures : Figures) × IsTextOf d last.opening orders last.ceilings place figures text
+        × TellsOfFigures last.opening orders last.ceilings place figures.need choice told told'
     in_last text figured =
         let P : State → List ℕ → Type 0 =
-        λ o cs. (figures : Figures) × IsTextOf d o orders cs place figures text × TellsOfFigures o orders cs place figures.need choice told told' in
+        λ o cs. (figures : Figures) × IsTextOf d o orders cs place figures text
+        × TellsOfFigures o orders cs place figures.need choice told told' in
         subst (λ (o : State). P o last.ceilings) opens (subst (λ (cs : List ℕ). P opening cs) ceil figured)
 
     tells : (text : List ℕ) → Figured text → TellsFigures d ids orders days desk school text
     tells text figured =
-        let found = in_last text figured in record { place = place; pass = last; figures = found.0; is_asked = asked_so; is_text = found.1 }
+        let found = in_last text figured in record {
+          place = place;
+          pass = last;
+          figures = found.0;
+          is_asked = asked_so;
+          is_text = found.1;
+        }
 
-    picks : (text : List ℕ) → Figured text → TellsPicks (PicksForFigures d ids orders days desk school choice told) told told'
+    picks : (text : List ℕ) → Figured text → TellsPicks (PicksForFigures d ids orders days desk school choice told) told
+        told'
     picks text figured =
         let found = in_last text figured in (
           more.0,
@@ -138,17 +173,21 @@ module _ (d : DossierRows) (ids : Ids) (orders : List CallOrder) (days : List Da
             figures = found.0;
             is_asked = asked_so;
             are_figures = found.1.are_figures;
-            tells = subst (λ (l : List ℕ). TellsOfFigures last.opening orders last.ceilings place found.0.need choice told l) more.1 found.2;
+            tells = subst (λ (l : List ℕ). TellsOfFigures last.opening orders last.ceilings place found.0.need choice
+                told l) more.1 found.2;
           },
           more.1,
         )
 
-    pub all_tell : {T E : Type 0} (bytes : T → List ℕ) (r : Result T E) → IfOk r (λ text. Figured (bytes text)) → IfOk r (λ text. TellsFigures d ids orders days desk school (bytes text))
+    pub all_tell : {T E : Type 0} (bytes : T → List ℕ) (r : Result T E) → IfOk r (λ text. Figured (bytes text))
+        → IfOk r (λ text. TellsFigures d ids orders days desk school (bytes text))
     all_tell bytes (Ok text) figured = tells (bytes text) figured
     all_tell bytes (Err e) figured = tt
 
-    pub all_only : {T E : Type 0} (bytes : T → List ℕ) (r : Result T E) → IfOk r (λ text. Figured (bytes text)) → IfOk r (λ text. IsOnlyText d ids orders days desk school (bytes text))
-    all_only bytes (Ok text) figured = λ other also. only_text d ids orders days desk school (bytes text) other (tells (bytes text) figured) also
+    pub all_only : {T E : Type 0} (bytes : T → List ℕ) (r : Result T E) → IfOk r (λ text. Figured (bytes text))
+        → IfOk r (λ text. IsOnlyText d ids orders days desk school (bytes text))
+    all_only bytes (Ok text) figured = λ other also. only_text d ids orders days desk school (bytes text) other
+        (tells (bytes text) figured) also
     all_only bytes (Err e) figured = tt
 
     pub all_picked : {T E : Type 0} (bytes : T → List ℕ) (r : Result T E) → IfOk r (λ text. Figured (bytes text))

@@ -1,5 +1,6 @@
 -- What an ending rests on, and what it gives for a desk.
-use Rattle.std.proofs.Common.{◌≡◌, ◌∙◌, ◌<◌, ◌≤◌, ℕ, List, [], ◌∷◌, Option, Some, Result, Ok, Err, All, arith, ap, inl, inr, length, nat_eq, position, subst, sym}
+use Rattle.std.proofs.Common.{◌≡◌, ◌∙◌, ◌<◌, ◌≤◌, ℕ, List, [], ◌∷◌, Option, Some, Result, Ok, Err, All, arith, ap, inl}
+use Rattle.std.proofs.Common.{inr, length, nat_eq, position, subst, sym}
 use Rattle.std.specs.Result.{ForOk}
 use Rattle.std.proofs.lemmas.Bool.{cases_Bool}
 use Rattle.std.proofs.lemmas.List.Quantifiers.{position-Some}

@@ -1,5 +1,6 @@
 -- The days and the evening of a job can be written.
-use Rattle.std.proofs.Common.{◌≡◌, ◌∙◌, ℕ, ◌+◌, ◌<◌, ◌≤◌, List, [], ◌∷◌, Option, None, Some, Result, Ok, Err, All, IfSome, arith, filter, get_or, inl, inr, length, refl, subst, sym}
+use Rattle.std.proofs.Common.{◌≡◌, ◌∙◌, ℕ, ◌+◌, ◌<◌, ◌≤◌, List, [], ◌∷◌, Option, None, Some, Result, Ok, Err, All}
+use Rattle.std.proofs.Common.{IfSome, arith, filter, get_or, inl, inr, length, refl, subst, sym}
 use Rattle.std.specs.Prelude.{ℤ, pos, ◌≤ℤ◌, nat_lt, zip}
 use Rattle.std.specs.List.{enumerate_from}
 use Rattle.std.specs.Result.{ForOk}

@@ -16,7 +16,8 @@ use Rattle.report.specs.RefusalText.{refusal_line}
 use Rattle.report.specs.SampleText.{sample_text}
 use Rattle.request.specs.Request.{IsRequest}
 use Rattle.request.specs.declared.modes.Mode.{Mode}
-use Rattle.request.specs.declared.modes.Mode.TheVariants.{Order, Replay, Chain, Check, Explain, Envy, Beds, Market, Sample}
+use Rattle.request.specs.declared.modes.Mode.TheVariants.{Order, Replay, Chain, Check, Explain, Envy, Beds, Market}
+use Rattle.request.specs.declared.modes.Mode.TheVariants.{Sample}
 use Rattle.modes.specs.Asking.{ArePicks, Asked, IsLent, TellsAfter, TellsPicks}
 use Rattle.modes.specs.Beds.{TellsFigures}
 use Rattle.modes.specs.Blocked.{blocked_text}

@@ -1,5 +1,6 @@
 -- What a job asks of its days.
-use Rattle.std.specs.Prelude.{◌≡◌, ◌<◌, ℕ, ◌+◌, List, Option, None, IsTrue, is_some, length, not, option_map, if◌then◌else◌}
+use Rattle.std.specs.Prelude.{◌≡◌, ◌<◌, ℕ, ◌+◌, List, Option, None, IsTrue, is_some, length, not, option_map}
+use Rattle.std.specs.Prelude.{if◌then◌else◌}
 use Rattle.admit_core.specs.CallOrder.{AreCallOrders}
 use Rattle.admit_core.specs.Days.{Days, first_evening, unfit_on}
 use Rattle.admit_core.specs.DossierRows.{DossierRows}

@@ -1,5 +1,6 @@
 -- How a run over a job ends after its days.
-use Rattle.std.proofs.Common.{◌≡◌, ◌∙◌, ℕ, List, Option, None, Some, Result, Ok, Err, IfOk, IfSome, true, false, ap, inl, inr, is_err, option_map, subst, sym}
+use Rattle.std.proofs.Common.{◌≡◌, ◌∙◌, ℕ, List, Option, None, Some, Result, Ok, Err, IfOk, IfSome, true, false, ap}
+use Rattle.std.proofs.Common.{inl, inr, is_err, option_map, subst, sym}
 use Rattle.std.proofs.lemmas.Bool.{false≢true}
 use Rattle.std.proofs.lemmas.Simd.{map-map}
 use Rattle.admit_core.specs.DossierRows.{DossierRows}

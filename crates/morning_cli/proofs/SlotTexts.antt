@@ -1,5 +1,6 @@
 -- The text of a slot that a day changes.
-use Rattle.std.proofs.Common.{◌≡◌, ◌∙◌, ℕ, ◌++◌, Bool, List, [], Option, None, Some, IsTrue, Bor, is_some, option_copied, refl}
+use Rattle.std.proofs.Common.{◌≡◌, ◌∙◌, ℕ, ◌++◌, Bool, List, [], Option, None, Some, IsTrue, Bor, is_some}
+use Rattle.std.proofs.Common.{option_copied, refl}
 use Rattle.std.proofs.lemmas.Bool.{false≢true}
 use Rattle.admit_core.specs.State.{State}
 use Rattle.admit_core.specs.declared.slot.Slot.{Slot}

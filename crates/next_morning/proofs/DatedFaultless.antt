@@ -1,5 +1,6 @@
 -- A check accepts the tables with dates as it does those without.
-use Rattle.std.proofs.Common.{ℕ, ◌+◌, ◌<◌, ◌≡◌, true, false, ◌&&◌, List, All, AllPairs, get_or, length, map, nat_eq, Option, Some, None, refl, sym, ◌∙◌, ap, subst, arith}
+use Rattle.std.proofs.Common.{ℕ, ◌+◌, ◌<◌, ◌≡◌, true, false, ◌&&◌, List, All, AllPairs, get_or, length, map, nat_eq}
+use Rattle.std.proofs.Common.{Option, Some, None, refl, sym, ◌∙◌, ap, subst, arith}
 use Rattle.std.specs.List.{IsDistinct, enumerate_from}
 use Rattle.std.proofs.lemmas.List.{ext_get_or, get_or-map, length-map}
 use Rattle.std.proofs.lemmas.List.FromFn.{get_or-enumerate_from, length-enumerate_from}
@@ -31,7 +32,8 @@ use Rattle.next_morning.specs.DatedLaws.{DatedTablesAreAccepted}
 use Rattle.next_morning.specs.Laws.{IsAccepted, IsEveningOf}
 use Rattle.next_morning.specs.Morning.{morning_tables, tables_after}
 use Rattle.next_morning.proofs.DatedRows.{marks_long}
-use Rattle.next_morning.proofs.Faultless.{apart_by, as_many, no_fault_with, no_wish, one_accepted, row_at, state_ids, state_known}
+use Rattle.next_morning.proofs.Faultless.{apart_by, as_many, no_fault_with, no_wish, one_accepted, row_at, state_ids}
+use Rattle.next_morning.proofs.Faultless.{state_known}
 use Rattle.next_morning.proofs.Mornings.{tables_are_accepted, tables_are_valid}
 
 abbrev undate : StateRow → StateRow

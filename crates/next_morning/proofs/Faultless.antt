@@ -1,5 +1,7 @@
 -- The tables of the next morning have no fault.
-use Rattle.std.proofs.Common.{ℕ, ◌+◌, ◌-◌, ◌<◌, ◌≤◌, ◌≡◌, Bool, true, false, ◌&&◌, List, [], ◌∷◌, All, AllPairs, filter, find, get_or, length, map, nat_eq, nat_lt, option_map, Some, None, take, zip, inl, inr, refl, sym, ◌∙◌, ap, subst, arith}
+use Rattle.std.proofs.Common.{ℕ, ◌+◌, ◌-◌, ◌<◌, ◌≤◌, ◌≡◌, Bool, true, false, ◌&&◌, List, [], ◌∷◌, All, AllPairs, filter}
+use Rattle.std.proofs.Common.{find, get_or, length, map, nat_eq, nat_lt, option_map, Some, None, take, zip, inl, inr}
+use Rattle.std.proofs.Common.{refl, sym, ◌∙◌, ap, subst, arith}
 use Rattle.std.specs.Prelude.{slice_get}
 use Rattle.std.specs.List.{AllByRecursion, IsDistinct}
 use Rattle.std.specs.List.Sorted.{IsNonDecreasing}
@@ -34,7 +36,10 @@ use Rattle.admit_core.specs.declared.tables.WishRow.{WishRow}
 use Rattle.admit_core.specs.Faults.{Test, names_unknown, repeats, takes_rank}
 use Rattle.admit_core.specs.Lists.{is_among}
 use Rattle.admit_core.specs.OwnWishes.{AcceptsOne, IsOneAccepted}
-use Rattle.admit_core.specs.Relations.{answer_tests, boarding_tests, candidate_with, ceiling_tests, day_falls, first_fault, group_tests, is_accepted, is_target, last_row, programme_tests, ranking_tests, same_candidate, school_ids, school_tests, state_tests, wish_ids, wish_tests}
+use Rattle.admit_core.specs.Relations.{answer_tests, boarding_tests, candidate_with, ceiling_tests, day_falls}
+use Rattle.admit_core.specs.Relations.{first_fault, group_tests, is_accepted, is_target, last_row, programme_tests}
+use Rattle.admit_core.specs.Relations.{ranking_tests, same_candidate, school_ids, school_tests, state_tests, wish_ids}
+use Rattle.admit_core.specs.Relations.{wish_tests}
 use Rattle.admit_core.specs.Standing.{answer_of_row, ceiling_of_row, dossier_of, place_of, wish_of_row}
 use Rattle.admit_core.specs.State.{State, entries}
 use Rattle.admit_core.specs.Validity.{IsValid}
@@ -43,7 +48,8 @@ use Rattle.cut_laws.proofs.Dated.{no_mark}
 use Rattle.dossier_check.proofs.LastRow.{last_row-push}
 use Rattle.dossier_check.proofs.NoFault.{HasNoFault}
 use Rattle.dossier_check.proofs.Places.{nat_eq_same, nat_eq_self, nat_eq_sound}
-use Rattle.dossier_check.proofs.RowFacts.{ceiling_schools_known, school_ids_apart, targets_known, wish_ids_apart, wish_ids_differ}
+use Rattle.dossier_check.proofs.RowFacts.{ceiling_schools_known, school_ids_apart, targets_known, wish_ids_apart}
+use Rattle.dossier_check.proofs.RowFacts.{wish_ids_differ}
 use Rattle.next_morning.specs.Morning.{state_row, tables_after}
 use Rattle.next_morning.proofs.SameDossier.{same_school_ids}
 

@@ -1,5 +1,6 @@
 -- The final lines are read as the state slot of the next morning.
-use Rattle.std.proofs.Common.{ℕ, ◌+◌, ◌<◌, ◌≡◌, List, length, map, Ok, Option, Some, None, nat_eq, zip, get_or, sym, ◌∙◌, ap, subst, arith}
+use Rattle.std.proofs.Common.{ℕ, ◌+◌, ◌<◌, ◌≡◌, List, length, map, Ok, Option, Some, None, nat_eq, zip, get_or, sym}
+use Rattle.std.proofs.Common.{◌∙◌, ap, subst, arith}
 use Rattle.std.specs.List.{IsDistinct, enumerate_from}
 use Rattle.std.specs.Prelude.{Result}
 use Rattle.std.proofs.lemmas.List.{ext_get_or, get_or-map, length-map}

@@ -1,5 +1,6 @@
 -- The rows of a dossier are those of the tables that it stands for.
-use Rattle.std.proofs.Common.{ℕ, ◌<◌, ◌≡◌, true, List, [], ◌∷◌, get_or, length, map, nat_eq, Option, None, Some, option_map, refl, sym, ◌∙◌, ap, arith}
+use Rattle.std.proofs.Common.{ℕ, ◌<◌, ◌≡◌, true, List, [], ◌∷◌, get_or, length, map, nat_eq, Option, None, Some}
+use Rattle.std.proofs.Common.{option_map, refl, sym, ◌∙◌, ap, arith}
 use Rattle.std.specs.List.{AllByRecursion}
 use Rattle.std.specs.Option.{option_map_or}
 use Rattle.std.proofs.lemmas.List.{get_or-map, length-map}
@@ -19,7 +20,8 @@ use Rattle.admit_core.specs.declared.tables.WishRow.{WishRow}
 use Rattle.admit_core.specs.DossierRows.{DossierRows}
 use Rattle.admit_core.specs.Lists.{is_among}
 use Rattle.admit_core.specs.Relations.{first_fault, is_target, programme_ids, school_ids, wish_ids}
-use Rattle.admit_core.specs.Standing.{answer_of_row, ceiling_of_row, dossier_of, place_of, programme_of_row, school_of_row, target_of, wish_of_row}
+use Rattle.admit_core.specs.Standing.{answer_of_row, ceiling_of_row, dossier_of, place_of, programme_of_row}
+use Rattle.admit_core.specs.Standing.{school_of_row, target_of, wish_of_row}
 use Rattle.admit_core.specs.State.{State}
 use Rattle.dossier_check.proofs.Firsts.{one_passes}
 use Rattle.dossier_check.proofs.NoFault.{HasNoFault, no_fault}
@@ -28,7 +30,8 @@ use Rattle.dossier_check.proofs.RowFacts.{ceiling_schools_known, programmes_know
 use Rattle.intake.specs.declared.terms.DatedTerms.{DatedTerms}
 use Rattle.next_morning.specs.Morning.{morning_tables}
 use Rattle.next_morning.proofs.Faultless.{no_wish}
-use Rattle.next_morning.specs.RowsBack.{answer_row, ceiling_row, daily_rows, id_at, rows_back, school_row, target_row, wish_row}
+use Rattle.next_morning.specs.RowsBack.{answer_row, ceiling_row, daily_rows, id_at, rows_back, school_row, target_row}
+use Rattle.next_morning.specs.RowsBack.{wish_row}
 
 -- what is made of rows, and made rows again
 back : {R X : Type 0} (P : R → Type 0) (made : R → X) (row : X → R) → ((r : R) → P r → row (made r) ≡ r)

@@ -1,5 +1,6 @@
 -- The tables of the next morning stand for the dossier of the cut.
-use Rattle.std.proofs.Common.{ℕ, ◌+◌, ◌-◌, ◌≡◌, false, List, [], ◌∷◌, filter, find, length, map, nat_eq, nat_lt, option_map, Option, unwrap_or, zip, inl, inr, refl, ◌∙◌, ap, arith}
+use Rattle.std.proofs.Common.{ℕ, ◌+◌, ◌-◌, ◌≡◌, false, List, [], ◌∷◌, filter, find, length, map, nat_eq, nat_lt}
+use Rattle.std.proofs.Common.{option_map, Option, unwrap_or, zip, inl, inr, refl, ◌∙◌, ap, arith}
 use Rattle.std.specs.List.{AllByRecursion, IsDistinct, enumerate_from}
 use Rattle.std.proofs.lemmas.Bool.{cases_Bool}
 use Rattle.std.proofs.lemmas.Map.Keys.{IsDistinct-head, IsDistinct-tail}

@@ -16,7 +16,9 @@ use Rattle.cut_laws.specs.WorkedCampaign.{call_orders, cut_days, cut_night, firs
 use Rattle.report.specs.FinalText.{HasDate, HasDates}
 use Rattle.text_laws.specs.ReadBack.{HaveReadDates}
 use Rattle.next_morning.specs.DatedLaws.{next_terms}
-use Rattle.next_morning.specs.DatedWitnesses.{DatedOffersStandAlikeWitness, DatedRunsAreTheRestWitness, DatedTablesAreAcceptedWitness, DatedTablesAreOfTheCutWitness, DatesAreOfTheEveningWitness, WorkedDatedMornings, from_june}
+use Rattle.next_morning.specs.DatedWitnesses.{DatedOffersStandAlikeWitness, DatedRunsAreTheRestWitness}
+use Rattle.next_morning.specs.DatedWitnesses.{DatedTablesAreAcceptedWitness, DatedTablesAreOfTheCutWitness}
+use Rattle.next_morning.specs.DatedWitnesses.{DatesAreOfTheEveningWitness, WorkedDatedMornings, from_june}
 use Rattle.next_morning.specs.Morning.{morning_tables}
 use Rattle.next_morning.specs.WorkedMorning.{campaign_tables, small_tables}
 use Rattle.next_morning.proofs.DatedFaultless.{dated_tables_are_accepted}

@@ -6,12 +6,14 @@ use Rattle.std.proofs.lemmas.List.Elements.{All-from_recursion}
 use Rattle.std.proofs.lemmas.Map.Keys.{IsDistinct-cons, IsDistinct-from_apart}
 use Rattle.admit_core.proofs.SmallDossier.{small_dossier_holds}
 use Rattle.admit_core.specs.Faults.{first_after}
-use Rattle.admit_core.specs.Ranges.{AreRows, AreTables, IsAnswerRow, IsBoardRow, IsCeilingRow, IsDay, IsGroupRow, IsNumber, IsProgrammeRow, IsRankRow, IsSchoolRow, IsWishRow}
+use Rattle.admit_core.specs.Ranges.{AreRows, AreTables, IsAnswerRow, IsBoardRow, IsCeilingRow, IsDay, IsGroupRow}
+use Rattle.admit_core.specs.Ranges.{IsNumber, IsProgrammeRow, IsRankRow, IsSchoolRow, IsWishRow}
 use Rattle.admit_core.specs.Relations.{first_fault}
 use Rattle.cut_laws.specs.WorkedCampaign.{first_night, small_night}
 use Rattle.cut_laws.proofs.WorkedCampaign as campaign
 use Rattle.next_morning.specs.Laws.{IsEveningOf}
-use Rattle.next_morning.specs.Witnesses.{RunsAreTheRestWitness, TablesAreAcceptedWitness, TablesAreOfTheCutWitness, TablesAreValidWitness}
+use Rattle.next_morning.specs.Witnesses.{RunsAreTheRestWitness, TablesAreAcceptedWitness, TablesAreOfTheCutWitness}
+use Rattle.next_morning.specs.Witnesses.{TablesAreValidWitness}
 use Rattle.next_morning.specs.WorkedMorning.{WorkedMornings, campaign_tables, small_tables}
 use Rattle.next_morning.proofs.Mornings.{tables_are_accepted, tables_are_of_the_cut, tables_are_valid}
 

@@ -11,9 +11,11 @@ use Rattle.text_laws.specs.Witnesses.{small_evening}
 use Rattle.next_morning.specs.Laws.{IsEveningOf}
 use Rattle.next_morning.specs.Morning.{morning_tables}
 use Rattle.next_morning.specs.ReadLaws.{final_lines}
-use Rattle.next_morning.specs.ReadWitnesses.{FinalLinesAreTheStateWitness, ReadStatesAreOfTheCutWitness, ReadStatusesAreOfTheEveningWitness, small_dates, small_rows}
+use Rattle.next_morning.specs.ReadWitnesses.{FinalLinesAreTheStateWitness, ReadStatesAreOfTheCutWitness}
+use Rattle.next_morning.specs.ReadWitnesses.{ReadStatusesAreOfTheEveningWitness, small_dates, small_rows}
 use Rattle.next_morning.specs.WorkedMorning.{small_tables}
-use Rattle.next_morning.proofs.ReadStates.{final_lines_are_the_state, read_states_are_of_the_cut, read_statuses_are_of_the_evening}
+use Rattle.next_morning.proofs.ReadStates.{final_lines_are_the_state, read_states_are_of_the_cut}
+use Rattle.next_morning.proofs.ReadStates.{read_statuses_are_of_the_evening}
 
 second_evening_is : IsEveningOf small_tables small_evening
 second_evening_is = record { dossier = refl; marks = refl; ids = small_dossier_holds.ids.wishes }

@@ -15,7 +15,8 @@ use Rattle.admit_core.specs.Relations.{first_fault}
 use Rattle.admit_core.specs.Standing.{dossier_of}
 use Rattle.admit_core.specs.State.{State}
 use Rattle.cut_laws.specs.Cut.{StandAlike, cut_at}
-use Rattle.cut_laws.specs.WorkedCampaign.{call_orders, cut_days, cut_night, first_night, one_day_more, second_night, small_night}
+use Rattle.cut_laws.specs.WorkedCampaign.{call_orders, cut_days, cut_night, first_night, one_day_more, second_night}
+use Rattle.cut_laws.specs.WorkedCampaign.{small_night}
 use Rattle.dossier_check.specs.Dates.{dates_of}
 use Rattle.intake.specs.declared.terms.DatedTerms.{DatedTerms}
 use Rattle.text_laws.specs.ReadBack.{HaveReadDates, since_when}

@@ -1,5 +1,6 @@
 -- The desk after the days that were played.
-use Rattle.std.proofs.Common.{◌≡◌, ◌∙◌, ℕ, suc, ◌+◌, ◌-◌, List, [], ◌∷◌, Some, Result, Ok, Err, ap, arith, length, refl, subst, sym, Option}
+use Rattle.std.proofs.Common.{◌≡◌, ◌∙◌, ℕ, suc, ◌+◌, ◌-◌, List, [], ◌∷◌, Some, Result, Ok, Err, ap, arith, length, refl}
+use Rattle.std.proofs.Common.{subst, sym, Option}
 use Rattle.std.specs.Prelude.{slice_get}
 use Rattle.std.specs.Result.{ForOk}
 use Rattle.admit_core.specs.CallOrder.{AreCallOrders}
@@ -17,7 +18,8 @@ use Rattle.desk_day.proofs.PassEnds.{desk_ends_so}
 use Rattle.request.specs.declared.pickers.PickerChoice.{PickerChoice}
 use Rattle.played.specs.LastDays.{IsDeskAfter, IsLastOf, pass_on}
 use Rattle.played.specs.Lent.{Lent}
-use Rattle.played.specs.PlayedDays.{DaysEndAfter, IsNext, IsPlayed, Lead, Plan, Played, first_desk, lent_after, moment_of, plan_of}
+use Rattle.played.specs.PlayedDays.{DaysEndAfter, IsNext, IsPlayed, Lead, Plan, Played, first_desk, lent_after}
+use Rattle.played.specs.PlayedDays.{moment_of, plan_of}
 
 -- a day that came about ended with its last pass
 next_ends : (plan : Plan) (d : ℕ) (rows : DossierRows) (old : DeskStates) (before : Lent)

@@ -1,6 +1,7 @@
 -- The days of a campaign, each with the picker of the day, and what becomes of the days that are
 -- asked for.
-use Rattle.std.specs.Prelude.{◌≡◌, ℕ, ◌+◌, ◌<◌, List, [], ◌∷◌, ◌++◌, Option, IsSomeAnd, Result, Ok, Err, IfErr, IfOk, length, ⊤}
+use Rattle.std.specs.Prelude.{◌≡◌, ℕ, ◌+◌, ◌<◌, List, [], ◌∷◌, ◌++◌, Option, IsSomeAnd, Result, Ok, Err, IfErr, IfOk}
+use Rattle.std.specs.Prelude.{length, ⊤}
 use Rattle.admit_core.specs.CallOrder.{AreCallOrders}
 use Rattle.admit_core.specs.Days.{ceilings_of, first_evening, unfit_on}
 use Rattle.admit_core.specs.DossierRows.{DossierRows}

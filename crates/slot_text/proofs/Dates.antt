@@ -1,5 +1,6 @@
 -- A date that was read is written as it was, and read again.
-use Rattle.std.proofs.Common.{ℕ, ◌-◌, ◌<◌, ◌≤◌, ◌≡◌, ◌^◌, ◌/◌, Bool, true, false, ◌∷◌, ◌++◌, nat_le, nat_lt, Some, None, Ok, refl, ◌∙◌, ap, ⊎_elim, arith, lt-ltb}
+use Rattle.std.proofs.Common.{ℕ, ◌-◌, ◌<◌, ◌≤◌, ◌≡◌, ◌^◌, ◌/◌, Bool, true, false, ◌∷◌, ◌++◌, nat_le, nat_lt, Some, None}
+use Rattle.std.proofs.Common.{Ok, refl, ◌∙◌, ap, ⊎_elim, arith, lt-ltb}
 use Rattle.std.specs.Prelude.{◌&&◌, IsSome, if◌then◌else◌}
 use Rattle.std.specs.Fmt.{decimal, char_count, format_spec, padded_integral, styled_decimal}
 use Rattle.std.proofs.lemmas.Bool.{cases_lt}

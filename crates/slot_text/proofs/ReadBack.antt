@@ -1,12 +1,14 @@
 -- The texts of all slots are read as their rows.
-use Rattle.std.proofs.Common.{ℕ, ◌<◌, ◌≤◌, ◌≡◌, Bool, true, false, List, [], ◌∷◌, length, Option, Some, None, Ok, refl, sym, ◌∙◌, ap, subst, arith, codes}
+use Rattle.std.proofs.Common.{ℕ, ◌<◌, ◌≤◌, ◌≡◌, Bool, true, false, List, [], ◌∷◌, length, Option, Some, None, Ok, refl}
+use Rattle.std.proofs.Common.{sym, ◌∙◌, ap, subst, arith, codes}
 use Rattle.std.specs.Prelude.{All}
 use Rattle.std.specs.Fmt.{decimal}
 use Rattle.std.specs.Option.{ForSome, ok_or}
 use Rattle.std.proofs.lemmas.Fmt.{decimal_nonempty}
 use Rattle.csv.specs.Reading.{strip_bom}
 use Rattle.csv.specs.Records.{field_at}
-use Rattle.admit_core.specs.Ranges.{AreRows, IsAnswerRow, IsBoardRow, IsCeilingRow, IsDay, IsGroupRow, IsNumber, IsProgrammeRow, IsRankRow, IsSchoolRow, IsStateRow, IsWishRow}
+use Rattle.admit_core.specs.Ranges.{AreRows, IsAnswerRow, IsBoardRow, IsCeilingRow, IsDay, IsGroupRow, IsNumber}
+use Rattle.admit_core.specs.Ranges.{IsProgrammeRow, IsRankRow, IsSchoolRow, IsStateRow, IsWishRow}
 use Rattle.admit_core.specs.Lines.{status_word}
 use Rattle.admit_core.specs.declared.dossier.AnswerKind.{AnswerKind}
 use Rattle.admit_core.specs.declared.dossier.AnswerKind.TheVariants.{Accept, Refuse, Withdraw, Quit}
@@ -22,9 +24,12 @@ use Rattle.admit_core.specs.declared.tables.SchoolRow.{SchoolRow}
 use Rattle.admit_core.specs.declared.tables.Since.{Since}
 use Rattle.admit_core.specs.declared.tables.StateRow.{StateRow}
 use Rattle.admit_core.specs.declared.tables.WishRow.{WishRow}
-use Rattle.dossier_csv.specs.Columns.{IsSince, added_number, amounts, choice, days, flag, ids, number, optional_date, optional_date_from, optional_from, optional_number, percents, text_at, within, word, number_of}
+use Rattle.dossier_csv.specs.Columns.{IsSince, added_number, amounts, choice, days, flag, ids, number, optional_date}
+use Rattle.dossier_csv.specs.Columns.{optional_date_from, optional_from, optional_number, percents, text_at, within}
+use Rattle.dossier_csv.specs.Columns.{word, number_of}
 use Rattle.dossier_csv.specs.Rows as Rows
-use Rattle.dossier_csv.specs.Rows.{answer_row, board_row, ceiling_row, group_row, kind_word, kinds, programme_row, rank_row, school_row, statuses, wish_row}
+use Rattle.dossier_csv.specs.Rows.{answer_row, board_row, ceiling_row, group_row, kind_word, kinds, programme_row}
+use Rattle.dossier_csv.specs.Rows.{rank_row, school_row, statuses, wish_row}
 use Rattle.dossier_csv.specs.Shape.{shape, table_of}
 use Rattle.dossier_csv.proofs.Words.{each_kind, each_status}
 use Rattle.text_laws.proofs.StateSlots.{number_plain, number_within, state_row_by, status_plain, text_plain}
@@ -323,7 +328,8 @@ programmes_head : IsReadHeader Rows.programmes Texts.programmes
 unfolding strip_bom table_of
 programmes_head =
     record {
-      line = row_plain (codes "programme") (codes "group") (codes "seats" ∷ codes "limit" ∷ []) (refl, (refl, (refl, (refl, tt))));
+      line = row_plain (codes "programme") (codes "group") (codes "seats" ∷ codes "limit" ∷ [])
+          (refl, (refl, (refl, (refl, tt))));
       back = refl;
       fields = λ x. refl;
       no_mark = λ rows. refl;
@@ -345,7 +351,8 @@ rankings_head : IsReadHeader Rows.rankings Texts.rankings
 unfolding strip_bom table_of
 rankings_head =
     record {
-      line = row_plain (codes "group") (codes "candidate") (codes "rank" ∷ codes "scholar" ∷ codes "resident" ∷ []) (refl, (refl, (refl, (refl, (refl, tt)))));
+      line = row_plain (codes "group") (codes "candidate") (codes "rank" ∷ codes "scholar" ∷ codes "resident" ∷ [])
+          (refl, (refl, (refl, (refl, (refl, tt)))));
       back = refl;
       fields = λ x. refl;
       no_mark = λ rows. refl;
@@ -367,7 +374,8 @@ wishes_head : IsReadHeader Rows.wishes Texts.wishes
 unfolding strip_bom table_of
 wishes_head =
     record {
-      line = row_plain (codes "wish") (codes "candidate") (codes "programme" ∷ codes "school" ∷ codes "preference" ∷ []) (refl, (refl, (refl, (refl, (refl, tt)))));
+      line = row_plain (codes "wish") (codes "candidate") (codes "programme" ∷ codes "school" ∷ codes "preference" ∷ [])
+          (refl, (refl, (refl, (refl, (refl, tt)))));
       back = refl;
       fields = λ x. refl;
       no_mark = λ rows. refl;
@@ -431,13 +439,21 @@ state_read false rows are dates =
 pub slots_read_back : SlotsReadBack
 slots_read_back dated t are dates =
     record {
-      groups = table_read Rows.groups Texts.groups IsGroupRow groups_head group_is t.groups are.groups.size are.groups.each;
-      programmes = table_read Rows.programmes Texts.programmes IsProgrammeRow programmes_head programme_is t.programmes are.programmes.size are.programmes.each;
-      schools = table_read Rows.schools Texts.schools IsSchoolRow schools_head school_is t.schools are.schools.size are.schools.each;
-      rankings = table_read Rows.rankings Texts.rankings IsRankRow rankings_head rank_is t.rankings are.rankings.size are.rankings.each;
-      boarding = table_read Rows.boarding Texts.boarding IsBoardRow boarding_head board_is t.boarding are.boarding.size are.boarding.each;
-      wishes = table_read Rows.wishes Texts.wishes IsWishRow wishes_head wish_is t.wishes are.wishes.size are.wishes.each;
+      groups = table_read Rows.groups Texts.groups IsGroupRow groups_head group_is t.groups are.groups.size
+          are.groups.each;
+      programmes = table_read Rows.programmes Texts.programmes IsProgrammeRow programmes_head programme_is t.programmes
+          are.programmes.size are.programmes.each;
+      schools = table_read Rows.schools Texts.schools IsSchoolRow schools_head school_is t.schools are.schools.size
+          are.schools.each;
+      rankings = table_read Rows.rankings Texts.rankings IsRankRow rankings_head rank_is t.rankings are.rankings.size
+          are.rankings.each;
+      boarding = table_read Rows.boarding Texts.boarding IsBoardRow boarding_head board_is t.boarding are.boarding.size
+          are.boarding.each;
+      wishes = table_read Rows.wishes Texts.wishes IsWishRow wishes_head wish_is t.wishes are.wishes.size
+          are.wishes.each;
       state = state_read dated t.state are.state dates;
-      ceilings = table_read Rows.ceilings Texts.ceilings IsCeilingRow ceilings_head ceiling_is t.ceilings are.ceilings.size are.ceilings.each;
-      answers = table_read Rows.answers Texts.answers IsAnswerRow answers_head answer_is t.answers are.answers.size are.answers.each;
+      ceilings = table_read Rows.ceilings Texts.ceilings IsCeilingRow ceilings_head ceiling_is t.ceilings
+          are.ceilings.size are.ceilings.each;
+      answers = table_read Rows.answers Texts.answers IsAnswerRow answers_head answer_is t.answers are.answers.size
+          are.answers.each;
     }

@@ -3,7 +3,8 @@ use Rattle.std.proofs.Common.{◌≡◌, true, None, Some, refl, subst, arith}
 use Rattle.std.specs.Fmt.{digits}
 use Rattle.std.specs.Option.{ForSome}
 use Rattle.std.proofs.lemmas.List.Elements.{All-from_recursion}
-use Rattle.admit_core.specs.Ranges.{AreTables, IsAnswerRow, IsBoardRow, IsCeilingRow, IsDay, IsGroupRow, IsNumber, IsProgrammeRow, IsRankRow, IsSchoolRow, IsStateRow, IsWishRow}
+use Rattle.admit_core.specs.Ranges.{AreTables, IsAnswerRow, IsBoardRow, IsCeilingRow, IsDay, IsGroupRow, IsNumber}
+use Rattle.admit_core.specs.Ranges.{IsProgrammeRow, IsRankRow, IsSchoolRow, IsStateRow, IsWishRow}
 use Rattle.dossier_csv.specs.Columns.{IsSince}
 use Rattle.slot_text.specs.ReadBack.{HasDate}
 use Rattle.slot_text.specs.Witnesses.{SlotsReadBackWitness, WorkedTexts, few_rows}

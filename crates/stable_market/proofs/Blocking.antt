@@ -1,5 +1,6 @@
 -- Who blocks a matching, found by walks.
-use Rattle.std.proofs.Common.{ℕ, zero, suc, ◌+◌, ◌≤◌, ◌<◌, ◌≡◌, Bool, true, false, List, [], ◌∷◌, length, get_or, inl, inr, refl, sym, ◌∙◌, ap, subst, arith}
+use Rattle.std.proofs.Common.{ℕ, zero, suc, ◌+◌, ◌≤◌, ◌<◌, ◌≡◌, Bool, true, false, List, [], ◌∷◌, length, get_or, inl}
+use Rattle.std.proofs.Common.{inr, refl, sym, ◌∙◌, ap, subst, arith}
 use Rattle.std.specs.Prelude.{Option, Some, None, find}
 use Rattle.std.specs.List.{before_first}
 use Rattle.std.specs.Option.{is_some}
@@ -20,7 +21,8 @@ walk_stops t u (x ∷ xs) zero lt on fails stop = rw (before_yes u x xs stop) re
 walk_stops t u (x ∷ xs) (suc k) lt on fails stop =
     let first : t x ≡ false = fails 0 (omega arith) in
     rw (before_no u x xs (on 0 (omega arith)), first)
-    (walk_stops t u xs k (omega (arith, lt)) (λ j l. on (suc j) (omega (arith, l))) (λ j l. fails (suc j) (omega (arith, l))) stop)
+    (walk_stops t u xs k (omega (arith, lt)) (λ j l. on (suc j) (omega (arith, l)))
+    (λ j l. fails (suc j) (omega (arith, l))) stop)
 
 walk_finds : (t u : ℕ → Bool) (xs : List ℕ) (k : ℕ) → k < length xs → ((j : ℕ) → j ≤ k → u (get_or xs j 0) ≡ false)
     → ((j : ℕ) → j < k → t (get_or xs j 0) ≡ false)
@@ -30,7 +32,8 @@ walk_finds t u (x ∷ xs) zero lt on fails passes = rw (before_no u x xs (on 0 (
 walk_finds t u (x ∷ xs) (suc k) lt on fails passes =
     let first : t x ≡ false = fails 0 (omega arith) in
     rw (before_no u x xs (on 0 (omega arith)), first)
-    (walk_finds t u xs k (omega (arith, lt)) (λ j l. on (suc j) (omega (arith, l))) (λ j l. fails (suc j) (omega (arith, l))) passes)
+    (walk_finds t u xs k (omega (arith, lt)) (λ j l. on (suc j) (omega (arith, l)))
+    (λ j l. fails (suc j) (omega (arith, l))) passes)
 
 walk_ends : (t u : ℕ → Bool) (xs : List ℕ) → ((j : ℕ) → j < length xs → u (get_or xs j 0) ≡ false)
     → ((j : ℕ) → j < length xs → t (get_or xs j 0) ≡ false)
@@ -42,16 +45,22 @@ walk_ends t u (x ∷ xs) on fails =
     (walk_ends t u xs (λ j l. on (suc j) (omega (arith, l))) (λ j l. fails (suc j) (omega (arith, l))))
 
 -- the first k programmes of a list are no place of the candidate, and would not take them
-pub record ArePassed (m : MarketRows) (places : List (Option ℕ)) (x : ℕ) (place : Option ℕ) (list : List ℕ) (k : ℕ) : Type 0 where
+pub record ArePassed (m : MarketRows) (places : List (Option ℕ)) (x : ℕ) (place : Option ℕ) (list : List ℕ) (k : ℕ) :
+    Type 0 where
   pub elsewhere : (j : ℕ) → j < k → is_at (get_or list j 0) place ≡ false
   pub full : (j : ℕ) → j < k → would_take m places (get_or list j 0) x ≡ false
 
-pub passed_none : (m : MarketRows) (places : List (Option ℕ)) (x : ℕ) (place : Option ℕ) (list : List ℕ) → ArePassed m places x place list 0
-passed_none m places x place list = record { elsewhere = λ j l. absurd (omega (arith, l)); full = λ j l. absurd (omega (arith, l)) }
+pub passed_none : (m : MarketRows) (places : List (Option ℕ)) (x : ℕ) (place : Option ℕ) (list : List ℕ)
+    → ArePassed m places x place list 0
+passed_none m places x place list = record {
+  elsewhere = λ j l. absurd (omega (arith, l));
+  full = λ j l. absurd (omega (arith, l));
+}
 
 pub passed_more : (m : MarketRows) (places : List (Option ℕ)) (x : ℕ) (place : Option ℕ) (list : List ℕ) (k : ℕ)
     → is_at (get_or list k 0) place ≡ false
-    → would_take m places (get_or list k 0) x ≡ false → ArePassed m places x place list k → ArePassed m places x place list (k + 1)
+    → would_take m places (get_or list k 0) x ≡ false → ArePassed m places x place list k
+    → ArePassed m places x place list (k + 1)
 passed_more m places x place list k away full so =
     record {
       elsewhere = λ j l. elim (cases_eq j k) [
@@ -67,24 +76,31 @@ passed_more m places x place list k away full so =
     }
 
 -- the walk with the candidate's own list and place
-own_walk : (m : MarketRows) (places : List (Option ℕ)) (x : ℕ) (place answer : Option ℕ) (list : List ℕ) → list ≡ list_of m x
+own_walk : (m : MarketRows) (places : List (Option ℕ)) (x : ℕ) (place answer : Option ℕ) (list : List ℕ)
+    → list ≡ list_of m x
     → place ≡ place_of places x
-    → find (λ p. would_take m places p x) (before_first (λ p. is_at p place) list) ≡ answer → answer ≡ block_of m places x
+    → find (λ p. would_take m places p x) (before_first (λ p. is_at p place) list) ≡ answer
+    → answer ≡ block_of m places x
 own_walk m places x place answer list list_is place_is e =
-    let P : List ℕ → Type 0 = λ xs. find (λ p. would_take m places p x) (before_first (λ p. is_at p place) xs) ≡ answer in
-    let Q : Option ℕ → Type 0 = λ o. find (λ p. would_take m places p x) (before_first (λ p. is_at p o) (list_of m x)) ≡ answer in
+    let P : List ℕ → Type 0 = λ xs. find (λ p. would_take m places p x) (before_first (λ p. is_at p place) xs)
+    ≡ answer in
+    let Q : Option ℕ → Type 0 = λ o. find (λ p. would_take m places p x) (before_first (λ p. is_at p o) (list_of m x))
+    ≡ answer in
     sym (subst Q place_is (subst P list_is e))
 
-pub block_stops : (m : MarketRows) (places : List (Option ℕ)) (x : ℕ) (place : Option ℕ) (list : List ℕ) (k : ℕ) → list ≡ list_of m x
+pub block_stops : (m : MarketRows) (places : List (Option ℕ)) (x : ℕ) (place : Option ℕ) (list : List ℕ) (k : ℕ)
+    → list ≡ list_of m x
     → place ≡ place_of places x → k < length list
     → is_at (get_or list k 0) place ≡ true → ArePassed m places x place list k → None ≡ block_of m places x
 block_stops m places x place list k list_is place_is lt here so =
     own_walk m places x place None list list_is place_is
     (walk_stops (λ p. would_take m places p x) (λ p. is_at p place) list k lt so.elsewhere so.full here)
 
-pub block_found : (m : MarketRows) (places : List (Option ℕ)) (x : ℕ) (place : Option ℕ) (list : List ℕ) (k : ℕ) → list ≡ list_of m x
+pub block_found : (m : MarketRows) (places : List (Option ℕ)) (x : ℕ) (place : Option ℕ) (list : List ℕ) (k : ℕ)
+    → list ≡ list_of m x
     → place ≡ place_of places x → k < length list
-    → is_at (get_or list k 0) place ≡ false → would_take m places (get_or list k 0) x ≡ true → ArePassed m places x place list k
+    → is_at (get_or list k 0) place ≡ false → would_take m places (get_or list k 0) x ≡ true
+    → ArePassed m places x place list k
     → Some (get_or list k 0) ≡ block_of m places x
 block_found m places x place list k list_is place_is lt away takes so =
     own_walk m places x place (Some (get_or list k 0)) list list_is place_is
@@ -95,7 +111,8 @@ block_found m places x place list k list_is place_is lt away takes so =
       | inr other ↦ so.elsewhere j (omega (arith, l, other))
     ]) so.full takes)
 
-pub block_ends : (m : MarketRows) (places : List (Option ℕ)) (x : ℕ) (place : Option ℕ) (list : List ℕ) (k : ℕ) → list ≡ list_of m x
+pub block_ends : (m : MarketRows) (places : List (Option ℕ)) (x : ℕ) (place : Option ℕ) (list : List ℕ) (k : ℕ)
+    → list ≡ list_of m x
     → place ≡ place_of places x → length list ≤ k
     → ArePassed m places x place list k → None ≡ block_of m places x
 block_ends m places x place list k list_is place_is past so =
@@ -122,7 +139,8 @@ stable_from m places matching none =
                 ∙ any_of (λ q. would_take m places q x) p (preferred m places x) t takes))
             | inr past ↦
                 let empty : prefers m places x p ≡ false = ap
-                (λ (xs : List ℕ). is_among p (before_first (λ q. is_at q (place_of places x)) xs)) (get_or_past m.lists x [] past) in
+                (λ (xs : List ℕ). is_among p (before_first (λ q. is_at q (place_of places x)) xs))
+                (get_or_past m.lists x [] past) in
                 absurd (false≢true (sym empty ∙ t))
           ];
     }

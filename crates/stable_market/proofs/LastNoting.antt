@@ -1,9 +1,11 @@
 -- What is noted of the candidates of a matching, one after another: the last of each programme.
-use Rattle.std.proofs.Common.{ℕ, ◌+◌, ◌<◌, ◌≡◌, Bool, true, false, cond, ◌||◌, List, [], ◌∷◌, ◌++◌, length, get_or, inl, inr, refl, sym, ◌∙◌, ap, subst, arith, nat_lt, Option, Some, None, set}
+use Rattle.std.proofs.Common.{ℕ, ◌+◌, ◌<◌, ◌≡◌, Bool, true, false, cond, ◌||◌, List, [], ◌∷◌, ◌++◌, length, get_or, inl}
+use Rattle.std.proofs.Common.{inr, refl, sym, ◌∙◌, ap, subst, arith, nat_lt, Option, Some, None, set}
 use Rattle.std.specs.Prelude.{slice_index, replicate, max}
 use Rattle.std.specs.List.{list_any}
 use Rattle.std.proofs.lemmas.Bool.{cases_eq, cases_lt, eq-eqb, ne_eqb, lt-ltb, le-ltb}
-use Rattle.std.proofs.lemmas.List.{length-set, append-nil, length-replicate, get_or-replicate, get_or-set_same, get_or-set_other}
+use Rattle.std.proofs.lemmas.List.{length-set, append-nil, length-replicate, get_or-replicate, get_or-set_same}
+use Rattle.std.proofs.lemmas.List.{get_or-set_other}
 use Rattle.std.proofs.lemmas.List.Folds.{list_any-append}
 use Rattle.admit_core.proofs.Plain.{or_false}
 use Rattle.bar_fixpoint.proofs.Listing.{filter_more}
@@ -35,19 +37,23 @@ lasts_none m places lasts are =
     record {
       one_each = ap length are ∙ length-replicate (length m.orders) 0;
       each = λ p j lt.
-          let none : slice_index lasts p ≡ 0 = ap (λ (xs : List ℕ). get_or xs p 0) are ∙ get_or-replicate (length m.orders) p 0 0 lt in
+          let none : slice_index lasts p ≡ 0 = ap (λ (xs : List ℕ). get_or xs p 0) are
+          ∙ get_or-replicate (length m.orders) p 0 0 lt in
           le-ltb j (slice_index lasts p) (omega (arith, none));
     }
 
-pub lasts_more : (m : MarketRows) (places : List (Option ℕ)) (k : ℕ) (lasts new : List ℕ) (o : Option ℕ) → place_of places k ≡ o
-    → ((p : ℕ) → o ≡ Some p → p < length m.orders) → AreLastsTo m places k lasts → new ≡ noted m k lasts o → AreLastsTo m places (k + 1) new
+pub lasts_more : (m : MarketRows) (places : List (Option ℕ)) (k : ℕ) (lasts new : List ℕ) (o : Option ℕ)
+    → place_of places k ≡ o
+    → ((p : ℕ) → o ≡ Some p → p < length m.orders) → AreLastsTo m places k lasts → new ≡ noted m k lasts o
+    → AreLastsTo m places (k + 1) new
 lasts_more m places k lasts new o is within are new_is = by o is within new_is
   where
     held : ℕ → ℕ → Bool
     held p y = is_at p (place_of places y)
 
     over : (p : ℕ) → held p k ≡ false → holders_to places p (k + 1) ≡ holders_to places p k
-    over p out = filter_more (held p) k ∙ ap (λ b. holders_to places p k ++ cond b (k ∷ []) []) out ∙ append-nil (holders_to places p k)
+    over p out = filter_more (held p) k ∙ ap (λ b. holders_to places p k ++ cond b (k ∷ []) []) out
+        ∙ append-nil (holders_to places p k)
 
     grown : (p : ℕ) → held p k ≡ true → holders_to places p (k + 1) ≡ holders_to places p k ++ k ∷ []
     grown p here = filter_more (held p) k ∙ ap (λ b. holders_to places p k ++ cond b (k ∷ []) []) here
@@ -83,11 +89,13 @@ lasts_more m places k lasts new o is within are new_is = by o is within new_is
                     let now : slice_index new p ≡ slice_index lasts p = ap (λ (xs : List ℕ). get_or xs p 0) new_is
                     ∙ get_or-set_other lasts q p value 0 other in
                     ap (nat_lt j) now ∙ are.each p j lt
-                    ∙ ap (list_any (λ y. nat_lt j (market_position m p y))) (sym (over p (ap (is_at p) is ∙ ne_eqb p q other)))
+                    ∙ ap (list_any (λ y. nat_lt j (market_position m p y)))
+                    (sym (over p (ap (is_at p) is ∙ ne_eqb p q other)))
               ];
         }
 
-pub lasts_all : (m : MarketRows) (k : ℕ) (places : List (Option ℕ)) (lasts : List ℕ) → k ≡ length places → AreLastsTo m places k lasts
+pub lasts_all : (m : MarketRows) (k : ℕ) (places : List (Option ℕ)) (lasts : List ℕ) → k ≡ length places
+    → AreLastsTo m places k lasts
     → AreLasts m places lasts
 lasts_all m k places lasts k_is are =
     let P : ℕ → Type 0 = λ j. AreLastsTo m places j lasts in

@@ -36,4 +36,5 @@ same m one other one_stable one_best other_stable other_best x None (Some q) e f
 pub the_best_is_one : TheBestIsOne
 the_best_is_one = λ m one other one_stable one_best other_stable other_best.
     ext_get_or None one other (one_stable.matching.one_place_each ∙ sym other_stable.matching.one_place_each)
-    (λ x lt. same m one other one_stable one_best other_stable other_best x (place_of one x) (place_of other x) refl refl)
+    (λ x lt. same m one other one_stable one_best other_stable other_best x (place_of one x)
+    (place_of other x) refl refl)

@@ -1,10 +1,12 @@
 -- Nobody gains by another list. One who got a programme by it has that programme where they list it alone, and so a
 -- place in every stable matching there; then they have a place where they list the true programmes down to it, in a
 -- matching that is stable for the whole true list.
-use Rattle.std.proofs.Common.{ℕ, ◌<◌, ◌≡◌, Bool, true, false, ◌&&◌, ◌||◌, List, [], ◌∷◌, length, refl, sym, ◌∙◌, ap, nat_eq, filter, inl, inr}
+use Rattle.std.proofs.Common.{ℕ, ◌<◌, ◌≡◌, Bool, true, false, ◌&&◌, ◌||◌, List, [], ◌∷◌, length, refl, sym, ◌∙◌, ap}
+use Rattle.std.proofs.Common.{nat_eq, filter, inl, inr}
 use Rattle.std.specs.Prelude.{Option, Some, None, is_some}
 use Rattle.std.specs.List.{before_first}
-use Rattle.std.proofs.lemmas.Bool.{cases_Bool, and_parts, and_from, or_cases, or_left, or_right, eq-eqb, eqb-true, false≢true, false_from_ne_true}
+use Rattle.std.proofs.lemmas.Bool.{cases_Bool, and_parts, and_from, or_cases, or_left, or_right, eq-eqb, eqb-true}
+use Rattle.std.proofs.lemmas.Bool.{false≢true, false_from_ne_true}
 use Rattle.admit_core.specs.Lists.{is_among}
 use Rattle.markets.specs.Markets.{MarketRows, IsMarket, list_of, lists_it}
 use Rattle.markets.specs.Matchings.{place_of, is_at, prefers, IsStable, IsBestForAll}
@@ -24,7 +26,8 @@ before_trans u p r (w ∷ xs) first second =
     elim (cases_Bool (u w)) [
       | inl stops ↦ absurd (false≢true (ap (is_among r) (sym (before_yes u w xs stops)) ∙ second))
       | inr on ↦
-          let later : is_among r (w ∷ before_first u xs) ≡ true = ap (is_among r) (sym (before_no u w xs on)) ∙ second in
+          let later : is_among r (w ∷ before_first u xs) ≡ true =
+          ap (is_among r) (sym (before_no u w xs on)) ∙ second in
           let whole : before_first u (w ∷ xs) ≡ w ∷ before_first u xs = before_no u w xs on in
           elim (cases_Bool (nat_eq w r)) [
             | inl here ↦ absurd (false≢true (ap (is_among p) (sym (before_yes (λ v. nat_eq v r) w xs here)) ∙ first))
@@ -39,7 +42,8 @@ before_trans u p r (w ∷ xs) first second =
                 ap (is_among p) whole
                 ∙ elim (or_cases (nat_eq p w) (is_among p (before_first (λ v. nat_eq v r) xs)) front) [
                   | inl same ↦ or_left (nat_eq p w) (is_among p (before_first u xs)) same
-                  | inr there ↦ or_right (nat_eq p w) (is_among p (before_first u xs)) (before_trans u p r xs there behind)
+                  | inr there ↦ or_right (nat_eq p w) (is_among p (before_first u xs))
+                      (before_trans u p r xs there behind)
                 ]
           ]
     ]
@@ -55,7 +59,8 @@ before_kept u t (w ∷ xs) keeps =
           ap (before_first u) kept ∙ before_yes u w (filter t xs) stops ∙ ap (filter t) (sym (before_yes u w xs stops))
       | inr on ↦
           let rest = before_kept u t xs keeps in
-          let whole : filter t (before_first u (w ∷ xs)) ≡ filter t (w ∷ before_first u xs) = ap (filter t) (before_no u w xs on) in
+          let whole : filter t (before_first u (w ∷ xs)) ≡ filter t (w ∷ before_first u xs) =
+          ap (filter t) (before_no u w xs on) in
           elim (cases_Bool (t w)) [
             | inl passes ↦
                 let kept : filter t (w ∷ xs) ≡ w ∷ filter t xs = rw passes refl in
@@ -86,7 +91,8 @@ turned x a b alike =
 
 module _ (m other : MarketRows) (x q : ℕ) (best found : List (Option ℕ)) (is : IsMarket m) (other_is : IsMarket other)
     (alike : DifferAtMostIn x m other)
-    (stable : IsStable m best) (is_best : IsBestForAll m best) (found_stable : IsStable other found) (at : place_of found x ≡ Some q)
+    (stable : IsStable m best) (is_best : IsBestForAll m best) (found_stable : IsStable other found)
+    (at : place_of found x ≡ Some q)
     (wants : prefers m best x q ≡ true) where
   abbrev list : List ℕ
   list = list_of m x
@@ -134,13 +140,15 @@ module _ (m other : MarketRows) (x q : ℕ) (best found : List (Option ℕ)) (is
         candidates = sym part_alike.candidates ∙ alike.candidates ∙ one_alike.candidates;
         programmes = sym part_alike.programmes ∙ alike.programmes ∙ one_alike.programmes;
         same_seats = alike.same_seats;
-        same_lists = λ y apart. sym (part_alike.same_lists y apart) ∙ alike.same_lists y apart ∙ one_alike.same_lists y apart;
+        same_lists = λ y apart. sym (part_alike.same_lists y apart) ∙ alike.same_lists y apart
+            ∙ one_alike.same_lists y apart;
         same_ranks = λ p y z yp zp yo zo.
             let ym = (listed_before m is x x_lt down p y yp).0 in
             let zm = (listed_before m is x x_lt down p z zp).0 in
             let yn = (listed_before other other_is x x_lt_other alone p y yo).0 in
             let zn = (listed_before other other_is x x_lt_other alone p z zo).0 in
-            sym (part_alike.same_ranks p y z ym zm yp zp) ∙ alike.same_ranks p y z ym zm yn zn ∙ one_alike.same_ranks p y z yn zn yo zo;
+            sym (part_alike.same_ranks p y z ym zm yp zp) ∙ alike.same_ranks p y z ym zm yn zn
+            ∙ one_alike.same_ranks p y z yn zn yo zo;
       }
 
   -- the one programme is all that is listed there
@@ -156,7 +164,8 @@ module _ (m other : MarketRows) (x q : ℕ) (best found : List (Option ℕ)) (is
       stable_there x other one one_alike found found_stable
       (λ p e.
       let same : p ≡ q = (let both = sym e ∙ at in cc) in
-      alone_list p ∙ and_from (is_among p (list_of other x)) (alone p) (found_stable.matching.listed x p e) (eq-eqb p q same))
+      alone_list p ∙ and_from (is_among p (list_of other x)) (alone p) (found_stable.matching.listed x p e)
+      (eq-eqb p q same))
       (λ p t.
       let before = among_before (λ w. is_at w (place_of found x)) p (list_of one x) t in
       let both = and_parts (is_among p (list_of other x)) (alone p) (sym (alone_list p) ∙ before.0) in
@@ -183,7 +192,8 @@ module _ (m other : MarketRows) (x q : ℕ) (best found : List (Option ℕ)) (is
       false≢true (sym (sym (ap is_some at) ∙ same ∙ ap is_some none))
 
   -- and what is there is stable by the whole true list
-  whole_list : (places : List (Option ℕ)) (r : ℕ) → IsStable part places → place_of places x ≡ Some r → IsStable m places
+  whole_list : (places : List (Option ℕ)) (r : ℕ) → IsStable part places → place_of places x ≡ Some r
+      → IsStable m places
   whole_list places r its here =
       let listed = and_parts (is_among r list) (down r) (sym (down_list r) ∙ its.matching.listed x r here) in
       stable_there x part m (turned x m part part_alike) places its
@@ -192,12 +202,14 @@ module _ (m other : MarketRows) (x q : ℕ) (best found : List (Option ℕ)) (is
       both.0)
       (λ p t.
       let u : ℕ → Bool = λ w. nat_eq w r in
-      let first : is_among p (before_first u list) ≡ true = ap (λ (o : Option ℕ). is_among p (before_first (λ w. is_at w o) list))
+      let first : is_among p (before_first u list) ≡ true =
+      ap (λ (o : Option ℕ). is_among p (before_first (λ w. is_at w o) list))
       (sym here) ∙ t in
       let kept : down p ≡ true =
       elim (or_cases (is_among r (before_first (λ w. nat_eq w q) list)) (nat_eq r q) listed.1) [
         | inl before ↦
-            or_left (is_among p (before_first (λ w. nat_eq w q) list)) (nat_eq p q) (before_trans (λ w. nat_eq w q) p r list first before)
+            or_left (is_among p (before_first (λ w. nat_eq w q) list)) (nat_eq p q)
+            (before_trans (λ w. nat_eq w q) p r list first before)
         | inr same ↦
             let e : r ≡ q = eqb-true r q same in
             or_left (is_among p (before_first (λ w. nat_eq w q) list)) (nat_eq p q)
@@ -220,10 +232,12 @@ module _ (m other : MarketRows) (x q : ℕ) (best found : List (Option ℕ)) (is
           let listed = and_parts (is_among r list) (down r) (sym (down_list r) ∙ its.matching.listed x r here) in
           let content : prefers m best x r ≡ false = is_best places (whole_list places r its here) x r here in
           elim (or_cases (is_among r (before_first (λ w. nat_eq w q) list)) (nat_eq r q) listed.1) [
-            | inl before ↦ false≢true (sym content ∙ before_trans (λ w. is_at w (place_of best x)) r q list before wants)
+            | inl before ↦ false≢true (sym content ∙ before_trans (λ w. is_at w (place_of best x)) r q list before
+                wants)
             | inr same ↦ false≢true (sym content ∙ ap (prefers m best x) (eqb-true r q same) ∙ wants)
           ]
 
 pub truth_pays : TruthPays
 truth_pays = λ m other x q best found is other_is alike stable is_best found_stable at.
-    false_from_ne_true (prefers m best x q) (λ wants. gained m other x q best found is other_is alike stable is_best found_stable at wants)
+    false_from_ne_true (prefers m best x q) (λ wants. gained m other x q best found is other_is alike stable is_best
+    found_stable at wants)

@@ -44,6 +44,8 @@ pub record ContestedMarket : Type 0 where
 pub record RefusedRows : Type 0 where
   pub twice : first_bad_list (record { lists = (0 ∷ 0 ∷ []) ∷ []; orders = (0 ∷ []) ∷ []; seats = 1 ∷ [] }) ≡ Some 0
   pub out_of_range : first_bad_list (record { lists = (1 ∷ []) ∷ []; orders = (0 ∷ []) ∷ []; seats = 1 ∷ [] }) ≡ Some 0
-  pub left_out : first_bad_order (record { lists = (0 ∷ []) ∷ (0 ∷ []) ∷ []; orders = (0 ∷ []) ∷ []; seats = 1 ∷ [] }) ≡ Some 0
-  pub not_listed : first_bad_order (record { lists = (0 ∷ []) ∷ [] ∷ []; orders = (0 ∷ 1 ∷ []) ∷ []; seats = 1 ∷ [] }) ≡ Some 0
+  pub left_out : first_bad_order (record { lists = (0 ∷ []) ∷ (0 ∷ []) ∷ []; orders = (0 ∷ []) ∷ []; seats = 1 ∷ [] })
+      ≡ Some 0
+  pub not_listed : first_bad_order (record { lists = (0 ∷ []) ∷ [] ∷ []; orders = (0 ∷ 1 ∷ []) ∷ []; seats = 1 ∷ [] })
+      ≡ Some 0
   pub both_stand : first_bad_order contested ≡ None

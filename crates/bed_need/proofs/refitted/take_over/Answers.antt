@@ -27,11 +27,13 @@ loop-wish-preserved c =
     let now = c.loop-wish.refitted in
     let count = ap (λ (d : DossierRows). length d.wishes) (c.behind-state.view_is ∙ c.dossier.ensures) in
     let wishes = ap (λ (ws : List Wish). length ws) c.requires.wishes in
-    let lt : c.loop-wish.wish < length start.wishes = omega (arith, c.len-count.ensures, count, wishes, c.loop-wish-test.true) in
+    let lt : c.loop-wish.wish < length start.wishes =
+    omega (arith, c.len-count.ensures, count, wishes, c.loop-wish-test.true) in
     subst (λ (s : State). AreTaken start state s (c.loop-wish.wish + 1)) (sym c.set.ensures)
     (subst (λ (x : Status). AreTaken start state (change_at now c.loop-wish.wish x c.stamp.result)
     (c.loop-wish.wish + 1)) (sym c.unaccepted.ensures)
-    (one_more start state now c.loop-wish.wish c.loop-wish.invariant lt c.status.result c.stamp.result c.status.ensures))
+    (one_more start state now c.loop-wish.wish c.loop-wish.invariant lt c.status.result c.stamp.result
+    c.status.ensures))
 
 pub returns-clause-marks : goal.returns-clause-marks
 returns-clause-marks c =
@@ -39,5 +41,7 @@ returns-clause-marks c =
     let wishes = ap (λ (ws : List Wish). length ws) c.requires.wishes in
     let marks = ap (λ (ms : List Mark). length ms) c.marks.ensures.marks in
     let each = c.loop-wish.invariant.one_each in
-    all_alike c.loop-wish.refitted.marks c.args.state.now.marks (omega (arith, each, wishes, marks, c.marks.ensures.one_each))
-    (λ k lt. c.loop-wish.invariant.alike k (omega (arith, lt, each, wishes, count, c.len-count.ensures, c.loop-wish-test.false)))
+    all_alike c.loop-wish.refitted.marks c.args.state.now.marks
+    (omega (arith, each, wishes, marks, c.marks.ensures.one_each))
+    (λ k lt. c.loop-wish.invariant.alike k
+    (omega (arith, lt, each, wishes, count, c.len-count.ensures, c.loop-wish-test.false)))

@@ -5,4 +5,5 @@ use Rattle.bed_need.proofs.text.push_bars.Given as goal
 
 abbrev pub invariant-loop-place : goal.invariant-loop-place
 invariant-loop-place l =
-    string_bytes l.text ≡ string_bytes l.fn.text ++ flat_map (bar_line l.before l.after) (enumerate_from 0 (take l.place l.schools))
+    string_bytes l.text ≡ string_bytes l.fn.text
+    ++ flat_map (bar_line l.before l.after) (enumerate_from 0 (take l.place l.schools))

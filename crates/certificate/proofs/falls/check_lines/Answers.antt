@@ -17,7 +17,8 @@ returns-in_err-school-clause-found g c =
     let here = drop_item lines i c.line-item.result c.loop-line-test.true c.line-item.is in
     let told = err_from_is_err_and c.from_residual.result c.from_residual.ensures.1 in
     let whole = c.loop-line.invariant.fault ∙ ap (lines_fault s now.orders now.ceilings now.bars) here in
-    rw (told.1, told.2) (line_stops s now c.line-item.result (drop (i + 1) lines) _ _ whole c.in_err-school.ensures.found)
+    rw (told.1, told.2) (line_stops s now c.line-item.result
+    (drop (i + 1) lines) _ _ whole c.in_err-school.ensures.found)
 
 pub loop-line-preserved : goal.loop-line-preserved
 loop-line-preserved g c =

@@ -11,7 +11,8 @@ returns-then-is_some c =
     let lt : i < length r.ceilings = search rules in
     let passes = over_by_rank r.state r.orders r.ceilings r.bars i c.first_over.result lt
     c.first_over.ensures ∙ sym c.is_some.ensures ∙ c.if-is_some.true in
-    sym (c.loop-school.invariant ∙ one_at (is_overfilled (boarding r.state r.orders r.ceilings) r.bars) i (length r.ceilings) lt passes)
+    sym (c.loop-school.invariant ∙ one_at (is_overfilled (boarding r.state r.orders r.ceilings) r.bars) i
+    (length r.ceilings) lt passes)
 
 pub loop-school-preserved : goal.loop-school-preserved
 loop-school-preserved c =
@@ -20,4 +21,5 @@ loop-school-preserved c =
     let lt : i < length r.ceilings = search rules in
     let fails = over_by_rank r.state r.orders r.ceilings r.bars i c.first_over.result lt
     c.first_over.ensures ∙ sym c.is_some.ensures ∙ c.if-is_some.false in
-    c.loop-school.invariant ∙ none_at (is_overfilled (boarding r.state r.orders r.ceilings) r.bars) i (length r.ceilings) lt fails
+    c.loop-school.invariant ∙ none_at (is_overfilled (boarding r.state r.orders r.ceilings) r.bars) i
+    (length r.ceilings) lt fails

@@ -10,4 +10,5 @@ abbrev pub invariant-loop-school : goal.invariant-loop-school
 invariant-loop-school l =
     let r = l.round in
     first_overfilled (boarding r.state r.orders r.ceilings) r.bars
-    ≡ find (is_overfilled (boarding r.state r.orders r.ceilings) r.bars) (range_with_len l.school (length r.ceilings - l.school))
+    ≡ find (is_overfilled (boarding r.state r.orders r.ceilings) r.bars)
+    (range_with_len l.school (length r.ceilings - l.school))

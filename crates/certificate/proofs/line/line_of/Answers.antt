@@ -8,4 +8,5 @@ returns-in-Some-2 c =
     let first : parts 32 c.args.text.now ≡ c.in-Some.word.now ∷ parts 32 c.in-Some.after.now = search rules in
     let is : Some c.in-Some-2.numbers.items ≡ numbers (parts 32 c.in-Some.after.now) = search rules in
     c.line_with.ensures
-    ∙ line_numbers c.args.row c.in-Some.word.now c.in-Some-2.numbers.items _ _ first (some_parts 32 c.in-Some.after.now) is
+    ∙ line_numbers c.args.row c.in-Some.word.now c.in-Some-2.numbers.items _ _ first
+    (some_parts 32 c.in-Some.after.now) is

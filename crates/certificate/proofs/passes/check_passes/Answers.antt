@@ -29,7 +29,8 @@ loop-place-preserved c =
     ∙ sym c.frees_nothing.ensures ∙ c.if-frees_nothing.false in
     record {
       fault = pass_goes_on orders ceilings day end (k + 1) s pass rest _ next (inv.fault
-          ∙ ap (passes_fault orders ceilings day end (k + 1) s) here) c.in_ok-freed.ensures.found frees c.in_ok-freed.ensures.state;
+          ∙ ap (passes_fault orders ceilings day end (k + 1) s) here) c.in_ok-freed.ensures.found frees
+          c.in_ok-freed.ensures.state;
       state = state_goes_on orders ceilings day (k + 1) s next pass rest _ (inv.state
           ∙ ap (state_after orders ceilings day (k + 1) s) here) c.in_ok-freed.ensures.state;
       dossier = c.in_ok-freed.ensures.dossier ∙ inv.dossier;

@@ -7,23 +7,29 @@ use Rattle.certificate.proofs.read.read_chain.Goals as goal
 
 pub returns-in_default-2-clause-exact : goal.returns-in_default-2-clause-exact
 returns-in_default-2-clause-exact c =
-    let first : parts 10 c.lines.rest.now ≡ c.in-Some.text.now ∷ parts 10 c.in-Some.after.now = c.in-Some.ensures.first in
-    let line : None ≡ line_of c.lines.row (parts 32 c.in-Some.text.now) = sym c.in_default-2.is ∙ c.in_ok-line.ensures in
+    let first : parts 10 c.lines.rest.now ≡ c.in-Some.text.now ∷ parts 10 c.in-Some.after.now =
+    c.in-Some.ensures.first in
+    let line : None ≡ line_of c.lines.row (parts 32 c.in-Some.text.now) =
+    sym c.in_default-2.is ∙ c.in_ok-line.ensures in
     rw c.fault_at.ensures (not_line c.lines.reading c.lines.row c.in-Some.text.now
     c.in-Some.after.now _ _ first line c.lines.invariant.whole)
 
 pub returns-then-is_end-clause-exact : goal.returns-then-is_end-clause-exact
 returns-then-is_end-clause-exact c =
-    let first : parts 10 c.lines.rest.now ≡ c.in-Some.text.now ∷ parts 10 c.in-Some.after.now = c.in-Some.ensures.first in
-    let line : Some c.in-Some-2.line ≡ line_of c.lines.row (parts 32 c.in-Some.text.now) = sym c.in-Some-2.is ∙ c.in_ok-line.ensures in
+    let first : parts 10 c.lines.rest.now ≡ c.in-Some.text.now ∷ parts 10 c.in-Some.after.now =
+    c.in-Some.ensures.first in
+    let line : Some c.in-Some-2.line ≡ line_of c.lines.row (parts 32 c.in-Some.text.now) =
+    sym c.in-Some-2.is ∙ c.in_ok-line.ensures in
     let ends : is_end (Some c.in-Some-2.line) ≡ true = sym c.is_end.ensures ∙ c.if-is_end.true in
     rw (has_ended c.lines.reading c.lines.row c.in-Some.text.now c.in-Some.after.now _
     c.in-Some-2.line _ first line ends c.lines.invariant.whole) c.ended.ensures
 
 pub returns-in-Some-misplaced-clause-exact : goal.returns-in-Some-misplaced-clause-exact
 returns-in-Some-misplaced-clause-exact c =
-    let first : parts 10 c.lines.rest.now ≡ c.in-Some.text.now ∷ parts 10 c.in-Some.after.now = c.in-Some.ensures.first in
-    let line : Some c.in-Some-2.line ≡ line_of c.lines.row (parts 32 c.in-Some.text.now) = sym c.in-Some-2.is ∙ c.in_ok-line.ensures in
+    let first : parts 10 c.lines.rest.now ≡ c.in-Some.text.now ∷ parts 10 c.in-Some.after.now =
+    c.in-Some.ensures.first in
+    let line : Some c.in-Some-2.line ≡ line_of c.lines.row (parts 32 c.in-Some.text.now) =
+    sym c.in-Some-2.is ∙ c.in_ok-line.ensures in
     let ends : is_end (Some c.in-Some-2.line) ≡ false = sym c.is_end.ensures ∙ c.if-is_end.false in
     let placed : Some c.in-Some-misplaced.reason ≡ misplaced c.lines.reading.day
     c.lines.reading.pass (Some c.in-Some-2.line) = sym c.in-Some-misplaced.is ∙ c.misplaced.ensures in
@@ -34,8 +40,10 @@ returns-in-Some-misplaced-clause-exact c =
 
 pub lines-preserved : goal.lines-preserved
 lines-preserved c =
-    let first : parts 10 c.lines.rest.now ≡ c.in-Some.text.now ∷ parts 10 c.in-Some.after.now = c.in-Some.ensures.first in
-    let line : Some c.in-Some-2.line ≡ line_of c.lines.row (parts 32 c.in-Some.text.now) = sym c.in-Some-2.is ∙ c.in_ok-line.ensures in
+    let first : parts 10 c.lines.rest.now ≡ c.in-Some.text.now ∷ parts 10 c.in-Some.after.now =
+    c.in-Some.ensures.first in
+    let line : Some c.in-Some-2.line ≡ line_of c.lines.row (parts 32 c.in-Some.text.now) =
+    sym c.in-Some-2.is ∙ c.in_ok-line.ensures in
     let ends : is_end (Some c.in-Some-2.line) ≡ false = sym c.is_end.ensures ∙ c.if-is_end.false in
     let placed : None ≡ misplaced c.lines.reading.day c.lines.reading.pass (Some c.in-Some-2.line) =
     sym c.in_default-misplaced.is ∙ c.misplaced.ensures in

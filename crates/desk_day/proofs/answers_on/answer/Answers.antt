@@ -14,7 +14,8 @@ unfit-requires c = omega (arith, c.answers_on-today.ensures.few)
 pub returns-in-Ok-clause-applied : goal.returns-in-Ok-clause-applied
 returns-in-Ok-clause-applied c =
     let are = rw c.dossier.ensures at c.answers_on-today.ensures in
-    fit_applied c.args.state.now c.apply_day.new.self c.args.day c.answers_on-today.result.first c.answers_on-today.result.answers.now are
+    fit_applied c.args.state.now c.apply_day.new.self c.args.day c.answers_on-today.result.first
+    c.answers_on-today.result.answers.now are
     (sym c.in-Ok.is ∙ c.apply_day.ensures.result) c.apply_day.ensures.state
 
 pub returns-in-Ok-clause-dossier : goal.returns-in-Ok-clause-dossier
@@ -24,7 +25,8 @@ returns-in-Ok-clause-dossier c = ap (λ s. s.dossier) c.apply_day.ensures.state
 pub returns-in-Err-clause-applied : goal.returns-in-Err-clause-applied
 returns-in-Err-clause-applied c =
     let are = rw c.dossier.ensures at c.answers_on-today.ensures in
-    unfit_applied c.args.state.now c.apply_day.new.self c.args.day c.answers_on-today.result.first c.answers_on-today.result.answers.now
+    unfit_applied c.args.state.now c.apply_day.new.self c.args.day c.answers_on-today.result.first
+    c.answers_on-today.result.answers.now
     c.in-Err.at c.unfit.result are (sym c.in-Err.is ∙ c.apply_day.ensures.result) c.unfit.ensures
 
 pub returns-in-Err-clause-dossier : goal.returns-in-Err-clause-dossier

@@ -23,13 +23,15 @@ first_after-end-requires c =
 pub between-requires-clause-rises : goal.between-requires-clause-rises
 between-requires-clause-rises c =
     between_order (λ (a : Answer). a.day) c.as_slice-all.result.now c.args.day c.first_not_before-first.result
-    c.first_after-end.result c.first_not_before-first.ensures.within c.first_not_before-first.ensures.point c.first_after-end.ensures.point
+    c.first_after-end.result c.first_not_before-first.ensures.within c.first_not_before-first.ensures.point
+    c.first_after-end.ensures.point
 
 pub returns : goal.returns
 returns c =
     let valid : IsValid c.args.dossier.now = subst IsValid c.dossier.view_is c.dossier.invariant in
     let all : c.as_slice-all.result.now ≡ c.args.dossier.now.answers = c.as_slice-all.ensures
     ∙ ap (λ (d : DossierRows). d.answers) c.dossier.view_is in
-    rw (c.between.ensures, all) (answers_found c.args.dossier.now c.args.day c.first_not_before-first.result c.first_after-end.result valid
+    rw (c.between.ensures, all) (answers_found c.args.dossier.now c.args.day c.first_not_before-first.result
+    c.first_after-end.result valid
     (rw all at c.first_not_before-first.ensures.within) (rw all at c.first_after-end.ensures.within)
     (rw all at c.first_not_before-first.ensures.point) (rw all at c.first_after-end.ensures.point))

@@ -18,7 +18,8 @@ status-requires c =
 
 pub status-status-requires : goal.status-status-requires
 status-status-requires c =
-    let wishes = ap (λ (d : DossierRows). length d.wishes) (c.behind-opening.view_is ∙ c.dossier.ensures ∙ sym c.requires) in
+    let wishes = ap (λ (d : DossierRows). length d.wishes)
+    (c.behind-opening.view_is ∙ c.dossier.ensures ∙ sym c.requires) in
     omega (arith, c.len-count.ensures, wishes, c.loop-wish-test.true)
 
 pub loop-wish-preserved : goal.loop-wish-preserved
@@ -34,12 +35,14 @@ loop-wish-preserved c =
     elim c.if-is_answered_change.branch [
       | then-is_answered_change+in_ok-push w ↦
           rw w.changes-is (w.in_ok-push.ensures.items
-          ∙ changed_here c.args.opening.now.marks c.args.closing.now.marks c.loop-wish.wish c.status.result c.status-status.result
+          ∙ changed_here c.args.opening.now.marks c.args.closing.now.marks c.loop-wish.wish c.status.result
+          c.status-status.result
           c.loop-wish.changes.items c.loop-wish.invariant lt lt_too c.status.ensures c.status-status.ensures
           (sym c.is_answered_change.ensures ∙ w.if-is_answered_change.true))
       | else-is_answered_change w ↦
           rw w.changes-is
-          (unchanged_here c.args.opening.now.marks c.args.closing.now.marks c.loop-wish.wish c.status.result c.status-status.result
+          (unchanged_here c.args.opening.now.marks c.args.closing.now.marks c.loop-wish.wish c.status.result
+          c.status-status.result
           c.loop-wish.changes.items c.loop-wish.invariant lt lt_too c.status.ensures c.status-status.ensures
           (sym c.is_answered_change.ensures ∙ w.if-is_answered_change.false))
     ]
@@ -49,7 +52,8 @@ returns c =
     let wishes = ap (λ (d : DossierRows). length d.wishes) (c.behind-opening.view_is ∙ c.dossier.ensures) in
     let open_long = ap (λ (ms : List Mark). length ms) c.marks.ensures.marks in
     c.loop-wish.invariant
-    ∙ listed_all change_of is_answered (enumerate_from 0 (zip c.args.opening.now.marks c.args.closing.now.marks)) c.loop-wish.wish
+    ∙ listed_all change_of is_answered (enumerate_from 0 (zip c.args.opening.now.marks c.args.closing.now.marks))
+    c.loop-wish.wish
     (omega (
       arith,
       pairs_long c.args.opening.now.marks c.args.closing.now.marks,

@@ -12,13 +12,15 @@ loop-place-init c = c.new-changes.ensures.items
 pub status-status-requires : goal.status-status-requires
 status-status-requires c =
     rw c.requires.same
-    (beside_within c.args.opening.now.dossier c.args.places.now c.as_slice-place-items.result.now c.loop-place.place-index
+    (beside_within c.args.opening.now.dossier c.args.places.now c.as_slice-place-items.result.now
+    c.loop-place.place-index
     (c.as_slice-place-items.ensures.value ∙ c.in_ok-own.ensures)
     c.loop-place-test.true)
 
 pub status-requires : goal.status-requires
 status-requires c =
-    beside_within c.args.opening.now.dossier c.args.places.now c.as_slice-place-items.result.now c.loop-place.place-index
+    beside_within c.args.opening.now.dossier c.args.places.now c.as_slice-place-items.result.now
+    c.loop-place.place-index
     (c.as_slice-place-items.ensures.value ∙ c.in_ok-own.ensures)
     c.loop-place-test.true
 
@@ -29,12 +31,14 @@ loop-place-preserved c =
     elim c.if-is_answered_change.branch [
       | then-is_answered_change+in_ok-push w ↦
           rw w.changes-is (w.in_ok-push.ensures.items
-          ∙ beside_some ms ns c.as_slice-place-items.result.now c.loop-place.place-index c.status.result c.status-status.result
+          ∙ beside_some ms ns c.as_slice-place-items.result.now c.loop-place.place-index c.status.result
+          c.status-status.result
           c.loop-place.changes.items c.loop-place.invariant c.loop-place-test.true
           c.status.ensures c.status-status.ensures (sym c.is_answered_change.ensures ∙ w.if-is_answered_change.true))
       | else-is_answered_change w ↦
           rw w.changes-is
-          (beside_none ms ns c.as_slice-place-items.result.now c.loop-place.place-index c.status.result c.status-status.result
+          (beside_none ms ns c.as_slice-place-items.result.now c.loop-place.place-index c.status.result
+          c.status-status.result
           c.loop-place.changes.items c.loop-place.invariant c.loop-place-test.true
           c.status.ensures c.status-status.ensures (sym c.is_answered_change.ensures ∙ w.if-is_answered_change.false))
     ]
@@ -51,4 +55,5 @@ returns c =
     ∙ ap (λ (d : DossierRows). length d.wishes) c.requires.same in
     c.loop-place.invariant
     ∙ listed_all (change_at t.marks) (changed_at s.marks t.marks) own c.loop-place.place-index c.loop-place-test.false
-    ∙ all_beside s t c.args.places.now own long long_too c.requires.others (c.as_slice-place-items.ensures.value ∙ c.in_ok-own.ensures)
+    ∙ all_beside s t c.args.places.now own long long_too c.requires.others
+    (c.as_slice-place-items.ensures.value ∙ c.in_ok-own.ensures)

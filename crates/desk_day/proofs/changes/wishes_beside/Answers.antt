@@ -8,14 +8,18 @@ loop-place-init c = c.new-own.ensures.items
 
 pub loop-place-preserved : goal.loop-place-preserved
 loop-place-preserved c =
-    own_more c.args.state.now.dossier c.args.places.now c.loop-place.place-index c.loop-place.own.items c.own_wishes_beside.result.now
+    own_more c.args.state.now.dossier c.args.places.now c.loop-place.place-index c.loop-place.own.items
+    c.own_wishes_beside.result.now
     c.extend_from_slice.new.self.items
     c.loop-place.invariant c.loop-place-test.true c.own_wishes_beside.ensures c.in_ok-extend_from_slice.ensures.items
 
 pub returns : goal.returns
 returns c =
-    in_order c.args.state.now.dossier c.args.places.now c.loop-place.own.items c.sort_unstable.new.self.items c.dedup.new.self.items
-    (own_all c.args.state.now.dossier c.args.places.now c.loop-place.place-index c.loop-place.own.items c.loop-place.invariant
+    in_order c.args.state.now.dossier c.args.places.now c.loop-place.own.items c.sort_unstable.new.self.items
+    c.dedup.new.self.items
+    (own_all c.args.state.now.dossier c.args.places.now c.loop-place.place-index c.loop-place.own.items
+    c.loop-place.invariant
     c.loop-place-test.false)
-    c.sort_unstable.ensures.permutation c.sort_unstable.ensures.sorted (dedup_is eqb c.sort_unstable.new.self.items c.dedup.new.self.items
+    c.sort_unstable.ensures.permutation c.sort_unstable.ensures.sorted
+    (dedup_is eqb c.sort_unstable.new.self.items c.dedup.new.self.items
     c.dedup.ensures.filtered)

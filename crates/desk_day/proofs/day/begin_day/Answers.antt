@@ -31,7 +31,8 @@ returns-clause-answered c =
     let long : length s.marks ≡ length s.dossier.wishes =
     ap (λ (ms : List Mark). length ms) (sym c.marks.ensures.marks) ∙ c.marks.ensures.one_each in
     morning_answered terms c.args.day s m c.as_slice.result.now c.in_ok-beside.beside.items long c.requires.before
-    (morning_is terms c.args.day s c.lapse_offers.new.state m c.in_ok-lapsed.ensures.state c.in_ok-lapsed.ensures.dossier
+    (morning_is terms c.args.day s c.lapse_offers.new.state m c.in_ok-lapsed.ensures.state
+    c.in_ok-lapsed.ensures.dossier
     c.in_ok-answer.ensures.applied.1)
     (c.as_slice.ensures.value ∙ c.in_ok-lapsed.ensures.lapsed) c.in_ok-beside.ensures.listed
 
@@ -43,6 +44,7 @@ returns-clause-alike c =
     let long : length s.marks ≡ length s.dossier.wishes =
     ap (λ (ms : List Mark). length ms) (sym c.marks.ensures.marks) ∙ c.marks.ensures.one_each in
     morning_alike terms c.args.day s m c.as_slice.result.now c.in_ok-beside.beside.items long c.requires.before
-    (morning_is terms c.args.day s c.lapse_offers.new.state m c.in_ok-lapsed.ensures.state c.in_ok-lapsed.ensures.dossier
+    (morning_is terms c.args.day s c.lapse_offers.new.state m c.in_ok-lapsed.ensures.state
+    c.in_ok-lapsed.ensures.dossier
     c.in_ok-answer.ensures.applied.1)
     (c.as_slice.ensures.value ∙ c.in_ok-lapsed.ensures.lapsed) c.in_ok-beside.ensures.listed

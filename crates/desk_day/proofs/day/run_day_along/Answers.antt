@@ -23,8 +23,10 @@ play-outcome-requires g c =
     let back = sym c.desk.view_is in
     record {
       roster = subst (λ (d : DeskStates). c.args.roster.now.dossier ≡ d.present.dossier) back c.requires.roster;
-      ceilings = subst (λ (d : DeskStates). length c.args.ceilings.now ≡ length d.present.dossier.schools) back c.requires.ceilings;
-      before = subst (λ (d : DeskStates). AreTermsFor d.present.dossier (option_copied c.args.terms)) back c.requires.before;
+      ceilings = subst (λ (d : DeskStates). length c.args.ceilings.now ≡ length d.present.dossier.schools) back
+          c.requires.ceilings;
+      before = subst (λ (d : DeskStates). AreTermsFor d.present.dossier (option_copied c.args.terms)) back
+          c.requires.before;
       day = c.requires.day;
     }
 
@@ -83,7 +85,8 @@ invariant_of-desk-in-Err g c = record {
 
 pub returns-in-Ok : goal.returns-in-Ok
 returns-in-Ok g c =
-    ends_done _ _ _ _ _ _ _ _ _ _ _ _ _ _ c.desk.view_is (c.keep_evening.ensures ∙ c.now-2.ensures) c.play-outcome.ensures.choice
+    ends_done _ _ _ _ _ _ _ _ _ _ _ _ _ _ c.desk.view_is
+    (c.keep_evening.ensures ∙ c.now-2.ensures) c.play-outcome.ensures.choice
     c.in-Ok.done c.note_alike.ensures c.in-Ok.ensures.done c.play-outcome.ensures.dossier
 
 pub returns-in-Err : goal.returns-in-Err

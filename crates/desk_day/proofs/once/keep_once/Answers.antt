@@ -5,6 +5,7 @@ use Rattle.desk_day.proofs.once.keep_once.Goals as goal
 
 pub returns : goal.returns
 returns c =
-    once_each c.args.state.now.dossier c.args.places.now.items c.lead_to_firsts.new.places.items c.sort_unstable.new.self.items
+    once_each c.args.state.now.dossier c.args.places.now.items c.lead_to_firsts.new.places.items
+    c.sort_unstable.new.self.items
     c.dedup.new.self.items c.lead_to_firsts.ensures c.sort_unstable.ensures.permutation
     (dedup_is eqb c.sort_unstable.new.self.items c.dedup.new.self.items c.dedup.ensures.filtered)

@@ -1,4 +1,5 @@
-use Rattle.law_cases.proofs.AnswerCases.{all_is_each_alone_here, freeing_refuses_here, may_be_exchanged_here, once_is_enough_here, own_wishes_decide_here, same_own_marks}
+use Rattle.law_cases.proofs.AnswerCases.{all_is_each_alone_here, freeing_refuses_here, may_be_exchanged_here}
+use Rattle.law_cases.proofs.AnswerCases.{once_is_enough_here, own_wishes_decide_here, same_own_marks}
 use Rattle.law_cases.proofs.answers.witnesses_of_automatic_answers.Goals as goal
 
 pub returns : goal.returns

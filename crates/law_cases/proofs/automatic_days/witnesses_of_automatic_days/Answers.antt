@@ -1,4 +1,6 @@
-use Rattle.law_cases.proofs.AutomaticCases.{days_end_fair_here, first_evenings_block_none, holds_better, later_evenings_block_none, nobody_behind, passes_keep_fair_here, quiet_days_end_fair_here, waiting_is_fair_here}
+use Rattle.law_cases.proofs.AutomaticCases.{days_end_fair_here, first_evenings_block_none, holds_better}
+use Rattle.law_cases.proofs.AutomaticCases.{later_evenings_block_none, nobody_behind, passes_keep_fair_here}
+use Rattle.law_cases.proofs.AutomaticCases.{quiet_days_end_fair_here, waiting_is_fair_here}
 use Rattle.law_cases.proofs.automatic_days.witnesses_of_automatic_days.Goals as goal
 
 pub returns : goal.returns

@@ -1,4 +1,5 @@
-use Rattle.law_cases.proofs.BarCases.{above_all_that_fit, every_run_ends_at_the_greatest, falls_stay_above, picks_fix_the_falls, the_greatest_is_unique}
+use Rattle.law_cases.proofs.BarCases.{above_all_that_fit, every_run_ends_at_the_greatest, falls_stay_above}
+use Rattle.law_cases.proofs.BarCases.{picks_fix_the_falls, the_greatest_is_unique}
 use Rattle.law_cases.proofs.bars.witnesses_of_runs.Goals as goal
 
 pub returns : goal.returns

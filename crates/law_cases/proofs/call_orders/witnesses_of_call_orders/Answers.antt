@@ -1,4 +1,6 @@
-use Rattle.law_cases.proofs.OrderCases.{call_orders_keep_laws, call_orders_keep_laws_other, calls_resident_scholars_first, each_ranking_has_one_order, keeps_rate_after, keeps_resident_rate, only_one_order}
+use Rattle.law_cases.proofs.OrderCases.{call_orders_keep_laws, call_orders_keep_laws_other}
+use Rattle.law_cases.proofs.OrderCases.{calls_resident_scholars_first, each_ranking_has_one_order, keeps_rate_after}
+use Rattle.law_cases.proofs.OrderCases.{keeps_resident_rate, only_one_order}
 use Rattle.law_cases.proofs.call_orders.witnesses_of_call_orders.Goals as goal
 
 pub returns : goal.returns

@@ -1,4 +1,5 @@
-use Rattle.law_cases.proofs.DefinitionCases.{freed_by_one, limit_explained, name_of_rank, one_is_answered_for, own_answers, pickers_choose, still_over_behind, unfit_row}
+use Rattle.law_cases.proofs.DefinitionCases.{freed_by_one, limit_explained, name_of_rank, one_is_answered_for}
+use Rattle.law_cases.proofs.DefinitionCases.{own_answers, pickers_choose, still_over_behind, unfit_row}
 use Rattle.law_cases.proofs.definitions.worked_definitions.Goals as goal
 
 pub returns : goal.returns

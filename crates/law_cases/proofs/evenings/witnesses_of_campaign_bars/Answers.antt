@@ -1,4 +1,5 @@
-use Rattle.law_cases.proofs.EveningCases.{ahead_here, ahead_of_thirteen, held_beds_here, more_beds_here, no_more_ahead, overnight_here}
+use Rattle.law_cases.proofs.EveningCases.{ahead_here, ahead_of_thirteen, held_beds_here, more_beds_here, no_more_ahead}
+use Rattle.law_cases.proofs.EveningCases.{overnight_here}
 use Rattle.law_cases.proofs.evenings.witnesses_of_campaign_bars.Goals as goal
 
 pub returns : goal.returns

@@ -1,4 +1,5 @@
-use Rattle.law_cases.proofs.MarketCases.{the_best_is_one_here, the_same_have_places, there_is_a_best_here, truth_pays_here}
+use Rattle.law_cases.proofs.MarketCases.{the_best_is_one_here, the_same_have_places, there_is_a_best_here}
+use Rattle.law_cases.proofs.MarketCases.{truth_pays_here}
 use Rattle.law_cases.proofs.matchings.witnesses_of_stable_matchings.Goals as goal
 
 pub returns : goal.returns

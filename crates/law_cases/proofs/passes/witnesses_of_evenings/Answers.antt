@@ -1,4 +1,5 @@
-use Rattle.law_cases.proofs.PassCases.{chains_tell_the_day_here, evenings_are_closed_here, is_filled, seats_are_filled_here}
+use Rattle.law_cases.proofs.PassCases.{chains_tell_the_day_here, evenings_are_closed_here, is_filled}
+use Rattle.law_cases.proofs.PassCases.{seats_are_filled_here}
 use Rattle.law_cases.proofs.passes.witnesses_of_evenings.Goals as goal
 
 pub returns : goal.returns

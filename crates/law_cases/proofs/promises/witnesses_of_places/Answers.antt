@@ -1,4 +1,5 @@
-use Rattle.law_cases.proofs.PromiseCases.{better_is_never_later, better_is_never_later_other, calls_each_kind_by_rank, calls_resident_scholars_by_rank}
+use Rattle.law_cases.proofs.PromiseCases.{better_is_never_later, better_is_never_later_other, calls_each_kind_by_rank}
+use Rattle.law_cases.proofs.PromiseCases.{calls_resident_scholars_by_rank}
 use Rattle.law_cases.proofs.promises.witnesses_of_places.Goals as goal
 
 pub returns : goal.returns

@@ -10,14 +10,16 @@ pub overflow_add-index_mut : goal.overflow_add-index_mut
 overflow_add-index_mut c =
     let counts : List ℕ = c.args.counts.now.items in
     let p : ℕ = c.in-Some.programme in
-    let read = c.index_mut.ensures.value ∙ get_or_default counts p c.index_mut.result.now 0 (c.requires.within p c.in-Some.is) in
+    let read = c.index_mut.ensures.value ∙ get_or_default counts p c.index_mut.result.now 0
+    (c.requires.within p c.in-Some.is) in
     omega (arith, read, c.requires.few p c.in-Some.is)
 
 pub returns-in-Some : goal.returns-in-Some
 returns-in-Some c =
     let counts : List ℕ = c.args.counts.now.items in
     let p : ℕ = c.in-Some.programme in
-    let read = c.index_mut.ensures.value ∙ get_or_default counts p c.index_mut.result.now 0 (c.requires.within p c.in-Some.is) in
+    let read = c.index_mut.ensures.value ∙ get_or_default counts p c.index_mut.result.now 0
+    (c.requires.within p c.in-Some.is) in
     ap (λ n. set counts p (n + 1)) read ∙ ap (counted_in counts) (sym c.in-Some.is)
 
 pub returns-in_default : goal.returns-in_default

@@ -17,7 +17,8 @@ count_in-requires-clause-few c =
 pub loop-place-preserved : goal.loop-place-preserved
 loop-place-preserved c =
     let k : ℕ = c.loop-place.place-index in
-    counts_more (length c.args.market.now.orders) c.args.places.now k c.loop-place.counts.items c.count_in.new.counts.items
+    counts_more (length c.args.market.now.orders) c.args.places.now k c.loop-place.counts.items
+    c.count_in.new.counts.items
     (place_of c.args.places.now k) refl
     (λ p e. c.requires.within k p e) c.loop-place.invariant c.count_in.ensures
 

@@ -8,7 +8,8 @@ loop-row-init c = rw c.new-rows.ensures.items listers_none
 
 pub loop-row-preserved : goal.loop-row-preserved
 loop-row-preserved c =
-    rw c.in_ok-push.ensures.items (empty_more c.loop-row._row c.loop-row.rows.items c.new-empty.result c.loop-row.invariant
+    rw c.in_ok-push.ensures.items (empty_more c.loop-row._row c.loop-row.rows.items c.new-empty.result
+    c.loop-row.invariant
     c.new-empty.ensures.items)
 
 pub returns-clause-empty : goal.returns-clause-empty

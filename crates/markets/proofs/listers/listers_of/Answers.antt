@@ -12,9 +12,11 @@ pub loop-place-preserved : goal.loop-place-preserved
 loop-place-preserved c =
     let k : ℕ = c.loop-place.place in
     let lists : List (List ℕ) = c.args.lists.now in
-    let read = list_read lists k c.index-lists-place.result c.as_slice.result.now c.loop-place-test.true c.index-lists-place.is
+    let read = list_read lists k c.index-lists-place.result c.as_slice.result.now c.loop-place-test.true
+    c.index-lists-place.is
     c.as_slice.ensures in
-    let P : List ℕ → Type 0 = λ xs. ArePutIn (λ p. is_among p xs) (λ p. k) c.loop-place.rows.items c.put_in_rows.new.rows.items in
+    let P : List ℕ → Type 0 = λ xs. ArePutIn (λ p. is_among p xs) (λ p. k) c.loop-place.rows.items
+    c.put_in_rows.new.rows.items in
     listers_more lists c.args.count k c.loop-place.rows.items c.put_in_rows.new.rows.items c.loop-place.invariant
     (subst P read c.in_ok-put_in_rows.ensures.put)
 
@@ -33,7 +35,8 @@ put_in_rows-requires c =
 pub returns-clause-listers : goal.returns-clause-listers
 returns-clause-listers c =
     let P = λ (n : ℕ). AreListers c.args.lists.now c.args.count n c.loop-place.rows.items in
-    let all : c.loop-place.place ≡ length c.args.lists.now = omega (arith, c.loop-place-test.false, c.loop-place.auto.place-end) in
+    let all : c.loop-place.place ≡ length c.args.lists.now =
+    omega (arith, c.loop-place-test.false, c.loop-place.auto.place-end) in
     subst P all c.loop-place.invariant
 
 pub returns-in_err-put_in_rows-clause-always : goal.returns-in_err-put_in_rows-clause-always

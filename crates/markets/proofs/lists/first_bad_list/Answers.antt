@@ -53,7 +53,8 @@ loop-list-preserved c =
 pub returns-clause-bad : goal.returns-clause-bad
 returns-clause-bad c =
     let test : List ℕ → Bool = λ list. not (is_list_below c.args.count list) in
-    sym (position_none test c.args.lists.now [] (λ k lt. c.loop-list.invariant.stood k (omega (arith, lt, c.loop-list-test.false))))
+    sym (position_none test c.args.lists.now []
+    (λ k lt. c.loop-list.invariant.stood k (omega (arith, lt, c.loop-list-test.false))))
 
 pub returns-then-is_empty-clause-bad : goal.returns-then-is_empty-clause-bad
 returns-then-is_empty-clause-bad c =

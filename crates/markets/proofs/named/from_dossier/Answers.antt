@@ -13,7 +13,8 @@ invariant_of-market c =
     let P : DossierRows → Type 0 = IsValid in
     let valid = subst P c.dossier.view_is c.dossier.invariant in
     let names = c.in_ok-listed.ensures.names in
-    let lists = c.into_lists.ensures ∙ c.in_ok-listed.ensures.lists ∙ ap (map (λ k. by_preference (own (counted d) k))) (sym names) in
+    let lists = c.into_lists.ensures ∙ c.in_ok-listed.ensures.lists
+    ∙ ap (map (λ k. by_preference (own (counted d) k))) (sym names) in
     subst IsSmallMarket
     (sym (market_is d orders (counted d) _ _ c.in_ok-orders.orders.items c.in_ok-seats.seats.items
     refl names lists c.in_ok-orders.ensures c.in_ok-seats.ensures))
@@ -24,6 +25,7 @@ returns-clause-market c =
     let d = c.args.dossier.now in
     let orders = c.args.orders.now.orders in
     let names = c.in_ok-listed.ensures.names in
-    let lists = c.into_lists.ensures ∙ c.in_ok-listed.ensures.lists ∙ ap (map (λ k. by_preference (own (counted d) k))) (sym names) in
+    let lists = c.into_lists.ensures ∙ c.in_ok-listed.ensures.lists
+    ∙ ap (map (λ k. by_preference (own (counted d) k))) (sym names) in
     market_is d orders (counted d) _ _ c.in_ok-orders.orders.items c.in_ok-seats.seats.items
     refl names lists c.in_ok-orders.ensures c.in_ok-seats.ensures

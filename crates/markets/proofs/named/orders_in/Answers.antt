@@ -16,7 +16,11 @@ pub listers_of-requires-clause-few : goal.listers_of-requires-clause-few
 listers_of-requires-clause-few c =
     let d = c.args.dossier.now in
     let valid = (let P : DossierRows → Type 0 = IsValid in subst P c.dossier.view_is c.dossier.invariant) in
-    omega (arith, ap length c.requires.lists, (market_small d valid c.args.orders.now.orders c.requires.orders).candidates)
+    omega (
+      arith,
+      ap length c.requires.lists,
+      (market_small d valid c.args.orders.now.orders c.requires.orders).candidates,
+    )
 
 pub listers_of-requires-clause-lists : goal.listers_of-requires-clause-lists
 listers_of-requires-clause-lists c =
@@ -30,7 +34,8 @@ listers_of-requires-clause-lists c =
 pub order_of-order-requires-clause-orders : goal.order_of-order-requires-clause-orders
 order_of-order-requires-clause-orders c =
     let P : DossierRows → Type 0 = IsValid in
-    orders_each c.args.dossier.now (subst P c.dossier.view_is c.dossier.invariant) c.args.orders.now.orders c.requires.orders
+    orders_each c.args.dossier.now (subst P c.dossier.view_is c.dossier.invariant) c.args.orders.now.orders
+    c.requires.orders
 
 pub called-requires-clause-few : goal.called-requires-clause-few
 called-requires-clause-few c =
@@ -38,7 +43,8 @@ called-requires-clause-few c =
     omega (
       arith,
       ap length c.requires.names,
-      named_few c.args.dossier.now (subst P c.dossier.view_is c.dossier.invariant) c.args.orders.now.orders c.requires.orders,
+      named_few c.args.dossier.now (subst P c.dossier.view_is c.dossier.invariant) c.args.orders.now.orders
+          c.requires.orders,
     )
 
 pub called-requires-clause-rises : goal.called-requires-clause-rises
@@ -46,7 +52,8 @@ called-requires-clause-rises c =
     let lists : List (List ℕ) = c.args.lists.now in
     let n : ℕ = c.len-count.result in
     let p : ℕ = c.loop-programme.programme in
-    let row = row_is lists n (length lists) p c.in_ok-rows.rows.items c.index.result.now c.in_ok-rows.ensures.listers c.loop-programme-test.true
+    let row = row_is lists n (length lists) p c.in_ok-rows.rows.items c.index.result.now c.in_ok-rows.ensures.listers
+    c.loop-programme-test.true
     c.index.ensures in
     subst IsStrictlyIncreasing (sym (c.as_slice-listers.ensures.value ∙ row)) (listers_rise lists p (length lists))
 
@@ -59,7 +66,8 @@ loop-programme-preserved c =
     let n : ℕ = c.len-count.result in
     let p : ℕ = c.loop-programme.programme in
     let called : ℕ → List ℕ = λ q. called_in ws q (order_of d orders q) in
-    let row = row_is lists n (length lists) p c.in_ok-rows.rows.items c.index.result.now c.in_ok-rows.ensures.listers c.loop-programme-test.true
+    let row = row_is lists n (length lists) p c.in_ok-rows.rows.items c.index.result.now c.in_ok-rows.ensures.listers
+    c.loop-programme-test.true
     c.index.ensures in
     let listers : c.as_slice-listers.result.now ≡ naming (lists_in ws) p (length (lists_in ws)) =
     c.as_slice-listers.ensures.value ∙ row ∙ ap (λ (ls : List (List ℕ)). naming ls p (length ls)) c.requires.lists in
@@ -67,10 +75,12 @@ loop-programme-preserved c =
     c.in_ok-numbers.ensures.called
     ∙ ap (λ (ks : List ℕ). filter (λ x. is_among x c.as_slice-listers.result.now)
     (map (λ k. position_or_len (nat_eq k) ks) c.order_of-order.result.now)) c.requires.names
-    ∙ ap (λ (o : List ℕ). filter (λ x. is_among x c.as_slice-listers.result.now) (map (λ k. position_or_len (nat_eq k) (named ws)) o))
+    ∙ ap (λ (o : List ℕ). filter (λ x. is_among x c.as_slice-listers.result.now)
+    (map (λ k. position_or_len (nat_eq k) (named ws)) o))
     c.order_of-order.ensures
     ∙ called_by_listers ws p (order_of d orders p) c.as_slice-listers.result.now listers in
-    more_of called p c.loop-programme.done.items c.push.new.self.items c.in_ok-numbers.numbers c.in_ok-push.ensures.items
+    more_of called p c.loop-programme.done.items c.push.new.self.items c.in_ok-numbers.numbers
+    c.in_ok-push.ensures.items
     c.loop-programme.invariant numbers
 
 pub order_of-order-requires-clause-programme : goal.order_of-order-requires-clause-programme

@@ -6,4 +6,5 @@ use Rattle.markets.proofs.named.orders_in.Given as goal
 
 abbrev pub invariant-loop-programme : goal.invariant-loop-programme
 invariant-loop-programme l =
-    l.done.items ≡ map (λ p. called_in (counted l.dossier) p (order_of l.dossier l.orders.orders p)) (range_with_len 0 l.programme)
+    l.done.items ≡ map (λ p. called_in (counted l.dossier) p (order_of l.dossier l.orders.orders p))
+    (range_with_len 0 l.programme)

@@ -21,6 +21,7 @@ returns-clause-all c =
     (All-contains (λ x. x < length c.args.stamps.now) c.args.listers.now q c.requires.within
     (Contains-from_any eqb-true q c.args.listers.now t)) in
     c.all_bear.ensures ∙ stamped_same c.args.stamp c.args.order.now stamps c.args.listers.now bear within
-    ∙ and_true (is_list_below (length c.args.stamps.now) c.args.order.now) (nat_eq (length c.args.order.now) (length c.args.listers.now)) _
+    ∙ and_true (is_list_below (length c.args.stamps.now) c.args.order.now)
+    (nat_eq (length c.args.order.now) (length c.args.listers.now)) _
     is_list
     (eq-eqb (length c.args.order.now) (length c.args.listers.now) c.if-order-listers.false)

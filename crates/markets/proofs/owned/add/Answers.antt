@@ -9,4 +9,5 @@ returns-clause-added c =
     let i = c.args.place in
     let old : slice_index_or (map (λ r. r.items) xs) i [] ≡ v.items = get_or-map (λ r. r.items) xs i v [] c.requires
     ∙ ap (λ r. r.items) (sym c.index_mut.ensures.value) in
-    rw (old) (map-set (λ r. r.items) xs i c.push.new.self ∙ ap (slice_set (map (λ r. r.items) xs) i) c.in_ok-push.ensures.items)
+    rw (old) (map-set (λ r. r.items) xs i c.push.new.self
+    ∙ ap (slice_set (map (λ r. r.items) xs) i) c.in_ok-push.ensures.items)

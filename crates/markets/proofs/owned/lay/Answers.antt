@@ -13,4 +13,5 @@ returns-in-Some-clause-laid c before e =
 
 pub returns-clause-laid : goal.returns-clause-laid
 returns-clause-laid c before e =
-    e ∙ lay_none before c.args.wish c.args.names.now.keys (sym c.get_index_of.ensures.found ∙ ap is_some c.in_default.is)
+    e ∙ lay_none before c.args.wish c.args.names.now.keys
+    (sym c.get_index_of.ensures.found ∙ ap is_some c.in_default.is)

@@ -31,6 +31,11 @@ pub returns : goal.returns
 returns c =
     let n : ℕ = length c.args.market.now.orders in
     let all : c.loop-programme.programme ≡ n =
-    omega (arith, c.loop-programme-test.false, c.loop-programme.auto.programme-end, c.programmes-programme-end.ensures) in
+    omega (
+      arith,
+      c.loop-programme-test.false,
+      c.loop-programme.auto.programme-end,
+      c.programmes-programme-end.ensures,
+    ) in
     let P = λ (k : ℕ). ArePositions c.args.market.now k c.loop-programme.rows.items in
     subst P all c.loop-programme.invariant

@@ -10,7 +10,8 @@ loop-place-preserved c =
     let order : List ℕ = c.args.order.now in
     let k : ℕ = c.loop-place.place in
     let item : ℕ → ℕ = λ x. length (before_first (nat_eq x) order) + 1 in
-    let own : k + 1 ≡ item (get_or order k 0) = own_position order k (list_distinct (length c.args.rows.now.items) order c.requires.order)
+    let own : k + 1 ≡ item (get_or order k 0) =
+    own_position order k (list_distinct (length c.args.rows.now.items) order c.requires.order)
     c.loop-place-test.true in
     put_more item order k c.args.rows.now.items c.loop-place.rows.items c.index_mut.result.now c.push.new.self
     c.requires.order c.loop-place-test.true c.index_mut.ensures.value

@@ -17,11 +17,13 @@ loop-programme-preserved c =
     let lt : c.loop-programme.programme < length orders =
     omega (arith, c.programmes-programme-end.ensures, c.loop-programme-test.true) in
     mapped_more length orders c.loop-programme.programme [] c.loop-programme.ceilings.items c.push.new.self.items
-    (length c.order.result.now) lt c.in_ok-push.ensures.items c.loop-programme.invariant (ap length c.order.ensures.order)
+    (length c.order.result.now) lt c.in_ok-push.ensures.items c.loop-programme.invariant
+    (ap length c.order.ensures.order)
 
 pub returns : goal.returns
 returns c =
     let orders : List (List ℕ) = c.args.market.now.orders in
     c.loop-programme.invariant
     ∙ ap (map length)
-    (take_all c.loop-programme.programme orders (omega (arith, c.programmes-programme-end.ensures, c.loop-programme-test.false)))
+    (take_all c.loop-programme.programme orders
+    (omega (arith, c.programmes-programme-end.ensures, c.loop-programme-test.false)))

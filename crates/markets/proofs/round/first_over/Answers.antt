@@ -13,7 +13,8 @@ returns-then-left-seats-2 c =
     let bar : ℕ = c.args.bar in
     let k : ℕ = bar - (c.loop-passed.passed + 1) in
     let here : bar - c.loop-passed.passed ≡ k + 1 = omega (arith, c.loop-passed-test.true) in
-    let held = held_before m places p bar c.loop-passed.passed c.order-order.result.now c.index.result.now c.order-order.ensures.order
+    let held = held_before m places p bar c.loop-passed.passed c.order-order.result.now c.index.result.now
+    c.order-order.ensures.order
     c.order-order.ensures.within c.requires.places c.requires.bar c.loop-passed-test.true c.index.ensures
     ∙ sym c.is_at.ensures ∙ c.if-is_at.true in
     let long : length (held_to m places p k) ≡ slice_index c.args.seating.now.filling.seats p =
@@ -25,7 +26,8 @@ returns-then-left-seats-2 c =
       c.if-left-seats-2.true,
       c.seats-seats.ensures,
     ) in
-    ap Some here ∙ sym (first_past m places p k bar (slice_index c.args.seating.now.filling.seats p) (omega (arith, here)) held long)
+    ap Some here ∙ sym (first_past m places p k bar (slice_index c.args.seating.now.filling.seats p)
+    (omega (arith, here)) held long)
 
 pub loop-passed-preserved : goal.loop-passed-preserved
 loop-passed-preserved c =
@@ -35,7 +37,8 @@ loop-passed-preserved c =
     let k : ℕ = c.args.bar - (c.loop-passed.passed + 1) in
     let here : c.args.bar - c.loop-passed.passed ≡ k + 1 = omega (arith, c.loop-passed-test.true) in
     let asked = held_before m places p c.args.bar c.loop-passed.passed c.order-order.result.now c.index.result.now
-    c.order-order.ensures.order c.order-order.ensures.within c.requires.places c.requires.bar c.loop-passed-test.true c.index.ensures
+    c.order-order.ensures.order c.order-order.ensures.within c.requires.places c.requires.bar c.loop-passed-test.true
+    c.index.ensures
     ∙ sym c.is_at.ensures in
     let was : c.loop-passed.left ≡ length (held_to m places p (k + 1)) = c.loop-passed.invariant.0
     ∙ ap (λ i. length (held_to m places p i)) here in

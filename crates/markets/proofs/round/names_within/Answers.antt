@@ -14,13 +14,16 @@ loop-place-preserved c =
     let k : ℕ = c.loop-place.place in
     let order : List ℕ = c.order-order.result.now in
     let y : ℕ = get_or order k 0 in
-    let asked : is_held m places p (k + 1) ≡ c.is_at.result = held_is m places p k y order (place_of places y) c.order-order.ensures.order
+    let asked : is_held m places p (k + 1) ≡ c.is_at.result =
+    held_is m places p k y order (place_of places y) c.order-order.ensures.order
     refl refl ∙ sym c.is_at.ensures in
     elim c.if-is_at.branch [
       | then-is_at+in_ok-push w ↦
           ap (λ (v : Vec ℕ Global). v.items) w.names-is ∙ w.in_ok-push.ensures.items
           ∙ ap (λ (xs : List ℕ). xs ++ y ∷ []) c.loop-place.invariant
-          ∙ sym (named_more m places p k y (asked ∙ w.if-is_at.true) (who_is m p k y order c.order-order.ensures.order refl))
+          ∙ sym (named_more m places p k y (asked ∙ w.if-is_at.true)
+          (who_is m p k y order c.order-order.ensures.order refl))
       | else-is_at w ↦
-          ap (λ (v : Vec ℕ Global). v.items) w.names-is ∙ c.loop-place.invariant ∙ sym (named_over m places p k (asked ∙ w.if-is_at.false))
+          ap (λ (v : Vec ℕ Global). v.items) w.names-is ∙ c.loop-place.invariant
+          ∙ sym (named_over m places p k (asked ∙ w.if-is_at.false))
     ]

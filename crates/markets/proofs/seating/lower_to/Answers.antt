@@ -10,7 +10,8 @@ loop-passed-preserved g c =
     let p : ℕ = c.args.programme in
     let v : ℕ = slice_index bars p + c.args.to - c.loop-passed._passed in
     let p_lt : p < length bars = omega (arith, c.requires.programme, c.requires.round.seated.one_bar_each) in (
-      set_again bars c.loop-passed.bars.items c.step_down.new.bars.items p v (slice_index bars p + c.args.to - (c.loop-passed._passed + 1))
+      set_again bars c.loop-passed.bars.items c.step_down.new.bars.items p v
+          (slice_index bars p + c.args.to - (c.loop-passed._passed + 1))
           p_lt
           c.loop-passed.invariant.0 c.step_down.ensures.bars (omega arith),
       c.step_down.ensures.round,
@@ -47,6 +48,12 @@ returns-clause-bars g c =
     let from : c.index-from.result.now ≡ slice_index bars p = c.index-from.ensures
     ∙ get_or_default bars p c.index-from.result.now 0 p_lt in
     let end : slice_index bars p + c.args.to - c.loop-passed._passed ≡ c.args.to =
-    omega (arith, from, c.loop-passed-test.false, c.loop-passed.auto._passed-end (omega (arith, from, c.requires.lower))) in
+    omega (
+      arith,
+      from,
+      c.loop-passed-test.false,
+      c.loop-passed.auto._passed-end
+          (omega (arith, from, c.requires.lower)),
+    ) in
     let P = λ (v : ℕ). c.loop-passed.bars.items ≡ set bars p v in
     subst P end c.loop-passed.invariant.0

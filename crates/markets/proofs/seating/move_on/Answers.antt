@@ -17,7 +17,12 @@ overflow_add-passed c =
     let now = c.args.seating.now in
     let x : ℕ = c.args.candidate in
     let leaves = c.requires.leaves in
-    let x_lt : x < length m.lists = omega (arith, leaves.candidate, ap (λ (r : MarketRows). length r.lists) c.market.ensures) in
+    let x_lt : x < length m.lists = omega (
+      arith,
+      leaves.candidate,
+      ap
+          (λ (r : MarketRows). length r.lists) c.market.ensures,
+    ) in
     let s_lt : x < length now.stands.items =
     omega (arith, placed_below now.places.items x c.args.had leaves.had, now.tied.one_place_each) in
     let read : c.index.result.now ≡ slice_index now.stands.items x =
@@ -55,7 +60,11 @@ first_within-stand-requires-clause-from c =
     let stands = now.stands.items in
     let x : ℕ = c.args.candidate in
     let leaves = c.requires.leaves in
-    let lt : x < length stands = omega (arith, placed_below now.places.items x c.args.had leaves.had, now.tied.one_place_each) in
+    let lt : x < length stands = omega (
+      arith,
+      placed_below now.places.items x c.args.had leaves.had,
+      now.tied.one_place_each,
+    ) in
     omega (arith, c.index.ensures ∙ get_or_default stands x c.index.result.now 0 lt, leaves.on_list)
 
 pub first_within-stand-requires-clause-beyond : goal.first_within-stand-requires-clause-beyond
@@ -64,7 +73,11 @@ first_within-stand-requires-clause-beyond c =
     let stands = now.stands.items in
     let x : ℕ = c.args.candidate in
     let leaves = c.requires.leaves in
-    let lt : x < length stands = omega (arith, placed_below now.places.items x c.args.had leaves.had, now.tied.one_place_each) in
+    let lt : x < length stands = omega (
+      arith,
+      placed_below now.places.items x c.args.had leaves.had,
+      now.tied.one_place_each,
+    ) in
     let P = λ (n : ℕ). AreBeyond c.args.market.now c.args.bars.now x (n + 1) in
     subst P (sym (c.index.ensures ∙ get_or_default stands x c.index.result.now 0 lt)) leaves.beyond
 
@@ -75,7 +88,11 @@ returns-clause-moved c =
     let x : ℕ = c.args.candidate in
     let s : ℕ = c.first_within-stand.result in
     let leaves = c.requires.leaves in
-    let lt : x < length stands = omega (arith, placed_below now.places.items x c.args.had leaves.had, now.tied.one_place_each) in
+    let lt : x < length stands = omega (
+      arith,
+      placed_below now.places.items x c.args.had leaves.had,
+      now.tied.one_place_each,
+    ) in
     let here = put_here stands c.put_place.new.seating.stands.items x s lt c.put_place.ensures.stands in
     let best = c.place_at-place.ensures
     ∙ ap (λ (r : MarketRows). slice_get (list_of r x) s) c.market-2.ensures

@@ -13,7 +13,8 @@ overflow_sub-left c =
       arith,
       c.count-left.ensures,
       tied.counts.each c.args.had (tied.within c.args.candidate c.args.had c.requires.had),
-      one_holds places c.args.candidate c.args.had (placed_below places c.args.candidate c.args.had c.requires.had) c.requires.had,
+      one_holds places c.args.candidate c.args.had
+          (placed_below places c.args.candidate c.args.had c.requires.had) c.requires.had,
     )
 
 pub count_in-requires-clause-few : goal.count_in-requires-clause-few
@@ -24,8 +25,10 @@ count_in-requires-clause-few c =
     omega (
       arith,
       ap (λ (f : Fill). slice_index f.counts p) c.put.ensures,
-      put_few (length now.filling.seats) now.places.items now.filling.counts c.args.had (c.count-left.result - 1) p tied.counts
-          (tied.within c.args.candidate c.args.had c.requires.had) (c.requires.within p e) (omega (arith, c.count-left.ensures)),
+      put_few (length now.filling.seats) now.places.items now.filling.counts c.args.had
+          (c.count-left.result - 1) p tied.counts
+          (tied.within c.args.candidate c.args.had c.requires.had) (c.requires.within p e)
+          (omega (arith, c.count-left.ensures)),
       tied.few,
     )
 

@@ -29,16 +29,24 @@ counts_of-requires-clause-within c =
     let P : MarketRows → Type 0 = IsMarket in
     let is = subst P c.market.ensures c.stands.ensures.market in
     let places_are : c.deref-2.result.now ≡ matched_under m bars =
-    c.deref-2.ensures.value ∙ c.in_ok-places.ensures ∙ ap (λ (r : MarketRows). matched_under r bars) c.market-2.ensures in
+    c.deref-2.ensures.value ∙ c.in_ok-places.ensures
+    ∙ ap (λ (r : MarketRows). matched_under r bars) c.market-2.ensures in
     λ x p at.
-    let best : best_within m bars x ≡ Some p = sym (place_under m bars x) ∙ ap (λ (ps : List (Option ℕ)). place_of ps x) (sym places_are)
+    let best : best_within m bars x ≡ Some p =
+    sym (place_under m bars x) ∙ ap (λ (ps : List (Option ℕ)). place_of ps x) (sym places_are)
     ∙ at in
-    omega (arith, is_programme m is p x (best_is_listed m bars x p best), ap (λ (r : MarketRows). length r.orders) c.market-3.ensures)
+    omega (
+      arith,
+      is_programme m is p x (best_is_listed m bars x p best),
+      ap
+          (λ (r : MarketRows). length r.orders) c.market-3.ensures,
+    )
 
 pub returns : goal.returns
 returns c =
     let P : MarketRows → Type 0 = IsMarket in
-    round_from (subst P c.market.ensures c.stands.ensures.market) c.requires.bars c.requires.under c.in_ok-stands.ensures
+    round_from (subst P c.market.ensures c.stands.ensures.market) c.requires.bars c.requires.under
+    c.in_ok-stands.ensures
     c.market-2.ensures c.in_ok-places.ensures c.market-3.ensures c.deref-2.ensures.value c.in_ok-counts.ensures
     c.market-4.ensures c.all_seats.ensures c.in_ok-filling.ensures
 
@@ -47,7 +55,8 @@ invariant_of-result c =
     let P : MarketRows → Type 0 = IsMarket in
     let Q : MarketRows → Type 0 = IsSmall in
     let round =
-    round_from (subst P c.market.ensures c.stands.ensures.market) c.requires.bars c.requires.under c.in_ok-stands.ensures
+    round_from (subst P c.market.ensures c.stands.ensures.market) c.requires.bars c.requires.under
+    c.in_ok-stands.ensures
     c.market-2.ensures c.in_ok-places.ensures c.market-3.ensures c.deref-2.ensures.value c.in_ok-counts.ensures
     c.market-4.ensures c.all_seats.ensures c.in_ok-filling.ensures in
     record { tied = tied_from (subst Q c.market.ensures c.stands.ensures.small) round }

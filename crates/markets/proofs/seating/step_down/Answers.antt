@@ -6,8 +6,10 @@ use Rattle.markets.proofs.seating.step_down.Goals as goal
 
 pub move_on-requires-clause-leaves : goal.move_on-requires-clause-leaves
 move_on-requires-clause-leaves c =
-    leaving c.requires.round c.args.programme c.requires.programme c.requires.above c.market.ensures c.order.ensures.order
-    c.order.ensures.within c.index.ensures c.deref.ensures.value c.index-2.ensures (sym c.is_at.ensures ∙ c.if-is_at.true)
+    leaving c.requires.round c.args.programme c.requires.programme c.requires.above c.market.ensures
+    c.order.ensures.order
+    c.order.ensures.within c.index.ensures c.deref.ensures.value c.index-2.ensures
+    (sym c.is_at.ensures ∙ c.if-is_at.true)
 
 pub move_on-requires-clause-seats : goal.move_on-requires-clause-seats
 move_on-requires-clause-seats c = c.requires.round.seats
@@ -17,25 +19,29 @@ returns-then-is_at-clause-round c =
     let new = c.move_on.new.seating in
     let P : List ℕ → Type 0 = λ bs. IsRound c.args.market.now bs new.stands.items new.places.items new.filling in
     subst P c.deref.ensures.value
-    (moves_on c.requires.round c.args.programme c.requires.programme c.requires.above c.market.ensures c.order.ensures.order
+    (moves_on c.requires.round c.args.programme c.requires.programme c.requires.above c.market.ensures
+    c.order.ensures.order
     c.order.ensures.within c.index.ensures
     c.deref.ensures.value new.stands.items new.places.items new.filling c.move_on.ensures.moved c.move_on.ensures.seats
     new.tied.counts)
 
 pub returns-then-is_at-clause-bars : goal.returns-then-is_at-clause-bars
 returns-then-is_at-clause-bars c =
-    lowered c.requires.round c.args.programme c.requires.programme c.requires.above c.market.ensures c.order.ensures.order
+    lowered c.requires.round c.args.programme c.requires.programme c.requires.above c.market.ensures
+    c.order.ensures.order
     c.order.ensures.within c.index.ensures refl
 
 pub returns-else-is_at-clause-round : goal.returns-else-is_at-clause-round
 returns-else-is_at-clause-round c =
-    nobody_moves c.requires.round c.args.programme c.requires.programme c.requires.above c.market.ensures c.order.ensures.order
+    nobody_moves c.requires.round c.args.programme c.requires.programme c.requires.above c.market.ensures
+    c.order.ensures.order
     c.order.ensures.within c.index.ensures
     refl c.index-2.ensures (sym c.is_at.ensures ∙ c.if-is_at.false)
 
 pub returns-else-is_at-clause-bars : goal.returns-else-is_at-clause-bars
 returns-else-is_at-clause-bars c =
-    lowered c.requires.round c.args.programme c.requires.programme c.requires.above c.market.ensures c.order.ensures.order
+    lowered c.requires.round c.args.programme c.requires.programme c.requires.above c.market.ensures
+    c.order.ensures.order
     c.order.ensures.within c.index.ensures refl
 
 pub overflow_sub-bar : goal.overflow_sub-bar
@@ -47,11 +53,13 @@ overflow_sub-bar c =
 
 pub bounds-order-bar : goal.bounds-order-bar
 bounds-order-bar c =
-    position_within c.requires.round c.args.programme c.requires.programme c.requires.above c.market.ensures c.order.ensures.order
+    position_within c.requires.round c.args.programme c.requires.programme c.requires.above c.market.ensures
+    c.order.ensures.order
     c.order.ensures.within c.index.ensures
 
 pub index-requires-2 : goal.index-requires-2
 index-requires-2 c =
-    let lt = who_within c.requires.round c.args.programme c.requires.programme c.requires.above c.market.ensures c.order.ensures.order
+    let lt = who_within c.requires.round c.args.programme c.requires.programme c.requires.above c.market.ensures
+    c.order.ensures.order
     c.order.ensures.within c.index.ensures in
     omega (arith, lt, c.requires.round.seated.one_place_each)

@@ -4,7 +4,8 @@ use Rattle.markets.proofs.Seated.{stands_none, stands_more}
 use Rattle.markets.proofs.standing.stands_under.Goals as goal
 
 pub loop-candidate-init : goal.loop-candidate-init
-loop-candidate-init c = stands_none c.args.market.now c.args.bars.now c.new-stands.result.items c.new-stands.ensures.items
+loop-candidate-init c = stands_none c.args.market.now c.args.bars.now c.new-stands.result.items
+    c.new-stands.ensures.items
 
 pub first_within-requires-clause-candidate : goal.first_within-requires-clause-candidate
 first_within-requires-clause-candidate c =
@@ -16,7 +17,8 @@ first_within-requires-clause-beyond c = λ k lt. absurd (omega (arith, lt))
 
 pub loop-candidate-preserved : goal.loop-candidate-preserved
 loop-candidate-preserved c =
-    stands_more c.args.market.now c.args.bars.now c.loop-candidate.candidate c.first_within.result c.loop-candidate.stands.items
+    stands_more c.args.market.now c.args.bars.now c.loop-candidate.candidate c.first_within.result
+    c.loop-candidate.stands.items
     c.push.new.self.items c.in_ok-push.ensures.items c.first_within.ensures c.loop-candidate.invariant
 
 pub returns : goal.returns

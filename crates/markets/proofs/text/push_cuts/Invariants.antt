@@ -5,4 +5,5 @@ use Rattle.markets.proofs.text.push_cuts.Given as goal
 
 abbrev pub invariant-loop-place : goal.invariant-loop-place
 invariant-loop-place l =
-    string_bytes l.text ≡ string_bytes l.fn.text ++ flat_map (cut_line l.bars) (enumerate_from 0 (take l.place l.programmes))
+    string_bytes l.text ≡ string_bytes l.fn.text
+    ++ flat_map (cut_line l.bars) (enumerate_from 0 (take l.place l.programmes))

@@ -9,8 +9,10 @@ pub returns : goal.returns
 returns c =
     let line = match_line c.args.dossier.now in
     let end = YieldsList-end (YieldsList-from_zip {s = c.into_iter-candidate-iterator.result}
-    (YieldsList-from_slice c.args.candidates.now (search rules)) (YieldsList-from_slice c.args.places.now (search rules)))
-    c.loop-candidate.yielded c.loop-candidate.candidate-iterator c.loop-candidate.yielded_by c.next.result c.next.new.self c.in-None.is
+    (YieldsList-from_slice c.args.candidates.now (search rules))
+    (YieldsList-from_slice c.args.places.now (search rules)))
+    c.loop-candidate.yielded c.loop-candidate.candidate-iterator c.loop-candidate.yielded_by c.next.result
+    c.next.new.self c.in-None.is
     c.next.ensures.steps in
     c.loop-candidate.invariant ∙ ap (λ t. string_bytes c.args.text.now ++ t)
     (sym (flat_map-map line (λ p. (p.0.now, p.1.now)) c.loop-candidate.yielded) ∙ ap (flat_map line) end.0)

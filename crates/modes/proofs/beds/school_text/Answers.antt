@@ -15,21 +15,24 @@ unreachable-requires g c =
 pub figures_text-requires-clause-dossier : goal.figures_text-requires-clause-dossier
 figures_text-requires-clause-dossier g c =
     ap (λ (s : State). s.dossier) c.opening-opening.ensures
-    ∙ opening_dossier c.args.input.now.dossier c.args.input.now.index c.args.orders.now.orders c.args.days.now c.args.desk.now
+    ∙ opening_dossier c.args.input.now.dossier c.args.input.now.index c.args.orders.now.orders c.args.days.now
+    c.args.desk.now
     c.args.school c.in-Some.place c.in-Some-last.day.now (sym c.school_place.ensures ∙ c.in-Some.is)
     (sym c.in-Some-last.ensures.value) c.requires.desk
 
 pub figures_text-requires-clause-orders : goal.figures_text-requires-clause-orders
 figures_text-requires-clause-orders g c =
     subst (λ (s : State). AreCallOrders s.dossier.groups c.args.orders.now.orders) (sym c.opening-opening.ensures)
-    (opening_called c.args.input.now.dossier c.args.input.now.index c.args.orders.now.orders c.args.days.now c.args.desk.now
+    (opening_called c.args.input.now.dossier c.args.input.now.index c.args.orders.now.orders c.args.days.now
+    c.args.desk.now
     c.args.school c.in-Some.place c.in-Some-last.day.now (sym c.school_place.ensures ∙ c.in-Some.is)
     (sym c.in-Some-last.ensures.value) c.requires.desk)
 
 pub figures_text-requires-clause-ceilings : goal.figures_text-requires-clause-ceilings
 figures_text-requires-clause-ceilings g c =
     ap length (c.deref.ensures.value ∙ c.in_ok-ceilings.ensures.ceilings)
-    ∙ opening_ceilings c.args.input.now.dossier c.args.input.now.index c.args.orders.now.orders c.args.days.now c.args.desk.now
+    ∙ opening_ceilings c.args.input.now.dossier c.args.input.now.index c.args.orders.now.orders c.args.days.now
+    c.args.desk.now
     c.args.school c.in-Some.place c.in-Some-last.day.now (sym c.school_place.ensures ∙ c.in-Some.is)
     (sym c.in-Some-last.ensures.value) c.requires.desk
     ∙ ap (λ (s : State). length s.dossier.schools) (sym c.opening-opening.ensures)
@@ -42,20 +45,26 @@ figures_text-requires-clause-place g c =
 
 pub returns-clause-text : goal.returns-clause-text
 returns-clause-text g c =
-    all_tell c.args.input.now.dossier c.args.input.now.index c.args.orders.now.orders c.args.days.now c.args.desk.now c.args.school c.in-Some.place c.in-Some-last.day.now (sym c.school_place.ensures ∙ c.in-Some.is)
-    (sym c.in-Some-last.ensures.value) c.requires.desk c.opening-opening.result.now c.deref.result.now _ _ _ c.opening-opening.ensures (c.deref.ensures.value ∙ c.in_ok-ceilings.ensures.ceilings)
+    all_tell c.args.input.now.dossier c.args.input.now.index c.args.orders.now.orders c.args.days.now c.args.desk.now
+    c.args.school c.in-Some.place c.in-Some-last.day.now (sym c.school_place.ensures ∙ c.in-Some.is)
+    (sym c.in-Some-last.ensures.value) c.requires.desk c.opening-opening.result.now c.deref.result.now _ _ _
+    c.opening-opening.ensures (c.deref.ensures.value ∙ c.in_ok-ceilings.ensures.ceilings)
     c.figures_text.ensures.early (λ text. text.items) c.figures_text.result c.figures_text.ensures.text
 
 pub returns-clause-only : goal.returns-clause-only
 returns-clause-only g c =
-    all_only c.args.input.now.dossier c.args.input.now.index c.args.orders.now.orders c.args.days.now c.args.desk.now c.args.school c.in-Some.place c.in-Some-last.day.now (sym c.school_place.ensures ∙ c.in-Some.is)
-    (sym c.in-Some-last.ensures.value) c.requires.desk c.opening-opening.result.now c.deref.result.now _ _ _ c.opening-opening.ensures (c.deref.ensures.value ∙ c.in_ok-ceilings.ensures.ceilings)
+    all_only c.args.input.now.dossier c.args.input.now.index c.args.orders.now.orders c.args.days.now c.args.desk.now
+    c.args.school c.in-Some.place c.in-Some-last.day.now (sym c.school_place.ensures ∙ c.in-Some.is)
+    (sym c.in-Some-last.ensures.value) c.requires.desk c.opening-opening.result.now c.deref.result.now _ _ _
+    c.opening-opening.ensures (c.deref.ensures.value ∙ c.in_ok-ceilings.ensures.ceilings)
     c.figures_text.ensures.early (λ text. text.items) c.figures_text.result c.figures_text.ensures.text
 
 pub returns-clause-picks : goal.returns-clause-picks
 returns-clause-picks g c =
-    all_picked c.args.input.now.dossier c.args.input.now.index c.args.orders.now.orders c.args.days.now c.args.desk.now c.args.school c.in-Some.place c.in-Some-last.day.now (sym c.school_place.ensures ∙ c.in-Some.is)
-    (sym c.in-Some-last.ensures.value) c.requires.desk c.opening-opening.result.now c.deref.result.now _ _ _ c.opening-opening.ensures (c.deref.ensures.value ∙ c.in_ok-ceilings.ensures.ceilings)
+    all_picked c.args.input.now.dossier c.args.input.now.index c.args.orders.now.orders c.args.days.now c.args.desk.now
+    c.args.school c.in-Some.place c.in-Some-last.day.now (sym c.school_place.ensures ∙ c.in-Some.is)
+    (sym c.in-Some-last.ensures.value) c.requires.desk c.opening-opening.result.now c.deref.result.now _ _ _
+    c.opening-opening.ensures (c.deref.ensures.value ∙ c.in_ok-ceilings.ensures.ceilings)
     c.figures_text.ensures.early (λ text. text.items) c.figures_text.result c.figures_text.ensures.text
 
 pub returns-clause-early : goal.returns-clause-early

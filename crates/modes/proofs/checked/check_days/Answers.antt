@@ -31,8 +31,10 @@ loop-place-preserved c =
     let after = c.in_ok-check_next.ensures in
     let within : i + 1 ≤ 366 = omega (arith, c.requires.days) in
     record {
-      why = days_go_on terms orders (i + 1) s next chain rest _ (inv.why ∙ ap (why_none terms orders (i + 1) s) here) after.found after.evening;
-      evening = evening_goes_on terms orders (i + 1) s next chain rest _ (inv.evening ∙ ap (evening_after terms orders (i + 1) s) here) after.evening;
+      why = days_go_on terms orders (i + 1) s next chain rest _
+          (inv.why ∙ ap (why_none terms orders (i + 1) s) here) after.found after.evening;
+      evening = evening_goes_on terms orders (i + 1) s next chain rest _
+          (inv.evening ∙ ap (evening_after terms orders (i + 1) s) here) after.evening;
       dossier = after.dossier ∙ inv.dossier;
       stamped = λ all. after.stamps 366 within (inv.stamped all);
     }

@@ -1,4 +1,5 @@
-use Rattle.next_morning.proofs.WorkedDates.{dated_accepted_witness, dated_cut_witness, dated_offers_witness, dated_rest_witness, dates_witness, worked_dated_mornings}
+use Rattle.next_morning.proofs.WorkedDates.{dated_accepted_witness, dated_cut_witness, dated_offers_witness}
+use Rattle.next_morning.proofs.WorkedDates.{dated_rest_witness, dates_witness, worked_dated_mornings}
 use Rattle.next_morning.proofs.laws.witnesses_of_dated_mornings.Goals as goal
 
 pub returns : goal.returns

@@ -1,4 +1,5 @@
-use Rattle.next_morning.proofs.WorkedMorning.{accepted_witness, cut_witness, rest_witness, valid_witness, worked_mornings}
+use Rattle.next_morning.proofs.WorkedMorning.{accepted_witness, cut_witness, rest_witness, valid_witness}
+use Rattle.next_morning.proofs.WorkedMorning.{worked_mornings}
 use Rattle.next_morning.proofs.laws.witnesses_of_next_mornings.Goals as goal
 
 pub returns : goal.returns

@@ -8,7 +8,8 @@ use Rattle.next_morning.proofs.rows.school_rows.Goals as goal
 pub returns : goal.returns
 returns c =
     let end = YieldsList-end
-    (YieldsList-from_zip {s = c.into_iter-school-iterator.result} (YieldsList-from_slice c.args.schools.now (search rules))
+    (YieldsList-from_zip {s = c.into_iter-school-iterator.result}
+    (YieldsList-from_slice c.args.schools.now (search rules))
     (YieldsList-from_slice c.args.ceilings.now (search rules)))
     c.loop-school.yielded c.loop-school.school-iterator c.loop-school.yielded_by
     c.next.result c.next.new.self c.in-None.is c.next.ensures.steps in

@@ -16,7 +16,8 @@ returns-then-would_take c =
     block_found c.args.market.now c.args.places.now c.args.candidate (place_of c.args.places.now c.args.candidate)
     c.list-programme-items.result.now c.loop-programme.programme-index
     (c.list-programme-items.ensures.list ∙ ap (λ (r : MarketRows). list_of r c.args.candidate) c.market.ensures) refl
-    c.loop-programme-test.true (sym c.is_at.ensures ∙ c.if-is_at.false) (sym c.would_take.ensures ∙ c.if-would_take.true)
+    c.loop-programme-test.true (sym c.is_at.ensures ∙ c.if-is_at.false)
+    (sym c.would_take.ensures ∙ c.if-would_take.true)
     c.loop-programme.invariant
 
 pub returns : goal.returns

@@ -15,9 +15,11 @@ returns-in-Some c =
     let m = c.args.market.now in
     let k : ℕ = c.loop-candidate.candidate in
     let found : block_of m c.args.places.now k ≡ Some c.in-Some.programme =
-    ap (λ (r : MarketRows). block_of r c.args.places.now k) (sym c.in_ok-ranked.ensures) ∙ sym c.block_of.ensures ∙ c.in-Some.is in
+    ap (λ (r : MarketRows). block_of r c.args.places.now k) (sym c.in_ok-ranked.ensures) ∙ sym c.block_of.ensures
+    ∙ c.in-Some.is in
     let k_lt : k < length m.lists = omega (arith, c.loop-candidate-test.true, c.candidates-candidate-end.ensures) in (
-      range_found (λ x. is_some (block_of m c.args.places.now x)) 0 (length m.lists) k (omega arith) (omega (arith, k_lt))
+      range_found (λ x. is_some (block_of m c.args.places.now x)) 0 (length m.lists) k (omega arith)
+          (omega (arith, k_lt))
           c.loop-candidate.invariant (ap is_some found),
       found,
     )
@@ -26,10 +28,12 @@ pub returns : goal.returns
 returns c =
     let m = c.args.market.now in
     stable_from m c.args.places.now c.requires
-    (λ x le lt. c.loop-candidate.invariant x le (omega (arith, lt, c.loop-candidate-test.false, c.candidates-candidate-end.ensures)))
+    (λ x le lt. c.loop-candidate.invariant x le
+    (omega (arith, lt, c.loop-candidate-test.false, c.candidates-candidate-end.ensures)))
 
 pub counts_of-requires-clause-within : goal.counts_of-requires-clause-within
-counts_of-requires-clause-within c = λ x p at. is_programme c.args.market.now c.stands.ensures.market p x (c.requires.listed x p at)
+counts_of-requires-clause-within c = λ x p at. is_programme c.args.market.now c.stands.ensures.market p x
+    (c.requires.listed x p at)
 
 pub lasts_of-requires-clause-within : goal.lasts_of-requires-clause-within
 lasts_of-requires-clause-within c =
@@ -76,7 +80,8 @@ loop-candidate-preserved c =
     let m = c.args.market.now in
     let places = c.args.places.now in
     let k : ℕ = c.loop-candidate.candidate in
-    let none = ap (λ (r : MarketRows). block_of r places k) (sym c.in_ok-ranked.ensures) ∙ sym c.block_of.ensures ∙ c.in_default.is in
+    let none = ap (λ (r : MarketRows). block_of r places k) (sym c.in_ok-ranked.ensures) ∙ sym c.block_of.ensures
+    ∙ c.in_default.is in
     λ x le lt. elim (cases_eq x k) [
       | inl here ↦ ap (λ y. is_some (block_of m places y)) here ∙ ap is_some none
       | inr other ↦ c.loop-candidate.invariant x le (omega (arith, lt, other))

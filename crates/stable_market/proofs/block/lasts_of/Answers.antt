@@ -25,7 +25,8 @@ pub loop-candidate-init : goal.loop-candidate-init
 loop-candidate-init c =
     lasts_none c.args.market.now c.args.places.now c.in_ok-lasts.lasts.items
     (c.in_ok-lasts.ensures.items_if_clones_equal (λ y e. e)
-    ∙ ap (λ (n : ℕ). replicate n 0) (c.programmes.ensures ∙ ap (λ (r : MarketRows). length r.orders) c.market-2.ensures))
+    ∙ ap (λ (n : ℕ). replicate n 0) (c.programmes.ensures ∙ ap (λ (r : MarketRows). length r.orders)
+    c.market-2.ensures))
 
 pub note_last-requires-clause-candidate : goal.note_last-requires-clause-candidate
 note_last-requires-clause-candidate c = omega (arith, c.loop-candidate-test.true, c.requires.places)

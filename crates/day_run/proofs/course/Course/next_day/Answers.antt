@@ -49,7 +49,8 @@ invariant_of-self-2 g c =
 
 pub returns : goal.returns
 returns g c =
-    next_ran c.args.self.now _ _ c.as_slice.result.now c.in_ok-ceilings.ceilings.items _ c.dossier.result.now c.run_day_along.new.desk _ _ _
+    next_ran c.args.self.now _ _ c.as_slice.result.now c.in_ok-ceilings.ceilings.items _ c.dossier.result.now
+    c.run_day_along.new.desk _ _ _
     _ c.in_ok-done.done c.self.view_is
     c.as_ref.ensures.value c.as_slice.ensures.value c.in_ok-ceilings.ensures.ceilings
     (c.dossier.ensures ∙ ap (λ (s : State). s.dossier) c.now.ensures)

@@ -13,14 +13,16 @@ use Rattle.desk_day.specs.DayPasses.{IsAnswered, offered_along}
 use Rattle.desk_day.specs.DayPlaces.{AreWishesOf}
 use Rattle.desk_day.specs.Running.{IsPassMade, RunningStates, opening_after}
 use Rattle.desk_day.proofs.DayEnds.{tells_on}
-use Rattle.desk_day.proofs.LaterPasses.{answered_all, answered_along, answered_but, closing_answered, offers_within, same_but, steps_taken}
+use Rattle.desk_day.proofs.LaterPasses.{answered_all, answered_along, answered_but, closing_answered, offers_within}
+use Rattle.desk_day.proofs.LaterPasses.{same_but, steps_taken}
 use Rattle.desk_day.proofs.OnceEach.{names_along, names_there, others_stay}
 use Rattle.desk_day.proofs.OnePass.{closed, closed_dossier, pass_ended, fewer_open, closed_long, next_dossier}
 use Rattle.desk_day.proofs.running.Running.make_pass.Goals as goal
 
 pub pass_along-requires : goal.pass_along-requires
 pass_along-requires g c = record {
-  same = subst (λ (r : RunningStates). c.args.roster.now.dossier ≡ r.present.dossier) (sym c.self.view_is) c.requires.roster;
+  same = subst (λ (r : RunningStates). c.args.roster.now.dossier ≡ r.present.dossier)
+      (sym c.self.view_is) c.requires.roster;
   ceilings = subst (λ (r : RunningStates). length c.args.ceilings.now ≡ length r.present.dossier.schools)
       (sym c.self.view_is) c.requires.ceilings;
 }
@@ -30,8 +32,10 @@ ask_beside-requires g c =
     let made = c.in_ok-pass.ensures.state in
     let there = ap (λ (t : State). t.dossier) made in
     record {
-      places = subst (λ (d : DossierRows). AreWishesOf d c.self.inside.beside.items) (sym there) c.self.invariant.within;
-      offers = offers_within c.self.inside.present c.pass_along.new.state c.args.roster.now.orders c.in_ok-pass.pass.bars
+      places = subst (λ (d : DossierRows). AreWishesOf d c.self.inside.beside.items)
+          (sym there) c.self.invariant.within;
+      offers = offers_within c.self.inside.present c.pass_along.new.state c.args.roster.now.orders
+          c.in_ok-pass.pass.bars
           c.as_slice-offers.result.now there (c.as_slice-offers.ensures ∙ c.in_ok-pass.ensures.pass.offers);
     }
 
@@ -74,13 +78,16 @@ changes_after-requires g c =
     let close = c.answer_after-freed.ensures.state in
     let opens = ap (λ (t : State). t.dossier) opened in
     let same = ap (λ (t : State). t.dossier) made ∙ sym opens in
-    let names = names_there c.pass_along.new.state.dossier opening.dossier (beside ++ offers) _ c.as_slice-asked.result.now
+    let names = names_there c.pass_along.new.state.dossier opening.dossier
+    (beside ++ offers) _ c.as_slice-asked.result.now
     same c.as_slice-asked.ensures.value c.in_ok-ask_beside.ensures.names in
     record {
       same = ap (λ (t : State). t.dossier) (close ∙ ap (λ (t : State). auto_all t stamp) made) ∙ sym opens;
       asked = names.within;
-      others = λ known. others_stay opening c.answer_after-freed.new.state (beside ++ offers) c.as_slice-asked.result.now names
-          (same_but s c.pass_along.new.state c.answer_after-freed.new.state opening orders bars beside offers (beside ++ offers)
+      others = λ known. others_stay opening c.answer_after-freed.new.state
+          (beside ++ offers) c.as_slice-asked.result.now names
+          (same_but s c.pass_along.new.state c.answer_after-freed.new.state opening orders bars beside offers
+          (beside ++ offers)
           stamp long made close opened are refl (c.self.invariant.answered known stamp));
     }
 
@@ -144,7 +151,8 @@ invariant_of-self-in_err-autos g c =
     let made = ap (λ (t : State). t.dossier) c.in_ok-pass.ensures.state in
     record {
       dossier = c.self.invariant.dossier ∙ sym end;
-      within = subst (λ (d : DossierRows). AreWishesOf d c.ask_beside.new.places.items) (made ∙ sym end) c.ask_beside.ensures.within;
+      within = subst (λ (d : DossierRows). AreWishesOf d c.ask_beside.new.places.items)
+          (made ∙ sym end) c.ask_beside.ensures.within;
       answered = λ known. absurd (false≢true known);
       alike = λ known. absurd (false≢true known);
     }
@@ -160,9 +168,11 @@ invariant_of-self-2 g c =
     subst (λ (r : RunningStates). r.opening ≡ r.present) (sym c.self.view_is) c.requires.opened in
     let long : length s.marks ≡ length s.dossier.wishes = ap (λ (ms : List Mark). length ms) (sym c.marks.ensures.marks)
     ∙ c.marks.ensures.one_each in
-    let end = closed s c.pass_along.new.state close orders bars stamp c.in_ok-pass.ensures.state c.answer_after-freed.ensures.state in
+    let end = closed s c.pass_along.new.state close orders bars stamp c.in_ok-pass.ensures.state
+    c.answer_after-freed.ensures.state in
     record {
-      dossier = next_dossier c.answer_after-freed.result c.self.inside.opening close c.follow.new.opening c.follow.ensures
+      dossier = next_dossier c.answer_after-freed.result c.self.inside.opening close c.follow.new.opening
+          c.follow.ensures
           (ap (λ (t : State). t.dossier) opened ∙ sym (ap (λ (t : State). t.dossier) end));
       within = rw c.clear.ensures.items (All-nil (λ (k : ℕ). k < length close.dossier.wishes));
       answered = λ known. answered_all close (subst IsAnswered (sym end) (closing_answered s orders bars stamp long))
@@ -189,8 +199,10 @@ returns-clause-made g c =
     let all = c.answer_after-freed.result in
     let pass_end : PassEnd = record { pass = c.in_ok-pass.pass; autos = c.from_vec.result; freed = all } in
     let after : RunningStates = record { present = close; opening = c.follow.new.opening } in
-    subst (λ (r : RunningStates). IsPassMade orders c.args.ceilings.now stamp r.present pass_end after) c.self.view_is (record {
-      ended = pass_ended s off close c.self.inside.opening orders c.args.ceilings.now stamp c.in_ok-pass.pass c.from_vec.result
+    subst (λ (r : RunningStates). IsPassMade orders c.args.ceilings.now stamp r.present pass_end after) c.self.view_is
+    (record {
+      ended = pass_ended s off close c.self.inside.opening orders c.args.ceilings.now stamp c.in_ok-pass.pass
+          c.from_vec.result
           all c.in_ok-pass.ensures.pass made answered freed opened (c.from_vec.ensures ∙ c.in_ok-autos.ensures);
       present = end;
       opening = c.follow.ensures ∙ ap (λ (t : State). opening_after all t close) opened;
@@ -204,7 +216,8 @@ returns-clause-picked g c =
     let picks = c.in_ok-pass.ensures.picks in (
       picks.told,
       subst (λ (r : RunningStates). AreChosen (boarding r.present c.args.roster.now.orders c.args.ceilings.now)
-          (first.choice c.args.picker.now.1) (first.told c.args.picker.now.1) c.args.ceilings.now c.in_ok-pass.pass.falls)
+          (first.choice c.args.picker.now.1) (first.told c.args.picker.now.1) c.args.ceilings.now
+          c.in_ok-pass.pass.falls)
           c.self.view_is picks.chosen,
     )
 
@@ -225,11 +238,13 @@ returns-in_err-autos-clause-dossier g c =
 
 pub returns-in_err-ask_beside-clause-dossier : goal.returns-in_err-ask_beside-clause-dossier
 returns-in_err-ask_beside-clause-dossier g c =
-    ap (λ (t : State). t.dossier) c.in_ok-pass.ensures.state ∙ ap (λ (r : RunningStates). r.present.dossier) c.self.view_is
+    ap (λ (t : State). t.dossier) c.in_ok-pass.ensures.state
+    ∙ ap (λ (r : RunningStates). r.present.dossier) c.self.view_is
 
 pub returns-in_err-pass-clause-dossier : goal.returns-in_err-pass-clause-dossier
 returns-in_err-pass-clause-dossier g c =
-    ap (λ (t : State). t.dossier) c.in_err-pass.ensures.refused ∙ ap (λ (r : RunningStates). r.present.dossier) c.self.view_is
+    ap (λ (t : State). t.dossier) c.in_err-pass.ensures.refused
+    ∙ ap (λ (r : RunningStates). r.present.dossier) c.self.view_is
 
 pub returns-in_err-ask_beside-clause-early : goal.returns-in_err-ask_beside-clause-early
 returns-in_err-ask_beside-clause-early g c =

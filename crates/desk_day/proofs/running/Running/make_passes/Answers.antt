@@ -10,7 +10,8 @@ use Rattle.admit_core.specs.State.{State}
 use Rattle.admit_core.specs.Days.{frees_nothing}
 use Rattle.desk_day.specs.DayPasses.{schools_of_passes}
 use Rattle.desk_day.proofs.OnePass.{open_at_most}
-use Rattle.desk_day.proofs.PassesSoFar.{SoFar, so_far_none, so_far_more, so_far_end, chosen_none, chosen_more, told_more, tells_from}
+use Rattle.desk_day.proofs.PassesSoFar.{SoFar, so_far_none, so_far_more, so_far_end, chosen_none, chosen_more}
+use Rattle.desk_day.proofs.PassesSoFar.{told_more, tells_from}
 use Rattle.desk_day.proofs.running.Running.make_passes.Goals as goal
 
 pub passes-init : goal.passes-init
@@ -42,20 +43,25 @@ pub passes-preserved : goal.passes-preserved
 passes-preserved g c =
     let made = c.in_ok-end.ensures.made in
     let none = sym c.frees_nothing-is_last.ensures ∙ c.if-is_last.false in
-    let some : IsTrue (not (frees_nothing c.in_ok-end.end.freed)) = not_from_false (frees_nothing c.in_ok-end.end.freed) none in
+    let some : IsTrue (not (frees_nothing c.in_ok-end.end.freed)) =
+    not_from_false (frees_nothing c.in_ok-end.end.freed) none in
     let now = c.passes.self.present in
     let next = c.make_pass.new.self.present in
     let ends = c.push.new.self.items in
     record {
-      so_far = so_far_more c.args.roster.now.orders c.args.ceilings.now c.args.day c.passes.number c.args.self.now.present now
-          next c.passes.ends.items ends c.in_ok-end.end c.passes.invariant.so_far made.ended some made.present (made.fewer some)
+      so_far = so_far_more c.args.roster.now.orders c.args.ceilings.now c.args.day c.passes.number
+          c.args.self.now.present now
+          next c.passes.ends.items ends c.in_ok-end.end c.passes.invariant.so_far made.ended some made.present
+          (made.fewer some)
           made.marks c.make_pass.ensures.dossier c.in_ok-push.ensures.items;
       opening = made.opening ∙ ap (λ (last : Bool). if last then now else next) none;
       chosen =
-          chosen_more c.args.roster.now.orders c.args.ceilings.now c.args.day c.passes.number c.args.self.now.present _ _ _ _
+          chosen_more c.args.roster.now.orders c.args.ceilings.now c.args.day c.passes.number c.args.self.now.present _
+          _ _ _
           c.passes.ends.items ends now c.in_ok-end.end c.passes.invariant.so_far c.passes.invariant.chosen
           c.passes.invariant.told c.passes.invariant.choice c.in_ok-end.ensures.picked.1 c.in_ok-push.ensures.items;
-      told = told_more _ _ _ c.passes.ends.items ends c.in_ok-end.end c.passes.invariant.told c.in_ok-end.ensures.picked.0
+      told = told_more _ _ _ c.passes.ends.items ends c.in_ok-end.end c.passes.invariant.told
+          c.in_ok-end.ensures.picked.0
           c.in_ok-push.ensures.items;
       choice = c.make_pass.ensures.choice ∙ c.passes.invariant.choice;
     }
@@ -73,7 +79,8 @@ returns-then-is_last-clause-made g c =
     let last = sym c.frees_nothing-is_last.ensures ∙ c.if-is_last.true in
     let now = c.passes.self.present in
     let next = c.make_pass.new.self.present in
-    let all = so_far_end c.args.roster.now.orders c.args.ceilings.now c.args.day c.passes.number c.args.self.now.present now next
+    let all = so_far_end c.args.roster.now.orders c.args.ceilings.now c.args.day c.passes.number c.args.self.now.present
+    now next
     c.passes.ends.items c.push.new.self.items c.in_ok-end.end c.passes.invariant.so_far made.ended last made.present
     c.in_ok-push.ensures.items in
     record {

@@ -22,7 +22,8 @@ make_passes-requires g c = record {
 
 pub returns-in_err-lapsed-clause-undone : goal.returns-in_err-lapsed-clause-undone
 returns-in_err-lapsed-clause-undone g c =
-    not_begun _ _ _ _ c.from_residual.result c.in_err-lapsed.field-0.0 c.from_residual.ensures.1 c.in_err-lapsed.ensures.unfit
+    not_begun _ _ _ _ c.from_residual.result c.in_err-lapsed.field-0.0 c.from_residual.ensures.1
+    c.in_err-lapsed.ensures.unfit
     c.begin_day.ensures.opening refl
 
 pub returns-in_err-passes-clause-done : goal.returns-in_err-passes-clause-done
@@ -61,7 +62,8 @@ returns-clause-done g c =
     let morning = c.in_ok-lapsed.ensures.present in
     let made = c.in_ok-passes.ensures.made in
     let valid : IsValid s.dossier = subst IsValid
-    (c.behind-state.view_is ∙ c.dossier.ensures ∙ ap (λ (t : State). t.dossier) c.now-state.ensures) c.behind-state.invariant in
+    (c.behind-state.view_is ∙ c.dossier.ensures ∙ ap (λ (t : State). t.dossier) c.now-state.ensures)
+    c.behind-state.invariant in
     let called : AreCallOrders s.dossier.groups orders =
     subst (λ (d : DossierRows). AreCallOrders d.groups orders) c.requires.roster c.orders.ensures.right in
     let first = goal.Picker-dyn g c.args.picker.now in

@@ -9,4 +9,5 @@ returns-clause-few c =
     let o = c.self.inside.opening.now in
     let P : DossierRows → Type 0 = IsValid in
     let valid = subst P (c.dossier.view_is ∙ c.dossier-dossier.ensures) c.dossier.invariant in
-    rw c.order_of.ensures (few_called o.dossier c.self.inside.orders.now.orders valid c.self.invariant.called c.args.programme)
+    rw c.order_of.ensures (few_called o.dossier c.self.inside.orders.now.orders valid c.self.invariant.called
+    c.args.programme)

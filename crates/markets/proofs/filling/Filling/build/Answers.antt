@@ -1,4 +1,5 @@
-use Rattle.std.proofs.Common.{ℕ, List, [], ◌∷◌, ◌++◌, ◌≡◌, ◌<◌, ◌∙◌, sym, ap, arith, filter, length, true, false, Vec, cond, Bool}
+use Rattle.std.proofs.Common.{ℕ, List, [], ◌∷◌, ◌++◌, ◌≡◌, ◌<◌, ◌∙◌, sym, ap, arith, filter, length, true, false, Vec}
+use Rattle.std.proofs.Common.{cond, Bool}
 use Rattle.std.specs.Prelude.{slice_index}
 use Rattle.std.specs.List.{range_with_len}
 use Rattle.std.specs.declared.alloc.Global.{Global}
@@ -18,10 +19,12 @@ loop-programme-preserved c =
     let lt : k < length counts = omega (arith, c.loop-programme-test.true, c.len-programme-end.ensures) in
     let t : ℕ → Bool = is_over seats counts in
     let front : List ℕ = filter t (range_with_len 0 k) in
-    let count_is : c.index.result.now ≡ slice_index counts k = c.index.ensures ∙ get_or_default counts k c.index.result.now 0 lt in
+    let count_is : c.index.result.now ≡ slice_index counts k =
+    c.index.ensures ∙ get_or_default counts k c.index.result.now 0 lt in
     let seats_is : c.index-in-loop-programme.result.now ≡ slice_index seats k =
     c.index-in-loop-programme.ensures
-    ∙ get_or_default seats k c.index-in-loop-programme.result.now 0 (omega (arith, lt, c.in_ok-seats.ensures.len, c.requires.seats)) in
+    ∙ get_or_default seats k c.index-in-loop-programme.result.now 0
+    (omega (arith, lt, c.in_ok-seats.ensures.len, c.requires.seats)) in
     elim c.if-index.branch [
       | then-index+in_ok-push w ↦
           let passes : t k ≡ true = lt-ltb (slice_index seats k) (slice_index counts k)
@@ -54,7 +57,8 @@ invariant_of-result c =
     let end : c.loop-programme.programme ≡ length c.args.counts.items =
     omega (arith, c.loop-programme-test.false, c.loop-programme.auto.programme-end, c.len-programme-end.ensures) in
     record {
-      listed = ap (λ (q : Queue). q.items) c.from_vec-overfilled.ensures ∙ c.loop-programme.invariant.0 ∙ ap (λ n. filter test (range_with_len 0 n)) end;
+      listed = ap (λ (q : Queue). q.items) c.from_vec-overfilled.ensures ∙ c.loop-programme.invariant.0
+          ∙ ap (λ n. filter test (range_with_len 0 n)) end;
       room = omega (arith, ap (λ (q : Queue). q.room) c.from_vec-overfilled.ensures, c.len-2.ensures);
     }
 

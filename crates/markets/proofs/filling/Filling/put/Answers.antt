@@ -1,16 +1,19 @@
-use Rattle.std.proofs.Common.{◌≡◌, ℕ, ◌≤◌, ◌<◌, true, false, not, List, length, arith, sym, ◌∙◌, ap, subst, nat_lt, get_or, None, Option}
+use Rattle.std.proofs.Common.{◌≡◌, ℕ, ◌≤◌, ◌<◌, true, false, not, List, length, arith, sym, ◌∙◌, ap, subst, nat_lt}
+use Rattle.std.proofs.Common.{get_or, None, Option}
 use Rattle.std.specs.Prelude.{slice_index, is_some}
 use Rattle.std.proofs.Math.Bool.{beq}
 use Rattle.std.proofs.lemmas.Bool.{lt-ltb, le-ltb}
 use Rattle.std.proofs.lemmas.List.{get_or_default}
 use Rattle.std.specs.List.Sorted.{IsNonDecreasing}
 use Rattle.admit_core.proofs.Plain.{unlike, alike}
-use Rattle.linked_demand.proofs.Answered.{listed_rises, still_listed, room_for_one, one_listed, listed_within, one_dropped}
+use Rattle.linked_demand.proofs.Answered.{listed_rises, still_listed, room_for_one, one_listed, listed_within}
+use Rattle.linked_demand.proofs.Answered.{one_dropped}
 use Rattle.place_queue.specs.Queues.{Queue}
 use Rattle.markets.specs.Fillings.{Fill}
 use Rattle.markets.proofs.Filled.{mark, marks, some_mark, mark_at, long, as_answers, from_answers}
 use Rattle.markets.proofs.filling.Filling.put.Goals as goal
-use Rattle.markets.proofs.filling.Filling.put.Goals.{then-is_over-was_over+then-is_over, then-is_over-was_over+else-is_over, else-is_over-was_over}
+use Rattle.markets.proofs.filling.Filling.put.Goals.{then-is_over-was_over+then-is_over}
+use Rattle.markets.proofs.filling.Filling.put.Goals.{then-is_over-was_over+else-is_over, else-is_over-was_over}
 
 -- what is read of a programme, and whether it is marked before and after its count is put
 module _ (seats counts : List ℕ) {f : Fill} (same : record { seats = seats; counts = counts } ≡ f)
@@ -67,13 +70,16 @@ insert-requires-clause-room c =
     let counts = c.self.inside.counts.items in
     let places = c.self.inside.overfilled.items in
     let k : ℕ = c.args.programme in
-    let none = was_unlisted seats counts c.self.view_is k c.requires.counts c.requires.seats c.index-seats.ensures c.index.ensures
+    let none = was_unlisted seats counts c.self.view_is k c.requires.counts c.requires.seats c.index-seats.ensures
+    c.index.ensures
     c.args.count c.if-is_over-was_over.true c.if-is_over.true in
-    let m_lt = within seats counts c.self.view_is k c.requires.counts c.requires.seats c.index-seats.ensures c.index.ensures c.args.count in
+    let m_lt = within seats counts c.self.view_is k c.requires.counts c.requires.seats c.index-seats.ensures
+    c.index.ensures c.args.count in
     omega (
       arith,
       room_for_one (marks seats counts) places _ (as_answers seats counts places _ c.self.invariant) k
-          (mark (nat_lt (slice_index seats k) c.args.count)) m_lt c.as_slice.result.now c.as_slice.ensures c.first_not_below-at.result
+          (mark (nat_lt (slice_index seats k) c.args.count)) m_lt c.as_slice.result.now c.as_slice.ensures
+          c.first_not_below-at.result
           c.first_not_below-at.ensures.within c.first_not_below-at.ensures.point none,
     )
 
@@ -83,13 +89,16 @@ remove-requires c =
     let counts = c.self.inside.counts.items in
     let places = c.self.inside.overfilled.items in
     let k : ℕ = c.args.programme in
-    let some = was_listed seats counts c.self.view_is k c.requires.counts c.requires.seats c.index-seats.ensures c.index.ensures
+    let some = was_listed seats counts c.self.view_is k c.requires.counts c.requires.seats c.index-seats.ensures
+    c.index.ensures
     c.args.count c.if-is_over-was_over.true c.if-is_over.false in
-    let m_lt = within seats counts c.self.view_is k c.requires.counts c.requires.seats c.index-seats.ensures c.index.ensures c.args.count in
+    let m_lt = within seats counts c.self.view_is k c.requires.counts c.requires.seats c.index-seats.ensures
+    c.index.ensures c.args.count in
     omega (
       arith,
       listed_within (marks seats counts) places _ (as_answers seats counts places _ c.self.invariant) k
-          (mark (nat_lt (slice_index seats k) c.args.count)) m_lt c.as_slice.result.now c.as_slice.ensures c.first_not_below-at.result
+          (mark (nat_lt (slice_index seats k) c.args.count)) m_lt c.as_slice.result.now c.as_slice.ensures
+          c.first_not_below-at.result
           c.first_not_below-at.ensures.within c.first_not_below-at.ensures.point some,
       ap length c.as_slice.ensures,
     )
@@ -103,32 +112,42 @@ invariant_of-self c =
     let s : ℕ = c.index-seats.result.now in
     let v : ℕ = c.args.count in
     let x : Option ℕ = mark (nat_lt (slice_index seats k) v) in
-    let k_lt = lt seats counts c.self.view_is k c.requires.counts c.requires.seats c.index-seats.ensures c.index.ensures v in
-    let m_lt = within seats counts c.self.view_is k c.requires.counts c.requires.seats c.index-seats.ensures c.index.ensures v in
-    let is = is_marked seats counts c.self.view_is k c.requires.counts c.requires.seats c.index-seats.ensures c.index.ensures v in
+    let k_lt = lt seats counts c.self.view_is k c.requires.counts c.requires.seats c.index-seats.ensures c.index.ensures
+    v in
+    let m_lt = within seats counts c.self.view_is k c.requires.counts c.requires.seats c.index-seats.ensures
+    c.index.ensures v in
+    let is = is_marked seats counts c.self.view_is k c.requires.counts c.requires.seats c.index-seats.ensures
+    c.index.ensures v in
     elim c.if-is_over-was_over.branch [
       | then-is_over-was_over+then-is_over w ↦
-          let none = was_unlisted seats counts c.self.view_is k c.requires.counts c.requires.seats c.index-seats.ensures c.index.ensures
+          let none = was_unlisted seats counts c.self.view_is k c.requires.counts c.requires.seats c.index-seats.ensures
+          c.index.ensures
           v w.if-is_over-was_over.true w.if-is_over.true in
           rw w.self-inside-is
           (from_answers seats counts w.insert.new.self.items k v _ k_lt
-          (one_listed (marks seats counts) places _ (as_answers seats counts places _ c.self.invariant) k x m_lt w.as_slice.result.now
-          w.as_slice.ensures w.first_not_below-at.result w.first_not_below-at.ensures.within w.first_not_below-at.ensures.point none
+          (one_listed (marks seats counts) places _
+          (as_answers seats counts places _ c.self.invariant) k x m_lt w.as_slice.result.now
+          w.as_slice.ensures w.first_not_below-at.result w.first_not_below-at.ensures.within
+          w.first_not_below-at.ensures.point none
           (is ∙ lt-ltb s v w.if-is_over.true) w.insert.new.self.items _ (ap (λ (q : Queue). q.items) w.insert.ensures)
           (omega (arith, ap (λ (q : Queue). q.room) w.insert.ensures))))
       | then-is_over-was_over+else-is_over w ↦
-          let some = was_listed seats counts c.self.view_is k c.requires.counts c.requires.seats c.index-seats.ensures c.index.ensures
+          let some = was_listed seats counts c.self.view_is k c.requires.counts c.requires.seats c.index-seats.ensures
+          c.index.ensures
           v w.if-is_over-was_over.true w.if-is_over.false in
           rw w.self-inside-is
           (from_answers seats counts w.remove.new.self.items k v _ k_lt
-          (one_dropped (marks seats counts) places _ (as_answers seats counts places _ c.self.invariant) k x m_lt w.as_slice.result.now
-          w.as_slice.ensures w.first_not_below-at.result w.first_not_below-at.ensures.within w.first_not_below-at.ensures.point some
+          (one_dropped (marks seats counts) places _
+          (as_answers seats counts places _ c.self.invariant) k x m_lt w.as_slice.result.now
+          w.as_slice.ensures w.first_not_below-at.result w.first_not_below-at.ensures.within
+          w.first_not_below-at.ensures.point some
           (is ∙ le-ltb s v w.if-is_over.false) w.remove.new.self.items _ (ap (λ (q : Queue). q.items) w.remove.ensures)
           (omega (arith, ap (λ (q : Queue). q.room) w.remove.ensures))))
       | else-is_over-was_over w ↦
           rw w.self-inside-is
           (from_answers seats counts places k v _ k_lt
           (still_listed (marks seats counts) places _ (as_answers seats counts places _ c.self.invariant) k x m_lt
-          (still_marked seats counts c.self.view_is k c.requires.counts c.requires.seats c.index-seats.ensures c.index.ensures
+          (still_marked seats counts c.self.view_is k c.requires.counts c.requires.seats c.index-seats.ensures
+          c.index.ensures
           v w.if-is_over-was_over.false)))
     ]

@@ -10,7 +10,8 @@ returns-clause-within c =
     let small = subst P c.self.view_is c.self.invariant in
     let m : MarketRows = c.args.self.now in
     let Q : List ℕ → Type 0 = All (λ p. p < length m.orders) in
-    let read = read_list _ m c.args.candidate c.index.result.now c.as_slice.result.now c.self.view_is c.requires c.index.ensures
+    let read = read_list _ m c.args.candidate c.index.result.now c.as_slice.result.now c.self.view_is c.requires
+    c.index.ensures
     c.as_slice.ensures in
     subst Q (sym read) (list_within m small.valid c.args.candidate c.requires)
 
@@ -19,6 +20,7 @@ returns-clause-short_list c =
     let P : MarketRows → Type 0 = IsSmallMarket in
     let small = subst P c.self.view_is c.self.invariant in
     let m : MarketRows = c.args.self.now in
-    let read = read_list _ m c.args.candidate c.index.result.now c.as_slice.result.now c.self.view_is c.requires c.index.ensures
+    let read = read_list _ m c.args.candidate c.index.result.now c.as_slice.result.now c.self.view_is c.requires
+    c.index.ensures
     c.as_slice.ensures in
     omega (arith, ap length read, list_short m small.valid c.args.candidate c.requires, small.small.programmes)

@@ -18,9 +18,11 @@ returns-in-Some-2-clause-fault c =
     let long : length orders ≡ length c.args.orders.items = length-map c.args.orders.items (λ v. v.items) in (
       omega (arith, long, c.if-len.false, c.len.ensures, c.len-2.ensures),
       bad_list_is None c.len-programmes.result lists c.deref.result.now orders c.args.seats.items
-          (c.len-programmes.ensures ∙ sym c.deref-3.ensures.len ∙ ap length (c.deref-3.ensures.value ∙ c.in_ok-orders.ensures))
+          (c.len-programmes.ensures ∙ sym c.deref-3.ensures.len
+          ∙ ap length (c.deref-3.ensures.value ∙ c.in_ok-orders.ensures))
           (c.deref.ensures.value ∙ c.in_ok-lists.ensures) (sym c.in_ok-candidate.ensures.bad ∙ c.in_default.is),
-      bad_order_is (Some c.in-Some-2.programme) lists c.deref-2.result.now orders c.deref-3.result.now c.args.seats.items
+      bad_order_is (Some c.in-Some-2.programme) lists c.deref-2.result.now orders c.deref-3.result.now
+          c.args.seats.items
           (c.deref-2.ensures.value ∙ c.in_ok-lists.ensures)
           (c.deref-3.ensures.value ∙ c.in_ok-orders.ensures) (sym c.in_ok-programme.ensures.bad ∙ c.in-Some-2.is),
     )
@@ -53,9 +55,11 @@ invariant_of-result c =
           market_stands (record { lists = lists; orders = orders; seats = c.args.seats.items })
           (omega (arith, long, c.if-len.false, c.len.ensures, c.len-2.ensures))
           (bad_list_is None c.len-programmes.result lists c.deref.result.now orders c.args.seats.items
-          (c.len-programmes.ensures ∙ sym c.deref-3.ensures.len ∙ ap length c.deref-3.ensures.value) c.deref.ensures.value
+          (c.len-programmes.ensures ∙ sym c.deref-3.ensures.len ∙ ap length c.deref-3.ensures.value)
+          c.deref.ensures.value
           (sym c.in_ok-candidate.ensures.bad ∙ c.in_default.is))
-          (bad_order_is None lists c.deref-2.result.now orders c.deref-3.result.now c.args.seats.items c.deref-2.ensures.value
+          (bad_order_is None lists c.deref-2.result.now orders c.deref-3.result.now c.args.seats.items
+          c.deref-2.ensures.value
           c.deref-3.ensures.value
           (sym c.in_ok-programme.ensures.bad ∙ c.in_default-2.is));
       small = record {
@@ -72,17 +76,20 @@ overflow_cast-programmes c =
 
 pub first_bad_list-requires : goal.first_bad_list-requires
 first_bad_list-requires c =
-    let long = ap length (c.deref.ensures.value ∙ c.in_ok-lists.ensures) ∙ length-map c.args.lists.items (λ v. v.items) in
+    let long = ap length (c.deref.ensures.value ∙ c.in_ok-lists.ensures)
+    ∙ length-map c.args.lists.items (λ v. v.items) in
     omega (arith, long, c.requires.candidates)
 
 pub first_bad_order-requires-clause-candidates : goal.first_bad_order-requires-clause-candidates
 first_bad_order-requires-clause-candidates c =
-    let long = ap length (c.deref-2.ensures.value ∙ c.in_ok-lists.ensures) ∙ length-map c.args.lists.items (λ v. v.items) in
+    let long = ap length (c.deref-2.ensures.value ∙ c.in_ok-lists.ensures)
+    ∙ length-map c.args.lists.items (λ v. v.items) in
     omega (arith, long, c.requires.candidates)
 
 pub first_bad_order-requires-clause-programmes : goal.first_bad_order-requires-clause-programmes
 first_bad_order-requires-clause-programmes c =
-    let long = ap length (c.deref-3.ensures.value ∙ c.in_ok-orders.ensures) ∙ length-map c.args.orders.items (λ v. v.items) in
+    let long = ap length (c.deref-3.ensures.value ∙ c.in_ok-orders.ensures)
+    ∙ length-map c.args.orders.items (λ v. v.items) in
     omega (arith, long, c.requires.programmes)
 
 pub returns-in-Some-clause-fault : goal.returns-in-Some-clause-fault
@@ -92,7 +99,8 @@ returns-in-Some-clause-fault c =
     let count : c.len-programmes.result ≡ length rows.orders =
     omega (arith, c.len-programmes.ensures, ap length c.in_ok-orders.ensures) in (
       omega (arith, long, c.if-len.false, c.len.ensures, c.len-2.ensures),
-      bad_list_is (Some c.in-Some.candidate) c.len-programmes.result rows.lists c.deref.result.now rows.orders rows.seats count
+      bad_list_is (Some c.in-Some.candidate) c.len-programmes.result rows.lists c.deref.result.now rows.orders
+          rows.seats count
           (c.deref.ensures.value ∙ c.in_ok-lists.ensures) (sym c.in_ok-candidate.ensures.bad ∙ c.in-Some.is),
     )
 
@@ -105,5 +113,9 @@ pub returns-clause-rows : goal.returns-clause-rows
 returns-clause-rows c =
     ap (λ (ls : List (List ℕ)). record { lists = ls; orders = c.in_ok-orders.orders.items; seats = c.args.seats.items })
     c.in_ok-lists.ensures
-    ∙ ap (λ (os : List (List ℕ)). record { lists = map (λ v. v.items) c.args.lists.items; orders = os; seats = c.args.seats.items })
+    ∙ ap (λ (os : List (List ℕ)). record {
+      lists = map (λ v. v.items) c.args.lists.items;
+      orders = os;
+      seats = c.args.seats.items;
+    })
     c.in_ok-orders.ensures

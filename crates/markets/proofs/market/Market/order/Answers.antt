@@ -10,7 +10,8 @@ returns-clause-within c =
     let small = subst P c.self.view_is c.self.invariant in
     let m : MarketRows = c.args.self.now in
     let Q : List ℕ → Type 0 = All (λ x. x < length m.lists) in
-    let read = read_order _ m c.args.programme c.index.result.now c.as_slice.result.now c.self.view_is c.requires c.index.ensures
+    let read = read_order _ m c.args.programme c.index.result.now c.as_slice.result.now c.self.view_is c.requires
+    c.index.ensures
     c.as_slice.ensures in
     subst Q (sym read) (order_within m small.valid c.args.programme c.requires)
 
@@ -19,6 +20,7 @@ returns-clause-short c =
     let P : MarketRows → Type 0 = IsSmallMarket in
     let small = subst P c.self.view_is c.self.invariant in
     let m : MarketRows = c.args.self.now in
-    let read = read_order _ m c.args.programme c.index.result.now c.as_slice.result.now c.self.view_is c.requires c.index.ensures
+    let read = read_order _ m c.args.programme c.index.result.now c.as_slice.result.now c.self.view_is c.requires
+    c.index.ensures
     c.as_slice.ensures in
     omega (arith, ap length read, order_short m small.valid c.args.programme c.requires, small.small.candidates)

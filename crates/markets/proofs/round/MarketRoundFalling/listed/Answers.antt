@@ -5,4 +5,5 @@ use Rattle.markets.proofs.round.MarketRoundFalling.listed.Goals as goal
 pub returns : goal.returns
 returns c =
     let r = c.args.self.now in
-    c.listed.ensures ∙ overfilled_are r.market r.bars.items r.seating.stands.items r.seating.places.items r.seating.filling r.round
+    c.listed.ensures ∙ overfilled_are r.market r.bars.items r.seating.stands.items r.seating.places.items
+    r.seating.filling r.round

@@ -18,12 +18,14 @@ returns-clause-names c =
     let bar_is : c.index.result.now ≡ slice_index bars i = c.index.ensures
     ∙ get_or_default bars i c.index.result.now 0 (omega (arith, i_lt, r.round.seated.one_bar_each)) in
     let asked : filter (λ (h : ℕ). nat_le h c.args.upto) (demanded r.market bars i) ≡ held_to r.market places i e =
-    demanded_upto r.market r.round.valid bars r.seating.stands.items places r.seating.filling r.round i i_lt c.args.upto e
+    demanded_upto r.market r.round.valid bars r.seating.stands.items places r.seating.filling r.round i i_lt c.args.upto
+    e
     c.least-end.ensures.within (omega (arith, bar_is, c.least-end.ensures.low))
     (λ h past le. omega (arith, bar_is, c.least-end.ensures.past h past le)) in
     let P : List ℕ → Type 0 = λ ks. IfOk c.names_within.result (λ v. v.items ≡ ks) in
     subst P (
-    ap (λ (ps : List (Option ℕ)). map (candidate_at c.market.result.now i) (held_to c.market.result.now ps i e)) c.deref.ensures.value
+    ap (λ (ps : List (Option ℕ)). map (candidate_at c.market.result.now i) (held_to c.market.result.now ps i e))
+    c.deref.ensures.value
     ∙ ap (λ (m : MarketRows). map (candidate_at m i) (held_to m places i e)) c.market.ensures
     ∙ ap (map (candidate_at r.market i)) (sym asked)
     )

@@ -30,7 +30,8 @@ returns-clause-over c =
     let bar_is : c.index-bar.result.now ≡ slice_index bars i = c.index-bar.ensures
     ∙ get_or_default bars i c.index-bar.result.now 0 (omega (arith, i_lt, r.round.seated.one_bar_each)) in
     c.first_over.ensures
-    ∙ ap (λ (m : MarketRows). slice_get (held_to m places i c.index-bar.result.now) (slice_index r.seating.filling.seats i))
+    ∙ ap (λ (m : MarketRows). slice_get (held_to m places i c.index-bar.result.now)
+    (slice_index r.seating.filling.seats i))
     c.market.ensures
     ∙ ap (λ (b : ℕ). slice_get (held_to r.market places i b) (slice_index r.seating.filling.seats i)) bar_is
     ∙ ap (λ (xs : List ℕ). slice_get xs (slice_index r.seating.filling.seats i))

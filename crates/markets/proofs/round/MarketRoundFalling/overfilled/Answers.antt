@@ -7,7 +7,8 @@ pub returns-clause-places : goal.returns-clause-places
 returns-clause-places c =
     let r = c.args.self.now in
     let P : List ℕ → Type 0 = λ ks. IfOk c.overfilled.result (λ v. v.items ≡ ks) in
-    subst P (overfilled_are r.market r.bars.items r.seating.stands.items r.seating.places.items r.seating.filling r.round)
+    subst P (overfilled_are r.market r.bars.items r.seating.stands.items r.seating.places.items r.seating.filling
+    r.round)
     c.overfilled.ensures.places
 
 pub returns-clause-always : goal.returns-clause-always
@@ -15,4 +16,5 @@ returns-clause-always c =
     let r = c.args.self.now in
     λ none.
     c.overfilled.ensures.always
-    (overfilled_are r.market r.bars.items r.seating.stands.items r.seating.places.items r.seating.filling r.round ∙ none)
+    (overfilled_are r.market r.bars.items r.seating.stands.items r.seating.places.items r.seating.filling r.round
+    ∙ none)
