@@ -32,6 +32,7 @@ BAD_WORDS = (
     ("measure.sh", "fly"), ("measure.sh", "--runs", "0"), ("measure.sh", "--candidates", "1000"),
     ("check_pages.sh", "README.md"), ("check_pages.sh", "--link"), ("edit_clauses", "--tried"),
     ("edit_clauses", "none"), ("same_lemmas.py", "--what"), ("laws_without_witness.py", "--lists"),
+    ("break_lines.py", "none"),
 )
 
 
@@ -54,7 +55,8 @@ def check_help(tally: Tally) -> None:
     tally.begin("help and versions of all tools")
     tools = [path for path in sorted(TOOLS.iterdir())
              if path.is_file() and os.access(path, os.X_OK) and path.suffix != ".py"]
-    tools += [TOOLS / name for name in ("prove.py", "same_lemmas.py", "laws_without_witness.py")]
+    tools += [TOOLS / name for name in ("prove.py", "same_lemmas.py", "laws_without_witness.py",
+                                   "break_lines.py")]
     tally.check("there are many", len(tools) > 10, tools)
     for tool in tools:
         with scratch() as folder:
