@@ -57,7 +57,7 @@ fn morning_after(
         end,
     } = played;
     let Ok(desk) = end else { unreachable!() };
-    let evening = desk.into_now();
+    let evening = desk.into_now(alloc)?;
     slot_reply(alloc, slot, &evening, day, dated)
 }
 

@@ -8,8 +8,8 @@ use Rattle.morning_cli.proofs.answer.morning_after.Goals as goal
 
 pub returns : goal.returns
 returns c = λ t desk is same none.
-    let here : c.into_now-evening.result ≡ desk.present =
-    c.into_now-evening.ensures
+    let here : c.in_ok-evening.evening ≡ desk.present =
+    c.in_ok-evening.ensures
     ∙ ap (λ (x : DeskStates). x.present) (same_desk c.args.played.end c.in-Ok.desk desk c.in-Ok.is is) in
     subst (λ (s : State). IfOk c.slot_reply.result (λ reply. IsDoneWith
     (morning_text c.args.slot t s c.args.day (option_copied c.args.dated)) reply.exit reply.text.items)) here
