@@ -14,7 +14,6 @@ import hashlib
 import os
 import re
 import shutil
-import tempfile
 from collections.abc import Iterator
 from contextlib import contextmanager
 from dataclasses import dataclass
@@ -24,7 +23,7 @@ from . import program
 from .dating import Calendar, next_answers, next_ceilings
 from .faults import shown
 from .slots import SLOTS
-from .writing import open_mode, replace_file, settle, write_file
+from .writing import fresh_folder, replace_file, settle, write_file
 
 CALENDAR = "campaign.csv"
 CHANGING = ("state.csv", "answers.csv", "ceilings.csv")
@@ -254,9 +253,7 @@ def next_day(folder: Path, asked: Calendar) -> str:
 
 def make_record(folder: Path, files: Files, calendar: Calendar, kept: Path) -> Record:
     """Runs the day, and puts its record in its place."""
-    staging = Path(tempfile.mkdtemp(prefix=STAGING, dir=kept.parent))
-    try:
-        staging.chmod(open_mode())
+    with fresh_folder(STAGING, kept.parent) as staging:
         sums = checksums(folder)
         report = run_day(folder, calendar, staging / "report.txt")
         if (read_files(folder), checksums(folder)) != (files, sums):
@@ -267,5 +264,3 @@ def make_record(folder: Path, files: Files, calendar: Calendar, kept: Path) -> R
         os.rename(staging, kept)
         settle(kept.parent)
         return record
-    finally:
-        shutil.rmtree(staging, ignore_errors=True)

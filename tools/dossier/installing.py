@@ -4,13 +4,12 @@ import os
 import shutil
 import subprocess
 import sys
-import tempfile
 from collections.abc import Iterator
 from pathlib import Path
 
 from . import program
 from .wording import Words
-from .writing import Told, is_folder, named_folder, open_mode, say, stop_cleanly
+from .writing import Told, fresh_folder, is_folder, named_folder, say, stop_cleanly
 
 DONE, NOT_THERE, NOT_WRITTEN = 0, 3, 4
 TOP = Path(__file__).resolve().parents[2]
@@ -115,16 +114,11 @@ def install(prefix: Path) -> str:
     home = prefix / OWN
     made = made_folders(prefix) | missing_folders(prefix)
     home.parent.mkdir(parents=True, exist_ok=True)
-    fresh = Path(tempfile.mkdtemp(prefix=".torchpoppy.", dir=home.parent))
-    try:
-        fresh.chmod(open_mode())
+    with fresh_folder(".torchpoppy.", home.parent) as fresh:
         fill(fresh)
         (fresh / FOLDERS).write_text("".join(f"{folder}\n" for folder in sorted(made)), errors="surrogateescape")
         take_away(prefix)
         os.rename(fresh, home)
-    except BaseException:
-        shutil.rmtree(fresh, ignore_errors=True)
-        raise
     for link, target in links().items():
         path = prefix / link
         path.parent.mkdir(parents=True, exist_ok=True)

@@ -8,7 +8,8 @@ import shutil
 import signal
 import sys
 import tempfile
-from collections.abc import Iterable, Mapping
+from collections.abc import Iterable, Iterator, Mapping
+from contextlib import contextmanager
 from pathlib import Path
 from types import FrameType
 
@@ -61,12 +62,32 @@ def replace_file(path: Path, data: bytes) -> None:
     settle(path.parent)
 
 
+STOPS = (signal.SIGINT, signal.SIGTERM, signal.SIGHUP)
+
+
+@contextmanager
+def fresh_folder(prefix: str, place: Path) -> Iterator[Path]:
+    """A new folder, which is taken away where what is done with it ends early. A signal to stop that comes while it is
+    made waits until it would be taken away."""
+    held = signal.pthread_sigmask(signal.SIG_BLOCK, STOPS)
+    try:
+        fresh = Path(tempfile.mkdtemp(prefix=prefix, dir=place))
+    except BaseException:
+        signal.pthread_sigmask(signal.SIG_SETMASK, held)
+        raise
+    try:
+        signal.pthread_sigmask(signal.SIG_SETMASK, held)
+        fresh.chmod(open_mode())
+        yield fresh
+    except BaseException:
+        shutil.rmtree(fresh, ignore_errors=True)
+        raise
+
+
 def write_folder(folder: Path, files: Mapping[str, bytes | Iterable[bytes]], is_kept: bool = True) -> None:
     """Makes a folder with these files; it appears when all of them are whole. What can be made anew need not outlast a
     power cut."""
-    fresh = Path(tempfile.mkdtemp(prefix=f".{folder.name}.", dir=folder.parent))
-    try:
-        fresh.chmod(open_mode())
+    with fresh_folder(f".{folder.name}.", folder.parent) as fresh:
         for name, data in files.items():
             if is_kept:
                 write_file(fresh / name, data)
@@ -74,9 +95,6 @@ def write_folder(folder: Path, files: Mapping[str, bytes | Iterable[bytes]], is_
                 write_file(fresh / name, data, is_kept)
         settle(fresh)
         os.rename(fresh, folder)
-    except BaseException:
-        shutil.rmtree(fresh, ignore_errors=True)
-        raise
     settle(folder.parent)
 
 
@@ -93,9 +111,6 @@ def is_folder(path: Path) -> bool:
         return path.is_dir()
     except OSError:
         return False
-
-
-STOPS = (signal.SIGINT, signal.SIGTERM, signal.SIGHUP)
 
 
 def stop_no_more() -> None:
