@@ -319,6 +319,10 @@ def check_changed_sources(tally: Tally, script: Path) -> None:
     tally.equal("a source with an old time", (call(script).status, (script.parent / "built").read_text().split()),
                 (0, ["built"] * 3))
     (script.parent / "crates/parcours/src/main.rt").write_text("fn main() {  }\n")
+    for words, sentence in ((("replay", "--day", "2"), "bad words"), (("replay",), "cannot be read")):
+        ended = call(script, *words)
+        is_told = sentence in ended.complaint and "not built" in ended.complaint
+        tally.check(f"{words}: nothing is built for it", ended.status == 125 and is_told and not ended.output, ended)
     (script.parent / "stand_in").unlink()
     ended = call(script)
     tally.check("a program that cannot be built", ended.status == 125 and "not built" in ended.complaint, ended)
