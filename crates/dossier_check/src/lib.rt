@@ -14,6 +14,7 @@ mod index;
 mod items;
 mod made;
 mod noted;
+mod placed;
 mod preferred;
 mod ranks;
 mod relations;
