@@ -12,6 +12,7 @@ mod groups;
 mod hashing;
 mod index;
 mod items;
+mod known;
 mod made;
 mod noted;
 mod placed;
