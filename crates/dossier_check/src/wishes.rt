@@ -45,7 +45,7 @@ impl<'a> RowTest<WishRow> for Unranked<'a> {
     ghost has_seen = { λ c before. (c.programmes.now.keys ≡ programme_ids c.tables.now)
         × SaysWhoIsRanked c.tables.now c.ranked };
 
-    ghost takes_memory = { λ c. ⊥ };
+    ghost takes_memory = { ⊥ };
 
     fn stands(&mut self, row: &WishRow, _number: u64) -> Result<Option<Reason>, OutOfMemory> {
         let programmes = self.tables.programmes.as_slice();
@@ -80,7 +80,7 @@ impl<'a> RowTest<WishRow> for NoBoardingRank<'a> {
 
     ghost has_seen = { λ c before. c.boarded.now.keys ≡ boarded_pairs c.tables.now };
 
-    ghost takes_memory = { λ c. ⊥ };
+    ghost takes_memory = { ⊥ };
 
     fn stands(&mut self, row: &WishRow, _number: u64) -> Result<Option<Reason>, OutOfMemory> {
         if let Some(school) = row.school {
@@ -171,7 +171,7 @@ impl RowTest<WishRow> for PreferenceMixed {
     ghost has_seen = { λ c before. AreFirstWishes (get nat_eq c.firsts) before
         × IsLastCandidate (get nat_eq c.firsts) c.last };
 
-    ghost takes_memory = { λ c. Unit {0} };
+    ghost takes_memory = { Unit {0} };
 
     fn stands(&mut self, row: &WishRow, number: u64) -> Result<Option<Reason>, OutOfMemory> {
         let own = FirstWish {
@@ -209,7 +209,7 @@ impl RowTest<WishRow> for PreferenceTaken {
 
     ghost has_seen = { λ c before. AreFirstRows has_preference (get pair_eq c.rows) before };
 
-    ghost takes_memory = { λ c. Unit {0} };
+    ghost takes_memory = { Unit {0} };
 
     fn stands(&mut self, row: &WishRow, number: u64) -> Result<Option<Reason>, OutOfMemory> {
         if row.preference == 0 {
