@@ -33,7 +33,7 @@ has_better s w =
 abbrev pub behind : State → List CallOrder → Wish → List ℕ
 behind s orders w = drop (position_of s orders w) (order_of s.dossier orders w.programme)
 
--- those of them who are live in the programme: the candidate envies them with right
+-- those of them who are live in the programme: the candidate rightly envies them
 abbrev pub envied : State → List CallOrder → Wish → List ℕ
 envied s orders w = filter (λ c. holds_seat s c w.programme) (behind s orders w)
 

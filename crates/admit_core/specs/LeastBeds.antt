@@ -8,7 +8,7 @@ use Rattle.admit_core.specs.State.{State}
 use Rattle.admit_core.specs.Falls.{IsGreatest}
 use Rattle.admit_core.specs.Boarding.{boarding}
 
--- the schools, of which the one at a place has n beds
+-- the schools, with n beds in the one at a place
 abbrev pub schools_with : List School → ℕ → ℕ → List School
 schools_with schools h n =
     map (λ x. if x.0 == h then record x.1 { beds = n } else x.1) (enumerate_from 0 schools)

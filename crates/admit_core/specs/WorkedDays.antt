@@ -30,7 +30,7 @@ use Rattle.admit_core.specs.WorkedRows.{two_offers, two_orders, realistic, reali
 abbrev pub fall : ℕ → ℕ → ℕ → List ℕ → Fall
 fall h from to wishes = record { school = h; from = from; to = to; wishes = wishes }
 
--- a pass whose automatic answers change nothing, and one whose do
+-- a pass whose automatic answers change nothing, and one whose answers change something
 abbrev pub quiet : List ℕ → List Fall → List ℕ → PassEnd
 quiet bars falls offers = record {
   pass = record { bars = bars; falls = falls; offers = offers };

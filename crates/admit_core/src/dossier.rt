@@ -58,7 +58,7 @@ pub struct Wish {
     pub preference: u32,
 }
 
-/// What a candidate answers to an offer, of a waiting wish, or of all their wishes.
+/// What a candidate answers to an offer, about a waiting wish, or about all their wishes.
 #[derive(Clone, Copy, Debug, PartialEq, Eq)]
 pub enum AnswerKind {
     Accept,
@@ -95,7 +95,7 @@ pub struct Dossier {
     pub answers: Sequence<Answer>,
 }
 
-// Not derived: so a dossier is dropped in one step where it is held, and not by each slot.
+// Not derived, so that a dossier is dropped in one step where it is held, and not slot by slot.
 impl Drop for Dossier {
     fn drop(self) {
         let Dossier {

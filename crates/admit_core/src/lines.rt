@@ -28,7 +28,7 @@ impl fmt::Display for Slot {
 }
 
 impl Status {
-    /// A text with the word pushed is made in half the time of one that prints the status.
+    /// Pushing the word makes a text in half the time that printing the status takes.
     pub fn word(self) -> &'static str
         ensures { result.now ≡ status_word self }
     {

@@ -40,7 +40,7 @@ pub struct Stamp {
     pub pass: u32,
 }
 
-/// A wish's status, and since when it has it.
+/// A wish's status, and since when it has had it.
 #[derive(Clone, Copy, PartialEq, Eq)]
 pub struct Mark {
     pub status: Status,

@@ -65,7 +65,7 @@ pub struct Since {
     pub day: u32,
 }
 
-/// The status that a wish comes in with, and since when.
+/// The status that a wish comes in with, and since when it has had it.
 #[derive(Clone, Copy, Debug)]
 pub struct StateRow {
     pub wish: u32,
@@ -102,7 +102,7 @@ pub struct Tables {
     pub answers: Sequence<AnswerRow>,
 }
 
-// Not derived: so tables are dropped in one step where they are held, and not by each slot.
+// Not derived, so that tables are dropped in one step where they are held, and not slot by slot.
 impl Drop for Tables {
     fn drop(self) {
         let Tables {

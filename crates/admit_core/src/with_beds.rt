@@ -33,7 +33,7 @@ fn copies_of(alloc: Global, groups: &[RankGroup]) -> Result<Vec<RankGroup>, OutO
     Ok(copies)
 }
 
-/// These schools, of which the one at this place has so many beds.
+/// These schools, with so many beds in the one at this place.
 fn with_beds_at(
     alloc: Global,
     schools: &[School],

@@ -18,7 +18,7 @@ pub fn auto_one(state: &mut DayState<'_>, candidate: u32, stamp: Stamp) -> Freed
 /// Answers for all candidates who rank their wishes.
 ///
 /// It looks at each wish once, and asks a candidate at most twice: at the first of their live
-/// wishes, and again at the one that they keep. Who has no live wish is not asked.
+/// wishes, and again at the one that they keep. One without a live wish is not asked.
 pub fn auto_all(state: &mut DayState<'_>, stamp: Stamp) -> Freed
     ensures state { state.new ≡ auto_all state.old stamp }
     ensures freed { result ≡ freed state.old state.new }
@@ -37,8 +37,8 @@ pub fn auto_all(state: &mut DayState<'_>, stamp: Stamp) -> Freed
 
 /// Answers for the candidates of these wishes, where all others have been answered for.
 ///
-/// Whoever has several wishes among them is answered for as often, which changes nothing after the
-/// first time.
+/// A candidate with several wishes among them is answered for once for each, which changes nothing
+/// after the first time.
 pub fn auto_some(state: &mut DayState<'_>, places: &[u32], stamp: Stamp) -> Freed
     requires within { All (λ place. place < length state.old.dossier.wishes) places.now }
     requires others { AreAnsweredBut places.now state.old stamp }

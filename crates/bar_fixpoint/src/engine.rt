@@ -49,8 +49,8 @@ pub fn greatest<F: Falling, L: Ledger>(
     Ok(falls)
 }
 
-/// Lowers bars as [`greatest`] does, for whom the bars are enough: no fall is kept and nobody is
-/// named, so it takes no memory for them.
+/// Lowers bars as [`greatest`] does, for callers who need the bars alone: it keeps no fall and
+/// names nobody, so it takes no memory for them.
 pub fn settle<F: Falling, L: Ledger>(
     alloc: Global,
     system: &mut F,
@@ -75,7 +75,7 @@ pub fn settle<F: Falling, L: Ledger>(
     Ok(())
 }
 
-/// The bar of the picked place falls, and that place is answered; none where no place is
+/// Lowers the bar of the picked place, and answers that place; `None` where no place is
 /// overfilled.
 fn sink_once<F: Falling, L: Ledger>(
     alloc: Global,
@@ -108,7 +108,7 @@ fn sink_once<F: Falling, L: Ledger>(
     }
 }
 
-/// The place that the picker chooses from all overfilled ones; none where there is none.
+/// The place that the picker chooses from all overfilled ones; `None` where no place is overfilled.
 fn picked<F: Falling>(
     alloc: Global,
     system: &F,
@@ -130,7 +130,7 @@ fn picked<F: Falling>(
     pick_any(places.as_slice(), picker)
 }
 
-/// The place that the picker chooses from these; none where there is none.
+/// The place that the picker chooses from these; `None` where there are none.
 fn pick_any(places: &[u32], picker: &mut dyn Picker) -> Result<Option<u32>, OutOfMemory>
     ensures member { IfOk result (λ place. IfSome place (Contains places.now)) }
     ensures chosen { IfOk result (λ place.
@@ -150,7 +150,7 @@ fn pick_any(places: &[u32], picker: &mut dyn Picker) -> Result<Option<u32>, OutO
     Ok(Some(place))
 }
 
-/// The bar of the picked place falls; none where no place is overfilled.
+/// Lowers the bar of the picked place, and answers the fall; `None` where no place is overfilled.
 fn fall_once<F: Falling, L: Ledger>(
     alloc: Global,
     system: &mut F,
@@ -181,7 +181,7 @@ fn fall_once<F: Falling, L: Ledger>(
     }
 }
 
-/// The bar of an overfilled place falls below its first rank that has no bed.
+/// Lowers the bar of an overfilled place below its first rank that has no bed.
 fn make_fall<F: Falling, L: Ledger>(
     alloc: Global,
     system: &mut F,
@@ -213,7 +213,7 @@ fn make_fall<F: Falling, L: Ledger>(
     }
 }
 
-/// The same, and nobody is named.
+/// The same, but names nobody.
 fn lower_over<F: Falling, L: Ledger>(
     alloc: Global,
     system: &mut F,

@@ -49,7 +49,7 @@ pub trait Falling {
         Ok(places)
     }
 
-    /// The same, lent by a system that keeps the list; none where it keeps none.
+    /// The same, lent by a system that keeps the list; `None` from one that keeps none.
     fn listed(&self) -> Option<&[u32]>
         ensures { IfSome result (λ places.
             places.now ≡ all_overfilled (system self.now) (bars self.now)) }

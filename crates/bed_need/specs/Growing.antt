@@ -7,11 +7,11 @@ use Rattle.admit_core.specs.Falls.{FallingSystem, IsAtMost, IsGreatest}
 use Rattle.admit_core.specs.LeastBeds.{with_beds}
 use Rattle.admit_core.specs.State.{State}
 
--- the schools of a state, of which the one at a place has n beds
+-- the schools of a state, with n beds in the one at a place
 abbrev pub with_n_beds : State → List CallOrder → List ℕ → ℕ → ℕ → FallingSystem
 with_n_beds s orders ceilings school n = boarding (with_beds s school n) orders ceilings
 
--- the schools, of which the one at a place has more beds
+-- the schools, with more beds in the one at a place
 abbrev pub with_more_beds : State → List CallOrder → List ℕ → ℕ → ℕ → FallingSystem
 with_more_beds s orders ceilings school more =
     with_n_beds s orders ceilings school (beds_of s.dossier school + more)

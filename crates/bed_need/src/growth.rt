@@ -135,7 +135,7 @@ fn beds_of(dossier: &Dossier, school: u32) -> u32
 
 impl BedQuestions<'_, '_> {
     /// The greatest bars under the low ceilings with the present beds, and those under the high
-    /// ones with more beds in one school: no bar of these is below its bar of those.
+    /// ones with more beds in one school: no bar of the latter is below that of the former.
     pub fn grown_bars(
         &self,
         alloc: Global,

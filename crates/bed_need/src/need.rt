@@ -18,7 +18,7 @@ use day_state::DayState;
 use linked_demand::Lineup;
 use std::alloc::Global;
 
-/// The stamp of offers that nobody is made.
+/// The stamp of offers that are made to nobody.
 const NO_STAMP: Stamp = Stamp { day: 0, pass: 0 };
 
 /// The beds that a school needs, by how many live there before a pass and after it: none where
@@ -29,8 +29,8 @@ fn need_of(before: u32, after: u32) -> u32
     if before == after { 0 } else { after }
 }
 
-/// The beds that a school needs, of a state in which it has enough, along a lineup of its dossier.
-/// The offers are made in it.
+/// The beds that a school needs, by a state in which it has enough, along a lineup of its dossier.
+/// The offers are made in that state.
 fn need_in(
     alloc: Global,
     roomy: &mut DayState<'_>,

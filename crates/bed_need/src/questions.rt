@@ -8,15 +8,15 @@ use linked_demand::Lineup;
 use std::alloc::Global;
 use std::marker::Model;
 
-/// A state and its call orders, of which several questions of beds are asked, with their lineup: it
-/// depends on no bed, so it is made once, and serves dossiers with other beds too.
+/// A state and its call orders, about which several questions of beds are asked, and their lineup,
+/// which depends on no bed: it is made once, and serves dossiers with other beds too.
 pub struct BedQuestions<'a, 'd> {
     pub(crate) state: &'a DayState<'d>,
     pub(crate) orders: &'a CallOrders,
     pub(crate) lineup: Lineup,
 }
 
-// Not derived: so questions are dropped in one step where they are held, and not part by part.
+// Not derived, so that questions are dropped in one step where they are held, not part by part.
 impl Drop for BedQuestions<'_, '_> {
     fn drop(self) {
         let BedQuestions {
@@ -58,7 +58,7 @@ impl<'a, 'd> BedQuestions<'a, 'd> {
         })
     }
 
-    /// The state that is asked.
+    /// The state that is asked about.
     pub(crate) fn state(&self) -> &'a DayState<'d>
         ensures { result.now ≡ self.now.state }
     {

@@ -1,4 +1,4 @@
-//! The greatest bars of a state, of which nobody asks by which falls they were found.
+//! The greatest bars of a state, where nobody asks which falls led to them.
 ghost use Rattle.std.specs.Prelude.{◌≡◌, ◌<◌, length, IfOk};
 ghost use Rattle.admit_core.specs.Boarding.{boarding};
 ghost use Rattle.admit_core.specs.Falls.{IsGreatest};

@@ -18,7 +18,7 @@ text_of date =
 abbrev pub date_text : ℤ → List ℕ
 date_text number = text_of (date_of number)
 
--- the number that the two digits from a place on write
+-- the number that the two digits from a place on make
 abbrev pub number_at : List ℕ → ℕ → Option ℕ
 number_at text place =
     if is_ascii_digit (slice_index text place) && is_ascii_digit (slice_index text (place + 1)) then

@@ -5,7 +5,7 @@ ghost use Rattle.calendar.specs.Texts as Texts;
 
 use crate::civil::{Civil, civil_of, parts};
 
-/// The number that the two digits from a place on write; none where these are no digits.
+/// The number that the two digits from a place on make; none where they are not digits.
 fn number_at(text: &[u8], place: usize) -> Option<u32>
     requires { place + 1 < length text.now }
     ensures value { result ≡ Texts.number_at text.now place }

@@ -36,7 +36,7 @@ impl Model for Queues {
 }
 
 impl Queues {
-    /// The queues of a ranking. All room that the other calls need is made here.
+    /// The queues of a ranking. All the room that the other calls need is made here.
     pub fn build(alloc: Global, list: &[Ranked]) -> Result<Queues, OutOfMemory>
         requires { IsStrictlyIncreasing (map (λ r. r.rank) list.now) }
         ensures remaining { IfOk result (λ queues. queues.remaining ≡ list.now) }

@@ -1,4 +1,5 @@
--- Who becomes live in a school while a wish with it is barred, and who is offered one's very wish.
+-- Who becomes live in a school while a wish with it is barred, and who is offered the programme and
+-- school of a waiting wish.
 use Rattle.std.specs.Prelude.{◌≡◌, ◌<◌, ◌&&◌, ◌==◌, ◌⊎◌, ℕ, All, Bool, IsTrue, List, None, Option, Some, false, nat_lt}
 use Rattle.std.specs.Prelude.{slice_get}
 use Rattle.std.specs.List.{list_any}

@@ -15,11 +15,11 @@ use Rattle.admit_core.specs.Relations.{is_accepted}
 use Rattle.admit_core.specs.State.{State, entries}
 use Rattle.campaign_laws.specs.Moments.{moments}
 
--- on none of these days an answer speaks of the candidate or of their wishes
+-- on none of these days does an answer speak of the candidate or of their wishes
 abbrev pub GivesNoAnswer : State → ℕ → List DayRecord → Type 0
 GivesNoAnswer old c days = All (λ day. own old c (answers_of old.dossier day.day) ≡ []) days
 
--- the candidate ranks none of their wishes: they answer themself
+-- the candidate ranks none of their wishes: they answer in person
 abbrev pub AnswersThemself : DossierRows → ℕ → Type 0
 AnswersThemself d c = All (λ w. w.candidate ≡ c → w.preference ≡ 0) d.wishes
 

@@ -161,8 +161,8 @@ WithdrawingCanCost =
     (day 1 (quiet (9 ∷ []) [] (2 ∷ []) ∷ []) (0 ∷ 1 ∷ []) (0 ∷ []) ∷ [])
     (marked Withdrawn 1 0 ∷ marked Waiting 0 0 ∷ marked Offered 1 1 ∷ [])
 
--- ---- to accept earlier: on day 1 101 is offered wish 1. Who accepted wish 2 that morning keeps
--- both; who accepts it on day 2 gives wish 1 up, and 102 gets that seat by wish 3
+-- ---- to accept earlier: on day 1 101 is offered wish 1. Having accepted wish 2 that morning, they
+-- keep both; accepting it on day 2, they give wish 1 up, and 102 gets that seat by wish 3
 abbrev pub if_accepted_on : List AnswerRow → Tables
 if_accepted_on answers =
     record (tables (group 1 0 ∷ []) (programme 10 1 1 ∷ programme 20 1 0

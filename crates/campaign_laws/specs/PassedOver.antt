@@ -29,7 +29,8 @@ CameFromBefore orders old w s =
     (c : ℕ) → IsTrue (holds_seat s c w.programme) → holds_seat old c w.programme ≡ false
     → IsTrue (is_among c (before old orders w))
 
--- nobody is passed over by whom a wish waits that no bar ever stopped, at whatever moment
+-- no candidate is passed over, at whatever moment, while a wish of theirs waits that no bar ever
+-- stopped
 abbrev pub NobodyIsEverPassedOver : Type 0
 NobodyIsEverPassedOver =
     (terms : Option Terms) (orders : List CallOrder) (d : ℕ) (old : State) (days : List DayRecord)

@@ -21,7 +21,7 @@ waits_for s p c =
 abbrev pub waiting_before : State → List CallOrder → Wish → ℕ
 waiting_before s orders w = count_by (waits_for s w.programme) (before s orders w)
 
--- there never are more of them later
+-- there are never more of them later
 abbrev pub NoMoreWaitBefore : List CallOrder → State → State → Type 0
 NoMoreWaitBefore orders earlier later =
     (w : Wish) → waiting_before later orders w ≤ waiting_before earlier orders w

@@ -153,8 +153,8 @@ CameByBetterRankWitness =
     × (holds_bed old c h ≡ false)
     × IsTrue (ranks_better old.dossier h w c)
 
--- ---- the two lists: 12 is offered the very wish of 11; they are called later, and rank better in
--- the school
+-- ---- the two lists: 12 is offered the programme and school of 11's wish; they are called later,
+-- and rank better in the school
 abbrev pub OffersGoByTheTwoListsWitness : Type 0
 OffersGoByTheTwoListsWitness =
     let terms : Option Terms = next_day in

@@ -9,7 +9,7 @@ ghost use Rattle.campaign_laws.specs.Room.{NeverMoreThanBeds, NeverMoreThanSeats
 ghost use Rattle.campaign_laws.specs.WaitingPlace.{WaitingPlaceNeverWorsens};
 
 /// What is gone stays gone, and what is live never waits again; and of those who stand before a
-/// candidate in a call order never more wait for the programme than before.
+/// candidate in a call order, there are never more who wait for the programme than before.
 pub fn laws_of_marks()
     ensures gone { GoneStaysGone }
     ensures place { WaitingPlaceNeverWorsens }
@@ -23,24 +23,24 @@ pub fn laws_of_turns()
 {}
 
 /// Who becomes live in a school while a wish with it is barred in every opening ranks better there;
-/// and who is offered one's very wish while it waits stands before its candidate in the call order
-/// or ranks better in the school.
+/// and whoever is offered the programme and school of a waiting wish stands before its candidate in
+/// the call order or ranks better in the school.
 pub fn laws_of_beds()
     ensures barred { NoBedGoesPastBarredWishes }
     ensures two_lists { OffersGoByTheTwoLists }
 {}
 
-/// Who answers themself and gives no answer keeps what they accepted, and each offer but for its
-/// lapse; for whom it is answered automatically, who gives no answer, an accepted wish is only ever
-/// given up for one that they rank better.
+/// A candidate who answers in person, and gives no answer, keeps what they accepted, and each offer
+/// unless it lapses. One who is answered for automatically, and gives no answer, only ever loses an
+/// accepted wish to one that they rank better.
 pub fn laws_of_silence()
     ensures yours { WhatIsYoursStays }
     ensures climb { AutomaticAnswersClimb }
 {}
 
-/// At no moment more are live in a school than it has beds, or were live at first; nor in a
-/// programme without a call limit than it has seats, or were live at first; nor in one with a limit,
-/// of those whom the limit does not call.
+/// At no moment are more live in a school than it has beds, or were live at first; nor in a
+/// programme without a call limit than it has seats, or were live at first; nor in one with a
+/// limit, of those whom the limit does not call.
 pub fn laws_of_room()
     ensures beds { NeverMoreThanBeds }
     ensures seats { NeverMoreThanSeats }

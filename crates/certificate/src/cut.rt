@@ -1,4 +1,4 @@
-//! Texts that a byte parts.
+//! Texts that are cut at a byte.
 ghost use Rattle.std.specs.Prelude.{◌≡◌, ◌<◌, ◌==◌, [], ◌∷◌, length, position, IfNone, IfSome};
 ghost use Rattle.certificate.specs.Grammar.{parts};
 

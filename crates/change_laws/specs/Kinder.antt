@@ -35,7 +35,7 @@ giver d Withdraw target = candidate_of d target
 giver d Quit target = target
 
 -- the same dossier with no fewer seats, and with all its answers and maybe more; all of candidates
--- who answer themselves
+-- who answer in person
 pub record IsKinder (d kinder : DossierRows) : Type 0 where
   pub groups : kinder.groups ≡ d.groups
   pub wishes : kinder.wishes ≡ d.wishes
@@ -44,7 +44,7 @@ pub record IsKinder (d kinder : DossierRows) : Type 0 where
   pub answers : (day : ℕ) → HasAlso (answers_of d day) (answers_of kinder day)
   pub themselves : All (λ a. AnswersThemself kinder (giver kinder a.kind a.target)) kinder.answers
 
--- who answers themself and gives no answer
+-- a candidate who answers in person and gives no answer
 pub record IsSilent (d : DossierRows) (c : ℕ) : Type 0 where
   pub themself : AnswersThemself d c
   pub none : All (λ a. giver d a.kind a.target ≢ c) d.answers

@@ -5,8 +5,8 @@ ghost use Rattle.change_laws.specs.StruckOut.{UnbarredWishMayBeStruckOut};
 ghost use Rattle.change_laws.specs.Unread.{OrderAboveIsNeverRead};
 
 /// Without boarding: with more seats or higher call limits, and more answers of candidates who
-/// answer themselves, nobody waits in an evening who did not; who gives no answer has each live
-/// wish still, and who ranks their wishes has one that is as good.
+/// answer in person, no wish waits in an evening that did not; a candidate who gives no answer
+/// still has each live wish, and one who ranks their wishes has one that is as good.
 #[tactic(auto, using(crate::proofs::KinderDays::kindness_hurts_nobody))]
 pub fn law_of_kinder_dossiers()
     ensures kinder { MoreSeatsAndAnswersHurtNobody }
@@ -18,8 +18,8 @@ pub fn law_of_better_places()
     ensures place { OnePlaceUpKeepsEachOffer }
 {}
 
-/// For who gives no answer, the order of the wishes that wait to the end, above what they have
-/// accepted then, is never read: with another one the days are the same.
+/// For a candidate who gives no answer, the order of the wishes that wait to the end, above what
+/// they have accepted then, is never read: with another order the days are the same.
 pub fn law_of_unread_orders()
     ensures unread { OrderAboveIsNeverRead }
 {}

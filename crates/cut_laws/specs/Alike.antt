@@ -10,7 +10,7 @@ use Rattle.admit_core.specs.State.{State}
 abbrev pub without_ceiling : School → School
 without_ceiling h = record h { ceiling = 0 }
 
--- a dossier without what is another one from day to day: ceilings, statuses and answers
+-- a dossier without what changes from day to day: ceilings, statuses and answers
 abbrev pub lasting : DossierRows → DossierRows
 lasting d =
     record d {

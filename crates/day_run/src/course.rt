@@ -25,7 +25,7 @@ pub struct Course<'d> {
     ceilings: Vec<u32>,
 }
 
-// Not derived: so a course is dropped in one step where it is held, and not by each part.
+// Not derived, so that a course is dropped in one step where it is held, and not part by part.
 impl Drop for Course<'_> {
     fn drop(self) {
         let Course {

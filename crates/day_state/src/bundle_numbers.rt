@@ -167,7 +167,7 @@ fn no_flags(alloc: Global, count: usize) -> Result<Vec<bool>, OutOfMemory>
     Ok(vec![in alloc; false; count]?)
 }
 
-/// Flags a bundle to which a wish belongs that isn't its first.
+/// Flags a bundle that has a wish beside its first.
 fn note_later(shared: &mut Vec<bool>, first: Option<u32>, place: u32)
     requires { ForSome first (λ b. b < length shared.old.items) }
     ensures { shared.new.items ≡ with_later shared.old.items first place }

@@ -302,7 +302,7 @@ impl<'d> DayState<'d> {
     }
 
     /// Does what answers say, in their order, up to the first one that does not fit. Each
-    /// candidate's wishes come of that candidate's answers alone, and the list fits where those of
+    /// candidate's wishes follow that candidate's answers alone, and the list fits where those of
     /// each candidate do.
     pub fn apply_day(&mut self, answers: &[Answer], stamp: Stamp) -> Result<(), UnfitAt>
         requires targets { All (λ a. IsTarget self.old.dossier a.kind a.target) answers.now }

@@ -57,7 +57,7 @@ fn visit(
     !is_live
 }
 
-/// Whether one is called who has so many before them, of whom so many want a seat.
+/// Whether a candidate is called who has so many before them, of whom so many want a seat.
 fn is_called(before: usize, limit: u32, ahead: usize, left: u32) -> bool
     ensures { result ≡ (nat_lt before limit || nat_lt ahead left) }
 {

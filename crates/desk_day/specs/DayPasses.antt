@@ -35,7 +35,7 @@ last_opening orders day k s (pass ∷ next ∷ rest) =
 abbrev pub IsAnswered : State → Type 0
 IsAnswered s = (stamp : Stamp) → auto_all s stamp ≡ s
 
--- all have been answered for but maybe those who have one of these wishes
+-- all have been answered for, except perhaps those who have one of these wishes
 abbrev pub IsAnsweredBut : List ℕ → State → Type 0
 IsAnsweredBut places s = (stamp : Stamp) → AreAnsweredBut places s stamp
 

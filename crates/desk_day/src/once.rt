@@ -38,8 +38,8 @@ fn keep_once(places: &mut Vec<u32>, state: &DayState<'_>)
     places.dedup();
 }
 
-/// Adds the offers of a pass to the wishes of those whom it asks. Where they are to be gone along
-/// one wish of each candidate is left.
+/// Adds the offers of a pass to the wishes of those whom it asks. Where they are to be gone
+/// through, one wish of each candidate is left.
 pub fn ask_beside(
     places: &mut Vec<u32>,
     state: &DayState<'_>,

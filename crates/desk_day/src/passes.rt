@@ -121,9 +121,9 @@ impl Running<'_> {
     }
 }
 
-/// Leads the opening of a pass that freed something to its closing, with which the next pass opens.
-/// Where all but those who were asked had been answered for, it takes the steps that the pass took:
-/// few wishes are looked at.
+/// Brings the opening of a pass that freed something up to its closing, with which the next pass
+/// opens. Where all but those who were asked had been answered for, it repeats the steps that the
+/// pass took, and so looks at few wishes.
 fn follow<'d>(
     opening: &mut DayState<'d>,
     closing: &DayState<'d>,
@@ -161,7 +161,7 @@ fn frees_nothing(freed: Freed) -> bool
 }
 
 /// Answers for the candidates of the wishes that are asked for, where all others have been answered
-/// for, and elsewhere for all.
+/// for, and otherwise for all.
 pub fn answer_after(
     state: &mut DayState<'_>,
     is_answered: bool,
@@ -180,7 +180,7 @@ pub fn answer_after(
     }
 }
 
-/// What the automatic answers after a pass changed; where all others had been answered for that is
+/// What the automatic answers after a pass changed. Where all others had been answered for, it is
 /// looked for among the wishes of those who were asked for.
 fn changes_after(
     alloc: Global,

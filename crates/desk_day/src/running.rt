@@ -108,7 +108,7 @@ impl<'d> Running<'d> {
         self.is_alike = is_alike;
     }
 
-    /// Leads the present state back to an evening. Nothing is known of it then.
+    /// Brings the present state back to an evening. Nothing is known of it then.
     pub(crate) fn restore(&mut self, evening: &DayState<'d>)
         requires { evening.now.dossier ≡ self.old.present.dossier }
         ensures present { self.new.present ≡ evening.now }

@@ -39,7 +39,7 @@ pub record AreDealt (t : Tables) (dealt : Dealt) : Type 0 where
   pub candidates : map (λ l. l.items) dealt.candidates.items
       ≡ map (candidates_in t.rankings) (group_ids t)
 
--- no one is ranked in another group than these
+-- no one is ranked in any group but these
 pub record SaysWhoIsRanked (t : Tables) (ranked : WhoIsRanked) : Type 0 where
   pub groups : ranked.groups.now.keys ≡ group_ids t
   pub candidates : map (λ l. l.items) ranked.candidates.now

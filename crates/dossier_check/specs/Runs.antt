@@ -5,13 +5,13 @@ use Rattle.admit_core.specs.declared.tables.WishRow.{WishRow}
 use Rattle.admit_core.specs.Relations.{same_wish}
 use Rattle.dossier_check.specs.declared.apart.Run.{Run}
 
--- whether a wish has a preference that another one of the candidate has
+-- whether a wish has a preference that another wish of the candidate has
 abbrev pub same_preference : WishRow → WishRow → Bool
 same_preference row r =
     nat_eq row.candidate r.candidate && nat_lt 0 row.preference
     && nat_eq row.preference r.preference
 
--- whether of two wishes one must not be
+-- whether two wishes must not stand in one slot
 abbrev pub clashes : WishRow → WishRow → Bool
 clashes row r = same_wish row r || same_preference row r
 

@@ -1,4 +1,4 @@
-//! Whether no two wishes are of the same, nor have the same preference of a candidate.
+//! Whether no two rows are of the same wish, and no candidate has a preference twice.
 ghost use Rattle.std.specs.Prelude.{◌≡◌, ◌+◌, ◌≤◌, ◌<◌, ◌&&◌, AllPairs, IfOk, IfSome, Some, false, length, nat_eq, not, slice_get, true};
 ghost use Rattle.std.specs.List.{list_all};
 ghost use Rattle.admit_core.specs.Relations.{same_wish};
@@ -13,7 +13,7 @@ use std::alloc::Global;
 /// The most wishes of a candidate that are compared with one another.
 const MOST: usize = 32;
 
-/// Whether two wishes are of the same.
+/// Whether two rows are of the same wish.
 fn same_wish(row: &WishRow, other: &WishRow) -> bool
     ensures { result ≡ same_wish row.now other.now }
 {
@@ -22,14 +22,14 @@ fn same_wish(row: &WishRow, other: &WishRow) -> bool
         && row.school == other.school
 }
 
-/// Whether a wish has a preference that another one of the candidate has.
+/// Whether a wish has a preference that another wish of the candidate has.
 fn same_preference(row: &WishRow, other: &WishRow) -> bool
     ensures { result ≡ same_preference row.now other.now }
 {
     row.candidate == other.candidate && 0 < row.preference && row.preference == other.preference
 }
 
-/// Whether a wish clashes with none of others.
+/// Whether a wish clashes with none of these.
 fn is_apart(row: &WishRow, others: &[WishRow]) -> bool
     ensures { result ≡ list_all (λ r. not (clashes row.now r)) others.now }
 {
@@ -105,7 +105,7 @@ fn none_clash(rows: &[WishRow]) -> bool
 /// What is known of wishes before their rows are tested.
 #[derive(Clone, Copy)]
 pub(crate) struct Apart {
-    /// No two are of the same.
+    /// No two rows are of the same wish.
     pub(crate) wishes: bool,
     /// No candidate has a preference twice.
     pub(crate) preferences: bool,

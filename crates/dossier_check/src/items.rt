@@ -70,7 +70,7 @@ impl Keys {
     }
 }
 
-/// The place of an id among ids, and their number where it is none of them.
+/// The place of an id among ids, or the number of ids where it is not among them.
 fn place_in(ids: &RowIds, id: u32) -> u32
     requires { length ids.now.keys < 2 ^ 32 }
     ensures { result ≡ place_of ids.now.keys id }
@@ -78,7 +78,7 @@ fn place_in(ids: &RowIds, id: u32) -> u32
     ids.get_index_of(id).unwrap_or(ids.len()) as u32
 }
 
-/// The same of an id that may be missing.
+/// The same for an id that may be missing.
 fn place_in_any(ids: &RowIds, id: Option<u32>) -> Option<u32>
     requires { length ids.now.keys < 2 ^ 32 }
     ensures { result ≡ option_map (place_of ids.now.keys) id }
@@ -123,7 +123,7 @@ fn target_of(keys: &Keys, kind: AnswerKind, target: u32) -> u32
     }
 }
 
-/// Fault-free tables, and what their rows are found by: of these the items are made.
+/// Fault-free tables, and what their rows are found by: the items are made from these.
 #[derive(Drop)]
 pub(crate) struct Places<'a> {
     pub(crate) tables: &'a Tables,

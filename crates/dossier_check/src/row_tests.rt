@@ -21,7 +21,7 @@ pub(crate) trait RowTest<R> {
 
     ghost has_seen: { Self → List R → Type 0 };
 
-    /// That the test takes memory, so that it may lack some.
+    /// That the test takes memory, and so may run out of it.
     ghost takes_memory: { Self → Type 0 };
 
     /// The reason, where the test stands at the next row.
@@ -100,7 +100,7 @@ pub(crate) enum Shared {
     Rank,
 }
 
-/// Why a row is refused that shares this with an earlier row, which has the number.
+/// Why a row is refused that shares this with an earlier row, whose number is given.
 fn reason_of(shared: Shared, first: u64) -> Reason
     ensures { result ≡ reason_of shared first }
 {

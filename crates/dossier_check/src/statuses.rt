@@ -32,8 +32,8 @@ fn put_status(statuses: &mut Vec<Status>, wishes: &RowIds, row: &StateRow)
     }
 }
 
-/// The statuses of the wishes, of which one that no row names waits. Where two rows name a wish,
-/// the first counts: so the last row is put first.
+/// The statuses of the wishes; one that no row names waits. Where two rows name a wish, the first
+/// counts, so the last row is put first.
 pub(crate) fn statuses_of(
     alloc: Global,
     tables: &Tables,

@@ -53,7 +53,7 @@ fn is_there(numbers: &[u32], number: u32, near: &mut usize) -> bool
     }
 }
 
-/// The same, with where it's looked for at a place of a list.
+/// The same, where a place of a list says where to look first.
 fn is_there_by(numbers: &[u32], number: u32, near: &mut [usize], place: usize) -> bool
     ensures { IsNonDecreasing numbers.now → result ≡ list_any (nat_eq number) numbers.now }
 {
@@ -74,7 +74,7 @@ fn group_near(groups: &RowIds, group: u32, near: &mut [usize], programme: usize)
     }
 }
 
-/// Where is looked first. Nothing depends on it but how long a look takes.
+/// Where to look first. Nothing depends on it but how long a look-up takes.
 #[derive(Drop)]
 pub(crate) struct Near {
     /// The place of each programme's group, by the programmes' places.

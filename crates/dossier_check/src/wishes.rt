@@ -127,7 +127,7 @@ impl PreferenceMixed {
         }
     }
 
-    /// Notes a wish of a candidate, unless they have one before; answers that one.
+    /// Notes a wish of a candidate, unless they had one before; then answers that one.
     fn note(&mut self, candidate: u32, own: FirstWish) -> Result<Option<FirstWish>, OutOfMemory>
         ensures first { IsLastCandidate (get nat_eq self.old.firsts) self.old.last →
             IfOk result (λ first. first ≡ get nat_eq self.old.firsts candidate) }
@@ -262,7 +262,7 @@ type RankedTests<'a> = Then<NoBoardingRank<'a>, PreferenceTests>;
 /// The tests of preferences.
 type PreferenceTests = Then<PreferenceMixed, Then<Unless<PreferenceTaken>, NoTest>>;
 
-/// No ids, with room for those of the wishes, and for each programme and each group where is looked
+/// No ids, with room for those of the wishes, and for each programme and each group where to look
 /// first.
 fn wish_rooms(
     alloc: Global,

@@ -45,7 +45,7 @@ fn reader_of(alloc: Global, bytes: &[u8]) -> Reader<&[u8]>
         .from_reader(alloc, bytes)
 }
 
-/// The next row, and whether there was one. Records may have any number of fields and need be no
+/// The next row, and whether there was one. Records may have any number of fields and need not be
 /// text, so `csv` answers an error for want of memory alone; it leaves open that reading from a
 /// slice fails, which does not happen.
 fn next_row(reader: &mut Reader<&[u8]>, row: &mut ByteRecord) -> Result<bool, InFault>

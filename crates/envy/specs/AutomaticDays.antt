@@ -34,7 +34,7 @@ abbrev pub NobodyBehind : List CallOrder → State → Wish × Mark → Type 0
 NobodyBehind orders s (w, m) =
     IsTrue (is_waiting m) → All (λ c. holds_seat s c w.programme ≡ false) (behind s orders w)
 
--- of a wish that was given up for its candidate, they hold a better one
+-- where a wish was given up for its candidate, they hold a better one
 abbrev pub HoldsBetter : State → Wish × Mark → Type 0
 HoldsBetter s (w, m) = IsTrue (is_given_up m.status) → IsTrue (has_better s w)
 
@@ -69,7 +69,7 @@ pub record IsFairEvening (orders : List CallOrder) (evening : State) : Type 0 wh
   pub fair : IsFair orders evening
   pub none_blocks : blocking evening orders ≡ []
 
--- so the passes of a day from a fair opening, under whatever ceilings
+-- so it is with the passes of a day from a fair opening, under whatever ceilings
 abbrev pub DaysEndFair : Type 0
 DaysEndFair =
     (orders : List CallOrder) (ceilings : List ℕ) (day k : ℕ) (opening : State)

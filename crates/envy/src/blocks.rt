@@ -30,7 +30,7 @@ pub struct Block {
     pub envied: Option<u32>,
 }
 
-/// A wish whose candidate envies another with right.
+/// A wish whose candidate rightly envies another.
 #[derive(Clone, Copy)]
 pub struct Envy {
     pub wish: u32,
@@ -123,7 +123,7 @@ fn block_at(
     }
 }
 
-/// Whether what is told of a wish is of one that blocks.
+/// Whether what is told of a wish says that it blocks.
 fn is_block(state: &DayState<'_>, best: &IndexMap<u32, u32, Keyed>, block: Block) -> bool
     requires best { AreBest (entries state.now) (get nat_eq best.now) }
     requires wish { block.wish < length state.now.dossier.wishes }
@@ -133,7 +133,7 @@ fn is_block(state: &DayState<'_>, best: &IndexMap<u32, u32, Keyed>, block: Block
     wants_more(state, best, block.wish) && (block.left > 0 || block.envied.is_some())
 }
 
-/// The blocks of a state, by place, of whose wishes it is known where each stands, which is the
+/// The blocks of a state, by place, where it is known where each wish stands, which wish is the
 /// last live one of each programme, and which is the best one of each candidate.
 fn listed_blocks(
     alloc: Global,
@@ -209,7 +209,7 @@ fn envies_of(alloc: Global, blocks: &[Block]) -> Result<Vec<Envy>, OutOfMemory>
     Ok(envies.collect(alloc)?)
 }
 
-/// The wishes that block a state whose candidates envy somebody with right, by place, each with the
+/// The wishes that block a state whose candidates rightly envy somebody, by place, each with the
 /// last one whom they envy.
 pub fn envy_list(
     alloc: Global,

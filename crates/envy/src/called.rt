@@ -46,7 +46,7 @@ fn sets_of(alloc: Global, orders: &[CallOrder]) -> Result<Vec<IndexSet<u32, Keye
     Ok(sets)
 }
 
-/// The place of a candidate among those of a call order, and their number where it is none of them.
+/// The place of a candidate in a call order, or its length where they are not in it.
 fn place_in(set: &IndexSet<u32, Keyed>, candidate: u32) -> usize
     ensures { result ≡ position_or_len (nat_eq candidate) set.now.keys }
 {

@@ -19,7 +19,7 @@ is_bed_idle s ceilings w (Some h) =
     holds_bed s w.candidate h
     || (nat_lt 0 (free_beds s h) && nat_le w.board_rank (slice_index ceilings h))
 
--- and so of its programme a seat
+-- and a seat of its programme is left too
 abbrev pub are_both_idle : State → List ℕ → Wish → Bool
 are_both_idle s ceilings w =
     nat_lt 0 (seats_left s w.programme) && is_bed_idle s ceilings w w.school

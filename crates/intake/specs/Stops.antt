@@ -31,7 +31,7 @@ abbrev pub refused_as : {A : Type 0} → Result A Refusal → Result A Stop
 refused_as (Ok x) = Ok x
 refused_as (Err refusal) = Err (stops.Refused refusal)
 
--- what nothing to be read from the words is to a run
+-- what words that say nothing are to a run
 abbrev pub asked : {A : Type 0} → Option A → Result A Stop
 asked None = Err stops.BadWords
 asked (Some x) = Ok x

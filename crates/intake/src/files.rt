@@ -127,7 +127,7 @@ fn put_rows(alloc: Global, tables: &mut Tables, slot: Slot, bytes: &[u8]) -> Res
     }
 }
 
-/// The chain's bytes after those of a slot, which are the chain's where it is the chain slot.
+/// The chain's bytes once a slot has been read: the slot's own where it is the chain slot.
 fn chain_after(chain: Sequence<u8>, slot: Slot, bytes: Vec<u8>) -> Sequence<u8>
     ensures { result ≡ Reading.chain_after chain slot bytes.items }
 {
@@ -137,7 +137,7 @@ fn chain_after(chain: Sequence<u8>, slot: Slot, bytes: Vec<u8>) -> Sequence<u8>
     }
 }
 
-/// The files with what one slot holds, which has these bytes.
+/// The files with what one slot of these bytes holds.
 #[tactic(auto, unfolding(crate::specs::Reading::with_slot))]
 fn with_slot(alloc: Global, files: Files, slot: Slot, bytes: Vec<u8>) -> Result<Files, InFault>
     requires { AreTables files.tables }

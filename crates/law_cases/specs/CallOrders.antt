@@ -64,7 +64,7 @@ KeepsResidentRateWitness =
     ((k : ℕ) → k < n → slice_get order.trace k ≢ Some Alone)
     × KeepsRateAfter g.resident_pct (λ r. r.resident) g (take n order.list)
 
--- without rates a resident scholar is called behind who has a better rank
+-- without rates a resident scholar is called after one who has a better rank
 abbrev pub CallsResidentScholarsFirstWitness : Type 0
 CallsResidentScholarsFirstWitness =
     let g : RankGroup = group 0 0 four in

@@ -1,7 +1,7 @@
 -- Witnesses of the laws of changed dossiers. 11, 12 and 13 are called in this order; 11 and 12
 -- wish for the one seat of the first programme, 12 and 13 for the two of the second. 13 ranks
 -- their wish. On day 2 of the other dossier 11 quits, and 12 gets that seat too. And 11, who waits
--- behind 12 until these quit on day 2, is offered the seat on day 1 where they stand first. And
+-- behind 12 until 12 quits on day 2, is offered the seat on day 1 where they stand first. And
 -- 11, who ranks three wishes and gets the third, gets it too if the first two change places. In
 -- the summer of three days 13 waits to the end, and the days are the same if they withdrew before.
 use Rattle.std.specs.Prelude.{◌≡◌, ◌∷◌, ◌==◌, ℕ, All, IsTrue, List, None, Option, Some, [], false, if◌then◌else◌}

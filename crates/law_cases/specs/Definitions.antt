@@ -1,4 +1,4 @@
--- Worked cases of definitions whose other cases leave an error room.
+-- Worked cases of definitions whose other cases leave room for an error.
 use Rattle.std.specs.Prelude.{◌≡◌, List, [], ◌∷◌, Some, None}
 use Rattle.admit_core.specs.declared.chain.CheckReason.TheVariants.{StillOver}
 use Rattle.admit_core.specs.declared.dossier.Answer.{Answer}
@@ -96,7 +96,7 @@ MixedTheOtherWay =
     (tables fine (wish 1 200 1 None 0 ∷ wish 2 100 1 None 0 ∷ wish 3 100 2 None 2 ∷ []) [])
     ≡ Some (record { slot = S.Wishes; row = 4; reason = PreferenceMixed 3 })
 
--- rows that stand twice, in the slots of which no other case shows it
+-- rows that stand twice, in the slots for which no other case shows it
 abbrev pub RepeatedRows : Type 0
 RepeatedRows =
     (first_fault (record good { programmes = programme 1 5 ∷ programme 1 7 ∷ [] })
@@ -114,7 +114,7 @@ RepeatedRows =
     })
     ≡ Some (record { slot = S.Ceilings; row = 3; reason = Repeat 2 }))
 
--- names that are not there, in the slots and columns of which no other case shows it
+-- names that are not there, in the slots and columns for which no other case shows it
 abbrev pub UnknownNames : Type 0
 UnknownNames =
     (first_fault (record good { boarding = boarded 3 100 1 ∷ boarded 9 100 1 ∷ [] })

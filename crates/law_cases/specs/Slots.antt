@@ -76,7 +76,7 @@ RangeFaults =
     × (shape ceilings (codes "day,school,ceiling\n366,5,1\n367,5,1\n")
     ≡ Err (record { slot = slot.Ceilings; row = 3; reason = OutOfRange 1 }))
 
--- what is no flag, no word of the slot and no date
+-- what is not a flag, a word of the slot or a date
 abbrev pub WordFaults : Type 0
 WordFaults =
     (shape rankings (codes "group,candidate,rank,scholar,resident\n1,11,3,2,0\n")

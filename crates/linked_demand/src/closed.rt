@@ -1,4 +1,4 @@
-//! A wish is closed whose candidate may have a seat by it.
+//! Closing a wish by which its candidate may have a seat.
 ghost use Rattle.std.specs.Prelude.{◌≡◌, ◌<◌, ◌&&◌, [], false, length, nat_lt, slice_index_or, slice_set, All};
 ghost use Rattle.day_state.specs.Kept.{has_seat_there};
 ghost use Rattle.linked_demand.specs.Wants.{stops_wanting};
@@ -31,7 +31,7 @@ fn stops_by_closing(
 }
 
 /// Closes a wish of a row, in whose programme so many places are reached. Whether its candidate is
-/// reached and wants no seat any more: who is not reached is not asked.
+/// reached and wants no seat any more: one who is not reached is not asked.
 pub fn leaves_by_closing(
     state: &DayState<'_>,
     claims: &Claims,

@@ -72,8 +72,8 @@ pub fn reach_of(
     count
 }
 
-/// How many places there are up to the first one from a place on who wants a seat, with it; or all
-/// of them.
+/// How many places there are up to and with the first one, from a place on, that wants a seat; or
+/// all of them.
 pub fn next_wanting(
     state: &DayState<'_>,
     opens: &OpenWishes<'_, '_>,

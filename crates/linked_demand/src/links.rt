@@ -33,7 +33,7 @@ use std::alloc::Global;
 use std::marker::Model;
 use std::sync::ledger::Ledger;
 
-/// Whether the candidate of a boarder's wish is behind the bar of the school. Who ranks at most at
+/// Whether the candidate of a boarder's wish is behind the bar of the school. One who ranks within
 /// the bar is not looked at.
 fn is_behind(state: &DayState<'_>, bars: &[u32], boarder: Boarder) -> bool
     requires boarder { IsBoarder state.now.dossier boarder }

@@ -42,7 +42,7 @@ best_is_within m bars x p e =
     (find_passes (is_within m bars x) (list_of m x) p e)
 
 -- a position is demanded where it is one of the order, and the programme is the best within reach
--- of who stands there
+-- of the one who stands there
 pub demanded_parts : (m : MarketRows) (bars : List ℕ) (p r : ℕ)
     → is_among r (demanded m bars p) ≡ true
     → (1 ≤ r) × (r ≤ length (market_order m p)) × (best_within m bars (candidate_at m p r) ≡ Some p)

@@ -4,7 +4,7 @@ use Rattle.std.specs.Prelude.{nat_lt, find, position, Option, slice_index, slice
 use Rattle.std.specs.List.{list_all, before_first, range_with_len}
 use Rattle.admit_core.specs.Lists.{is_among, distinct}
 
--- the list of each candidate, best first; for each programme the order of its candidates, first
+-- the list of each candidate, best first; for each programme the order of its candidates, best
 -- first, and its seats
 pub record MarketRows : Type 0 where
   pub lists : List (List ℕ)
@@ -67,7 +67,7 @@ pub record IsSmallMarket (m : MarketRows) : Type 0 where
   pub valid : IsMarket m
   pub small : IsSmall m
 
--- the position of a candidate in the order of a programme, from 1; past the end for who isn't in it
+-- the position of a candidate in the order of a programme, from 1; past the end if not in it
 abbrev pub market_position : MarketRows → ℕ → ℕ → ℕ
 market_position m p x = length (before_first (nat_eq x) (market_order m p)) + 1
 

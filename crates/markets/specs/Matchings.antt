@@ -33,7 +33,7 @@ preferred m places x = before_first (λ p. is_at p (place_of places x)) (list_of
 abbrev pub prefers : MarketRows → List (Option ℕ) → ℕ → ℕ → Bool
 prefers m places x p = is_among p (preferred m places x)
 
--- a programme would take a candidate: it has a free seat, or one who stands later in its order
+-- a programme would take a candidate: it has a free seat, or somebody who stands later in its order
 abbrev pub would_take : MarketRows → List (Option ℕ) → ℕ → ℕ → Bool
 would_take m places p x =
     nat_lt (length (holders places p)) (slice_index m.seats p)

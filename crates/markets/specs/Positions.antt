@@ -32,19 +32,19 @@ pub length_before : (u : ℕ → Bool) (xs : List ℕ) → length (before_first 
 length_before u xs =
     length-take-le (position_or_len u xs) xs (prefix_len-le-length (λ x. not (u x)) xs)
 
--- one at a place of a list is among it
+-- what stands at a place of a list is among it
 pub among_at : (xs : List ℕ) (i : ℕ) → i < length xs → is_among (get_or xs i 0) xs ≡ true
 among_at xs i lt =
     list_any_at (nat_eq (get_or xs i 0)) xs i 0 lt (eq-eqb (get_or xs i 0) (get_or xs i 0) refl)
 
--- and it stands at its first place what it is
+-- and what is among it stands at the first place where it is found
 pub at_first : (x : ℕ) (xs : List ℕ) → is_among x xs ≡ true
     → get_or xs (position_or_len (nat_eq x) xs) 0 ≡ x
 at_first x xs t =
     sym (eqb-true x (get_or xs (position_or_len (nat_eq x) xs) 0)
     (passes_at_first (nat_eq x) xs 0 (first_place x xs t)))
 
--- where none stands twice, each stands at the place of them
+-- where none stands twice, each is found at the place where it stands
 pub only_place : (xs : List ℕ) (i : ℕ) → IsDistinct nat_eq xs → i < length xs
     → position_or_len (nat_eq (get_or xs i 0)) xs ≡ i
 only_place xs i apart lt =
@@ -99,7 +99,7 @@ module _ (m : MarketRows) (is : IsMarket m) where
       ltb-true p (length m.orders)
       (one_of_all (λ q. nat_lt q (length m.orders)) p (list_of m x) both.1 t)
 
-  -- who lists a programme is in its order
+  -- whoever lists a programme is in its order
   pub in_order : (p x : ℕ) → lists_it m p x ≡ true → is_among x (market_order m p) ≡ true
   in_order p x t =
       let within : is_among x (range_with_len 0 (length m.lists))

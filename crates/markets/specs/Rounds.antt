@@ -11,7 +11,7 @@ use Rattle.markets.specs.Lawful.{market_is_lawful}
 use Rattle.markets.specs.Standing.{AreSeated}
 use Rattle.markets.specs.Fillings.{Fill}
 
--- whether who stands at a position of a programme's order has a place in it
+-- whether the one who stands at a position of a programme's order has a place in it
 abbrev pub is_held : MarketRows → List (Option ℕ) → ℕ → ℕ → Bool
 is_held m places p r = is_at p (place_of places (candidate_at m p r))
 

@@ -11,8 +11,8 @@ use admit_core::{OutOfMemory, Sequence};
 use std::alloc::Global;
 use std::marker::Model;
 
-/// Candidates who list programmes, best first, and programmes with seats that order their
-/// candidates, first first. Both are counted from 0.
+/// Candidates who list programmes, and programmes with seats that order their candidates, each best
+/// first. Both are counted from 0.
 #[derive(Drop)]
 pub struct Market {
     pub(crate) lists: Vec<Sequence<u32>>,

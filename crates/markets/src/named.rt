@@ -23,7 +23,7 @@ pub struct Named {
     pub candidates: Vec<u32>,
 }
 
-/// The number of a candidate of the market; one past the last for who isn't in it.
+/// The number of a candidate of the market; one past the last for one who isn't in it.
 fn number_of(names: &IndexSet<u32, Keyed>, candidate: u32) -> u32
     requires { length names.now.keys ≤ 16000000 }
     ensures { result ≡ position_or_len (nat_eq candidate) names.now.keys }
@@ -52,8 +52,8 @@ fn order_of<'o>(dossier: &Dossier, orders: &'o CallOrders, programme: u32) -> &'
     orders.orders.as_slice()[group as usize].list.as_slice()
 }
 
-/// A call order by the numbers of its candidates, without those who are no listers. Where there are
-/// none, it goes nowhere.
+/// A call order by the numbers of its candidates, without those who are not listers. Where there
+/// are no listers, it looks at nobody.
 fn called(
     alloc: Global,
     order: &[u32],

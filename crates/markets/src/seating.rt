@@ -102,7 +102,7 @@ fn move_on(market: &Ranked<'_>, bars: &[u32], seating: &mut Seating, candidate: 
     put_place(seating, candidate, had, place);
 }
 
-/// Lowers a bar by one position: who has a place there moves on.
+/// Lowers a bar by one position: whoever has a place there moves on.
 fn step_down(market: &Ranked<'_>, bars: &mut Vec<u32>, seating: &mut Seating, programme: u32)
     requires programme { programme < length market.now.orders }
     requires above { 0 < slice_index bars.old.items programme }
@@ -121,8 +121,8 @@ fn step_down(market: &Ranked<'_>, bars: &mut Vec<u32>, seating: &mut Seating, pr
     }
 }
 
-/// Lowers a bar. It costs the positions that it passes, and the entries that those move on by who
-/// have a place there.
+/// Lowers a bar. It costs the positions that it passes, and the entries by which those who have a
+/// place there move on.
 pub fn lower_to<L: Ledger>(
     market: &Ranked<'_>,
     bars: &mut Vec<u32>,

@@ -55,7 +55,7 @@ fn figures_of(
     beds_text(alloc, dossier, place, need, &growth)
 }
 
-/// The same of a state and its call orders, whose lineup is made once.
+/// The same for a state and its call orders, whose lineup is made once.
 fn figures_text(
     alloc: Global,
     dossier: &Dossier,
@@ -81,7 +81,7 @@ fn figures_text(
     figures_of(alloc, dossier, &questions, ceilings, place, picker)
 }
 
-/// The figures of the school of this id in the last pass. The picker chooses nothing of them.
+/// The figures of the school of this id in the last pass. The picker has no say in them.
 pub(crate) fn school_text(
     alloc: Global,
     input: &Input,

@@ -20,7 +20,7 @@ pub enum Exit {
     WriteFault,
     /// There was no memory for what had to be kept.
     NoMemory,
-    /// The chain is none, or does not prove its days.
+    /// The chain slot holds no chain, or one that does not prove its days.
     NotProved,
     /// The named wish or school is not in the dossier.
     NoSuchWish,

@@ -12,7 +12,7 @@ pub(crate) struct Led<'d> {
     pub desk: LastDesk<'d>,
 }
 
-// Not derived: so it is dropped in one step where it is held, and not by each list.
+// Not derived, so that it is dropped in one step where it is held, and not list by list.
 impl<'d> Drop for Led<'d> {
     fn drop(self) {
         let Led {

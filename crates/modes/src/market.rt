@@ -70,7 +70,7 @@ fn text_of(
 }
 
 /// The stable matching of those who rank their wishes, over the wishes without boarding, that is
-/// best for each of them. The picker chooses nothing of it.
+/// best for each of them. The picker has no say in it.
 pub(crate) fn matched_text(
     alloc: Global,
     dossier: &Dossier,

@@ -13,7 +13,7 @@ use Rattle.request.specs.declared.refusal.WordsRefusal.TheVariants as refusals
 use Rattle.request.specs.declared.request.Request.{Request}
 use Rattle.morning_cli.specs.declared.asked.Asked.{Asked}
 
--- the slots that a day changes; all others are on the next morning as they were
+-- the slots that a day changes; all others are the same on the next morning
 abbrev pub is_daily : Slot → Bool
 is_daily slots.Schools = true
 is_daily slots.State = true

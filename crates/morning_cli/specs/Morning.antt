@@ -30,7 +30,7 @@ pub record IsMorning (slot : Slot) (job : Job) (before after : Lent) (exit : Exi
   pub ends : IsDoneWith
       (morning_text slot job.tables desk.present (days_of job.request) (dated_of job)) exit text
 
--- a run over a job ends so, or where an answer does not fit as a run of `replay` is refused
+-- a run over a job ends so or, where an answer does not fit, as a run of `replay` is refused
 abbrev pub IsSlotEnding : Slot → Job → Lent → Lent → Exit → List ℕ → Type 0
 IsSlotEnding slot job before after exit text =
     IsMorning slot job before after exit text

@@ -59,6 +59,6 @@ rows_back d =
       answers = map (answer_row d.wishes) d.answers;
     }
 
--- of tables the slots that a day changes, and the wishes
+-- the slots of tables that a day changes, and the wishes
 abbrev pub daily_rows : Tables → Tables
 daily_rows t = record t { groups = []; programmes = []; rankings = []; boarding = [] }

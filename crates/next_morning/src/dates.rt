@@ -50,8 +50,8 @@ fn since_when(evening: &DayState<'_>, start: Civil, terms: &Terms, place: u32) -
     }
 }
 
-/// A row a wish, with its status and, where it is offered, the date of its offer; `start` is the
-/// date of day 1.
+/// A row for each wish, with its status and, where it is offered, the date of its offer; `start`
+/// is the date of day 1.
 pub(crate) fn dated_rows(
     alloc: Global,
     evening: &DayState<'_>,

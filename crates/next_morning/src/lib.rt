@@ -2,8 +2,8 @@
 //!
 //! `let tables = next_morning(alloc, tables, &evening, &ceilings, day, dated)?;`
 //!
-//! Who no longer has the tables makes the slots that a day changes from the evening alone:
-//! `next_rows`.
+//! A caller who no longer has the tables makes the slots that a day changes from the evening alone,
+//! by `next_rows`.
 #![tactic(auto)]
 
 mod back;

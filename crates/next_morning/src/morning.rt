@@ -74,7 +74,7 @@ pub fn next_morning(
     Ok(tables)
 }
 
-/// Of the same tables the slots that a day changes: the schools, the state, the ceilings and the
+/// The slots of the same tables that a day changes: the schools, the state, the ceilings and the
 /// answers. They are made of the evening alone, whose dossier has no rows of the others; beside
 /// them are the wishes, and the other lists are empty.
 pub fn next_rows(

@@ -27,7 +27,7 @@ pub(crate) fn school_rows(
     Ok(rows)
 }
 
-/// A row a wish, with its status.
+/// A row for each wish, with its status.
 fn state_rows(
     alloc: Global,
     wishes: &[WishRow],
@@ -46,7 +46,7 @@ fn state_rows(
     Ok(rows)
 }
 
-/// A row a wish, with its status, and where there are terms the date of its open offer.
+/// A row for each wish, with its status and, where there are terms, the date of its open offer.
 pub(crate) fn told_rows(
     alloc: Global,
     wishes: &[WishRow],

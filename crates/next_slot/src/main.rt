@@ -1,7 +1,7 @@
 //! `next_slot`, the program of the next morning: it reads the slots' files in the current folder,
 //! runs the days that `parcours replay` runs with the same words, and writes one slot of the
 //! morning after them to standard output: `schools`, `state`, `ceilings` or `answers`. All other
-//! slots are on that morning as they were.
+//! slots are the same on that morning as before.
 //!
 //! `next_slot state replay --days 3 --picker last`
 #![tactic(auto)]

@@ -89,7 +89,7 @@ fn begin<'d>(alloc: Global, dossier: &'d Dossier) -> Result<Begun<'d>, OutOfMemo
     Ok(Begun { orders, desk })
 }
 
-/// A run of which no day is asked for.
+/// A run for which no day is asked.
 fn unplayed<'d>(alloc: Global, dossier: &'d Dossier) -> Result<Played<'d>, OutOfMemory>
     ensures orders { IfOk result (λ p. AreCallOrders dossier.now.groups p.orders.orders) }
     ensures days { IfOk result (λ p. p.days.items ≡ []) }
@@ -102,7 +102,7 @@ fn unplayed<'d>(alloc: Global, dossier: &'d Dossier) -> Result<Played<'d>, OutOf
     })
 }
 
-/// Runs so many days of a dossier, of which there is one at least.
+/// Runs so many days of a dossier, at least one.
 fn play_some<'d>(
     alloc: Global,
     dossier: &'d Dossier,

@@ -1,5 +1,5 @@
 //! The texts of the report: call orders, days, final states, explanations, refusals and samples,
-//! byte for byte. A text is made whole in memory; what a long one has many of is added to it.
+//! byte for byte. A text is made whole in memory; lines that recur in a long one are added to it.
 //!
 //! `push_order(&mut text, group.id, order)?;`
 #![tactic(auto)]

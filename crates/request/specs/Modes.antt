@@ -42,7 +42,7 @@ abbrev pub nine_slots : List Slot
 nine_slots =
     Groups ∷ Programmes ∷ Schools ∷ Rankings ∷ Boarding ∷ Wishes ∷ State ∷ Ceilings ∷ Answers ∷ []
 
--- the slots that a mode reads, in this order: the nine, but for those who need less, and then the
+-- the slots that a mode reads, in this order: the nine, fewer where it needs less, and then the
 -- chain where it is checked; a sample is made, and reads none
 abbrev pub slots_of : Mode → List Slot
 slots_of Order = Groups ∷ Rankings ∷ []

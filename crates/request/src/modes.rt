@@ -7,7 +7,7 @@ ghost use Rattle.request.specs.Modes.{IsMode};
 use admit_core::Slot;
 use std::fmt;
 
-/// What a run is to do, with what this needs.
+/// What a run is to do, with the data that this needs.
 #[derive(Clone, Copy)]
 pub enum Mode {
     /// Writes the call orders of all groups.

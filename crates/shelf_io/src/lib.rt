@@ -1,5 +1,5 @@
 //! Devices in memory, beside those of `slot_io`: shelves and sinks that tell their bytes, and some
-//! that fail at the calls that they are told.
+//! that fail at the calls that they are told to fail at.
 //!
 //! `shelf.put(Slot::Wishes, bytes); let told = read_slot(alloc, &mut shelf, Slot::Wishes, limit)?;`
 #![tactic(auto)]

@@ -91,14 +91,14 @@ fn file_name(slot: Slot) -> &'static str
     }
 }
 
-/// What a read that std answers so means: any error is a failure of the device.
+/// What this answer of std to a read means: any error is a failure of the device.
 fn read_answer(read: io::Result<usize>) -> Result<usize, IoRefusal>
     ensures { result ≡ read_answer read }
 {
     read.map_err(|_| IoRefusal::Failed)
 }
 
-/// What a write that std answers so means: any error is a failure of the device, and a write that
+/// What this answer of std to a write means: any error is a failure of the device, and a write that
 /// takes no byte is one too.
 fn write_answer(written: io::Result<usize>) -> Result<usize, IoRefusal>
     ensures { result ≡ write_answer written }

@@ -102,7 +102,7 @@ fn block_of(
     None
 }
 
-/// Whether a programme has a free seat, or one who stands later in its order than a candidate.
+/// Whether a programme has a free seat, or somebody who stands later in its order than a candidate.
 fn would_take(
     market: &Ranked<'_>,
     counts: &[u32],

@@ -93,7 +93,7 @@ fn last_over<F: Falling>(alloc: Global, round: &F) -> Result<Option<(u32, u32)>,
     Ok(None)
 }
 
-/// Lowers a bar of both rounds, where it is one.
+/// Lowers a school's bar in both rounds, where it is higher.
 fn fall<L: Ledger>(
     plain: &mut PlainRound<'_, '_>,
     linked: &mut LinkedRound<'_, '_>,

@@ -27,7 +27,7 @@ fn lists_in(alloc: Global, text: &str) -> Result<Vec<Vec<u32>>, OutOfMemory> {
 }
 
 /// The parts of a market in words: the candidates' lists between `;`, and behind `/` each
-/// programme's seats with `:` and its order. Blank behind `/` is no programme.
+/// programme's seats with `:` and its order. Nothing behind `/` means no programme.
 fn parts_in(alloc: Global, input: &str) -> Result<Parts, OutOfMemory> {
     let (lists, programmes) = input.split_once("/").unwrap_or((input, ""));
     let mut parts = Parts {
@@ -134,7 +134,7 @@ fn market_shown(alloc: Global, market: &Market) -> Result<String, OutOfMemory> {
     Ok(text)
 }
 
-/// The market in words, or why it is none.
+/// What is seen of the market in words, or why these make no market.
 pub(crate) fn market_in(alloc: Global, input: &str) -> Result<String, OutOfMemory> {
     let parts = parts_in(alloc, input)?;
     let Parts {

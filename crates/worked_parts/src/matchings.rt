@@ -13,8 +13,8 @@ use std::alloc::Global;
 /// How many choices of an entry of the list or none four candidates have.
 const CHOICES: usize = 256;
 
-/// Whether a stable matching of a market gives a candidate better than one who stands so in this
-/// list.
+/// Whether a stable matching of a market gives a candidate a place that is liked better than so, by
+/// this list.
 fn finds_better(
     alloc: Global,
     rows: &Rows,

@@ -146,7 +146,8 @@ fn nation_shown(alloc: Global, dossier: &Dossier, count: u32) -> Result<bool, Ou
     are_nations_called(alloc, groups, count)
 }
 
-/// Whether so many candidates, where scholars alone may be called first, are called as they must.
+/// Whether so many candidates, where scholars alone may be called first, are called in the right
+/// order.
 fn is_nation(alloc: Global, count: u32) -> Result<bool, InFault> {
     let rankings = nation_slot(alloc, count)?;
     let groups = "group,scholar_pct,resident_pct\n1,100,0\n";

@@ -120,7 +120,7 @@ pub(crate) fn sink_in(alloc: Global, input: &str) -> Result<String, OutOfMemory>
     Ok(answer)
 }
 
-/// What a plain sink holds to which texts are written one after another.
+/// What a plain sink holds after texts are written to it one after another.
 pub(crate) fn texts_in(alloc: Global, input: &str) -> Result<String, OutOfMemory> {
     let mut sink = PlainSink::new(alloc);
     for word in input.split_whitespace() {

@@ -28,7 +28,7 @@ fn named(name: &str) -> Whose {
     }
 }
 
-/// What a picker told; one that is not there told a place that there is not.
+/// What a picker told; one that is not there counts as telling a place that does not exist.
 fn told_by(alloc: Global, picker: &Option<Box<dyn Picker>>) -> Result<Vec<u32>, AllocError> {
     match picker {
         Some(picker) => Vec::from_slice(alloc, picker.told_list()),
