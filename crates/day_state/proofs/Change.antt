@@ -1,9 +1,9 @@
 -- What a change of one mark asks and gives, in the words of the code.
-use Rattle.std.proofs.Common.{ℕ, ◌+◌, ◌≤◌, ◌<◌, ◌≡◌, Bool, true, false, not, ◌&&◌, List, [], map, length, get_or, sym}
-use Rattle.std.proofs.Common.{◌∙◌, ap, arith, filter, Option, Some, None}
+use Rattle.std.proofs.Common.{ℕ, ◌+◌, ◌≤◌, ◌<◌, ◌≡◌, Bool, true, false, not, ◌&&◌, List, [], map, length}
+use Rattle.std.proofs.Common.{arith, filter, Option, Some, None}
 use Rattle.std.specs.Prelude.{slice_index, ◌==◌, All}
 use Rattle.std.proofs.lemmas.Option.{unwrap_or-slice_get}
-use Rattle.std.proofs.lemmas.List.{length-map, get_or_read}
+use Rattle.std.proofs.lemmas.List.{length-map}
 use Rattle.std.proofs.lemmas.List.Elements.{All-filter}
 use Rattle.std.proofs.lemmas.List.FromFn.{length-range_with_len, get_or-range_with_len}
 use Rattle.admit_core.specs.Lists.{distinct}
@@ -12,11 +12,11 @@ use Rattle.std.specs.List.{range_with_len}
 use Rattle.admit_core.specs.declared.dossier.Wish.{Wish}
 use Rattle.admit_core.specs.declared.state.Mark.{Mark}
 use Rattle.admit_core.specs.DossierRows.{DossierRows, candidate_of}
-use Rattle.admit_core.specs.State.{State, is_live, has_school, with_mark_at, holds_seat, holds_bed}
+use Rattle.admit_core.specs.State.{State, has_school, with_mark_at, holds_seat, holds_bed}
 use Rattle.admit_core.specs.OwnWishes.{own_places}
 use Rattle.admit_core.specs.AutoAnswer.{freed_by}
 use Rattle.admit_core.specs.Validity.{IsValid, IsValidWish}
-use Rattle.day_state.specs.Kept.{mark_in, wish_in, holds_bed_in, one_if, recount, recount_some, has_seat_there}
+use Rattle.day_state.specs.Kept.{wish_in, holds_bed_in, one_if, recount, recount_some, has_seat_there}
 use Rattle.day_state.specs.Kept.{has_bed_there, state_of, AreCounts, IsKept}
 use Rattle.day_state.proofs.Places.{candidate_in}
 use Rattle.day_state.proofs.KeptCounts.{kept_after, holders_after, count_bounds}
@@ -93,14 +93,6 @@ pub wish_valid : (d : DossierRows) → IsValid d → (place : ℕ) → place < l
     → IsValidWish d (wish_in d.wishes place)
 wish_valid d valid place lt =
     rw (unwrap_or-slice_get d.wishes place (wish_in [] 0)) (valid.wishes place (wish_in [] 0) lt)
-
--- what a read of a mark gives
-pub mark_read : (ms : List Mark) (k : ℕ) (x : Mark) → k < length ms → x ≡ get_or ms k x → mark_in ms k ≡ x
-mark_read ms k x lt is = unwrap_or-slice_get ms k (mark_in [] 0) ∙ sym (get_or_read ms k x lt is (mark_in [] 0))
-
-pub live_read : (ms : List Mark) (k : ℕ) {x : Mark} {b : Bool} → k < length ms → x ≡ get_or ms k x → b ≡ is_live x
-    → b ≡ is_live (mark_in ms k)
-live_read ms k {x} lt is b_is = b_is ∙ ap is_live (sym (mark_read ms k x lt is))
 
 -- where the counts are kept, and the mark of a wish becomes m
 module _ {d : DossierRows} {marks : List Mark} {seats beds : List ℕ} {wish : ℕ} (valid : IsValid d)

@@ -1,5 +1,5 @@
 -- Reading order. Each file says in its first line what it shows.
--- One mark: Counting, Places, KeptCounts, Lost, Freeing, Change, SameMarks.
+-- One mark: Counting, Places, KeptCounts, Lost, Freeing, Change, SameMarks, Flagged (who waits).
 -- The order by candidate: Ordering, Keys, Runs. A candidate's wishes: Along, Changing, Best, Taking.
 -- Bundles, from bottom to top: Numbering (their first wishes), Sharing (which have a count),
 -- Bundled (what a count tells of its candidate), the longest of the folder.
@@ -23,6 +23,7 @@ pub mod Taking
 pub mod OneAccepted
 pub mod Answering
 pub mod Filled
+pub mod Flagged
 pub mod Bundled
 pub mod Independence
 pub mod Lapsing

@@ -1,8 +1,8 @@
 //! The marks of a dossier's wishes, with the numbers of live candidates.
-ghost use Rattle.std.specs.Prelude.{◌≡◌, ◌<◌, ◌≤◌, ◌+◌, ◌-◌, ◌^◌, ◌==◌, ◌&&◌, length, slice_index, All, IfOk, replicate, option_map};
+ghost use Rattle.std.specs.Prelude.{◌≡◌, ◌<◌, ◌≤◌, ◌+◌, ◌-◌, ◌^◌, ◌==◌, ◌&&◌, length, slice_index, All, IfOk, replicate, option_map, map};
 ghost use Rattle.std.specs.Option.{ForSome};
 ghost use Rattle.std.specs.List.{list_any};
-ghost use Rattle.admit_core.specs.State.{State, with_mark_at, has_school, holds_seat, holds_bed, seat_holders, bed_holders};
+ghost use Rattle.admit_core.specs.State.{State, is_waiting, with_mark_at, has_school, holds_seat, holds_bed, seat_holders, bed_holders};
 ghost use Rattle.admit_core.specs.DossierRows.{candidate_of};
 ghost use Rattle.admit_core.specs.OwnWishes.{own_places};
 ghost use Rattle.admit_core.specs.AutoAnswer.{auto_one, best_live, freed_by};
@@ -13,11 +13,12 @@ ghost use Rattle.day_state.specs.Kept.{mark_in, lives_at, has_seat_there, has_be
 use crate::bundle_numbers::firsts_of;
 use crate::bundles::Bundles;
 use crate::counts::{copy_counts, recount, recount_some, zeros};
+use crate::flagged_marks::FlaggedMarks;
 use crate::mark::{
     OwnChange, better, changed_by, is_same_mark, live_preference, lives_in_programme,
     lives_in_school, lost, wish_at,
 };
-use admit_core::{Dossier, Freed, Mark, OutOfMemory, Stamp, Status, Wish};
+use admit_core::{Dossier, Freed, Mark, OutOfMemory, Stamp, Wish};
 use std::alloc::Global;
 use std::marker::Model;
 
@@ -27,7 +28,7 @@ use std::marker::Model;
 #[derive(Drop)]
 pub struct CountedMarks<'d> {
     dossier: &'d Dossier,
-    marks: Vec<Mark>,
+    marks: FlaggedMarks,
     seats: Vec<u32>,
     beds: Vec<u32>,
     in_programmes: Bundles,
@@ -40,9 +41,9 @@ impl<'d> Model for CountedMarks<'d> {
 
     ghost Value = { State };
 
-    ghost view = { λ s. record { dossier = s.dossier.now; marks = s.marks.items } };
+    ghost view = { λ s. record { dossier = s.dossier.now; marks = s.marks } };
 
-    ghost invariant = { λ s. KeepsCounts (record { dossier = s.dossier.now; marks = s.marks.items })
+    ghost invariant = { λ s. KeepsCounts (record { dossier = s.dossier.now; marks = s.marks })
         s.seats.items s.beds.items s.in_programmes.numbers.value s.in_programmes.live.items
         s.in_schools.numbers.value s.in_schools.live.items };
 }
@@ -61,7 +62,7 @@ impl<'d> CountedMarks<'d> {
         let wishes = dossier.wishes.as_slice();
         let programmes = dossier.programmes.len();
         let schools = dossier.schools.len();
-        let marks = waiting_marks(alloc, wishes.len())?;
+        let marks = FlaggedMarks::all_waiting(alloc, wishes.len())?;
         let seats = zeros(alloc, programmes)?;
         let beds = zeros(alloc, schools)?;
         let firsts = firsts_of(alloc, wishes, order, programmes, schools)?;
@@ -83,7 +84,7 @@ impl<'d> CountedMarks<'d> {
     {
         Ok(CountedMarks {
             dossier: self.dossier,
-            marks: self.marks.as_slice().to_vec(alloc)?,
+            marks: self.marks.copy(alloc)?,
             seats: self.seats.as_slice().to_vec(alloc)?,
             beds: self.beds.as_slice().to_vec(alloc)?,
             in_programmes: self.in_programmes.copy(alloc)?,
@@ -96,7 +97,7 @@ impl<'d> CountedMarks<'d> {
         requires { self.old.dossier ≡ other.now.dossier }
         ensures { self.new ≡ other.now }
     {
-        copy_marks(&mut self.marks, &other.marks);
+        self.marks.set_from(&other.marks);
         copy_counts(&mut self.seats, &other.seats);
         copy_counts(&mut self.beds, &other.beds);
         self.in_programmes.set_from(&other.in_programmes);
@@ -107,7 +108,14 @@ impl<'d> CountedMarks<'d> {
     pub fn marks(&self) -> &[Mark]
         ensures { result.now ≡ self.now.marks }
     {
-        self.marks.as_slice()
+        self.marks.marks()
+    }
+
+    /// Whether each wish waits, by place.
+    pub fn waits(&self) -> &[bool]
+        ensures { result.now ≡ map is_waiting self.now.marks }
+    {
+        self.marks.waits()
     }
 
     /// The mark of a wish.
@@ -115,7 +123,7 @@ impl<'d> CountedMarks<'d> {
         requires { wish < length self.now.marks }
         ensures { result ≡ mark_in self.now.marks wish }
     {
-        self.marks[wish as usize]
+        self.marks.get(wish)
     }
 
     /// The number of candidates who are live in a programme.
@@ -149,7 +157,7 @@ impl<'d> CountedMarks<'d> {
         let dossier = self.dossier;
         any_in_programme(
             dossier.wishes.as_slice(),
-            self.marks.as_slice(),
+            self.marks.marks(),
             own,
             programme,
         )
@@ -161,12 +169,7 @@ impl<'d> CountedMarks<'d> {
         ensures { result ≡ holds_bed self.now candidate school }
     {
         let dossier = self.dossier;
-        any_in_school(
-            dossier.wishes.as_slice(),
-            self.marks.as_slice(),
-            own,
-            school,
-        )
+        any_in_school(dossier.wishes.as_slice(), self.marks.marks(), own, school)
     }
 
     /// Whether a wish's candidate is live in its programme.
@@ -194,7 +197,7 @@ impl<'d> CountedMarks<'d> {
         ensures { result ≡ option_map (λ x. x.0.preference) (best_live self.now candidate) }
     {
         let dossier = self.dossier;
-        best_among(dossier.wishes.as_slice(), self.marks.as_slice(), own)
+        best_among(dossier.wishes.as_slice(), self.marks.marks(), own)
     }
 
     /// Changes all wishes of a candidate, and counts what that frees; `own` has their places.
@@ -253,11 +256,11 @@ impl<'d> CountedMarks<'d> {
     {
         let dossier = self.dossier;
         let named = wish_at(dossier.wishes.as_slice(), wish);
-        let was_live = self.marks[wish as usize].is_live();
+        let was_live = self.marks.get(wish).is_live();
         let lives = mark.is_live();
         let seat = self.in_programmes.turn(wish, was_live, lives);
         let bed = self.in_schools.turn(wish, was_live, lives);
-        self.marks[wish as usize] = mark;
+        self.marks.set(wish, mark);
         recount(&mut self.seats, named.programme, seat.had, seat.has);
         recount_some(&mut self.beds, named.school, bed.had, bed.has);
         Freed {
@@ -291,23 +294,6 @@ fn best_among(wishes: &[Wish], marks: &[Mark], own: &[u32]) -> Option<u32>
     own.iter().fold(None, |best, place| {
         better(best, live_preference(wishes, marks, *place))
     })
-}
-
-fn waiting_marks(alloc: Global, count: usize) -> Result<Vec<Mark>, OutOfMemory>
-    ensures { IfOk result (λ v. v.items ≡ replicate count waiting_mark) }
-{
-    let mark = Mark {
-        status: Status::Waiting,
-        stamp: Stamp { day: 0, pass: 0 },
-    };
-    Ok(vec![in alloc; mark; count]?)
-}
-
-fn copy_marks(marks: &mut Vec<Mark>, from: &Vec<Mark>)
-    requires { length marks.old.items ≡ length from.now.items }
-    ensures { marks.new.items ≡ from.now.items }
-{
-    marks.as_mut_slice().copy_from_slice(from.as_slice());
 }
 
 /// Whether one of a candidate's own wishes is live in a programme.

@@ -1,5 +1,5 @@
 //! The state of a dossier's wishes on a day.
-ghost use Rattle.std.specs.Prelude.{◌≡◌, ◌<◌, ◌≤◌, ◌^◌, length, ◌↔◌, IfOk, IsOk, IsTrue, ◌&&◌, All, pos, slice_index_or};
+ghost use Rattle.std.specs.Prelude.{◌≡◌, ◌<◌, ◌≤◌, ◌^◌, length, map, ◌↔◌, IfOk, IsOk, IsTrue, ◌&&◌, All, pos, slice_index_or};
 ghost use Rattle.admit_core.specs.declared.state.Status.TheVariants.{Offered, Accepted};
 ghost use Rattle.admit_core.specs.declared.dossier.AnswerKind.TheVariants.{Accept, Quit};
 ghost use Rattle.admit_core.specs.State.{State, with_mark_at, holds_seat, holds_bed, seat_holders, bed_holders, is_live, is_waiting, changed_to};
@@ -105,6 +105,13 @@ impl<'d> DayState<'d> {
         ensures one_each { length result.now ≡ length self.now.dossier.wishes }
     {
         self.live.marks()
+    }
+
+    /// Whether each wish waits, by place.
+    pub fn waits(&self) -> &[bool]
+        ensures { result.now ≡ map is_waiting self.now.marks }
+    {
+        self.live.waits()
     }
 
     /// At most one wish of each candidate is accepted. The call does nothing.

@@ -9,6 +9,7 @@ mod bundles;
 mod counted_marks;
 mod counts;
 mod day;
+mod flagged_marks;
 mod index;
 mod laws;
 mod mark;

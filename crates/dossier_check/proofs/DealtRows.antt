@@ -4,6 +4,7 @@ use Rattle.std.proofs.Common.{get_or, None, refl, sym, ap, ◌∙◌, subst, ari
 use Prim.Native.Nat.{zero}
 use Rattle.std.specs.List.{IsDistinct, AllByRecursion}
 use Rattle.std.proofs.lemmas.Bool.Decides.{nat_tests}
+use Rattle.std.proofs.lemmas.List.{get_or-map}
 use Rattle.std.proofs.lemmas.List.Sorted.{IsPermutation-sym, IsPermutation-map}
 use Rattle.std.proofs.lemmas.Map.Keys.{IsDistinct-IsPermutation, IsDistinct-head, IsDistinct-tail}
 use Rattle.admit_core.specs.declared.refusal.Reason.TheVariants.{Repeat, RankTaken, Unknown}
@@ -15,11 +16,12 @@ use Rattle.admit_core.specs.declared.ranking.RankGroup.{RankGroup}
 use Rattle.admit_core.specs.Faults.{first_in}
 use Rattle.admit_core.specs.Lists.{is_among, sorted_by}
 use Rattle.admit_core.specs.Relations.{ranking_tests, group_ids}
-use Rattle.admit_core.specs.Standing.{group_of_row, ranked_in, ranked_row}
+use Rattle.admit_core.specs.Standing.{group_of_row, place_of, ranked_in, ranked_row}
 use Rattle.dossier_check.specs.declared.ranks.Dealt.{Dealt}
-use Rattle.dossier_check.specs.Dealt.{AreDealt, HasItsGroup}
+use Rattle.dossier_check.specs.Dealt.{AreDealt, HasItsGroup, places_in}
 use Rattle.std.proofs.lemmas.Simd.{map-map}
-use Rattle.dossier_check.proofs.Places.{nat_eq_sound}
+use Rattle.dossier_check.proofs.Firsts.{length-map-here}
+use Rattle.dossier_check.proofs.Places.{nat_eq_sound, there_within}
 use Rattle.admit_core.proofs.SortedLists.{IsPermutation-sorted_by}
 use Rattle.admit_core.proofs.Plain.{nat_eq_sym}
 use Rattle.admit_core.proofs.NoFaults.{no_tests, and_then, none_in, differ, all_known}
@@ -142,3 +144,12 @@ no_rank_fault t dealt is known candidates ranks =
     (and_then (all_known (λ row. is_among row.group ids) (Unknown 1) t.rankings known)
     (and_then (differ (λ row r. nat_eq row.group r.group && nat_eq row.rank r.rank) RankTaken t.rankings places)
     no_tests)))
+
+-- rows whose groups have places have them
+pub all_there : (groups : List ℕ) (rows : List RankRow)
+    → All (λ place. place < length groups) (places_in groups rows) → All (HasItsGroup groups) rows
+all_there groups rows below k d lt =
+    let place : RankRow → ℕ = λ r. place_of groups r.group in
+    there_within groups (get_or rows k d).group
+    (subst (λ p. p < length groups) (get_or-map place rows k d 0 lt)
+    (below k 0 (omega (arith, lt, length-map-here place rows))))

@@ -1,6 +1,7 @@
 -- What a check of several slots answers.
 use Rattle.std.proofs.Common.{◌≡◌, Option, None, Some, Result, Ok, Err, IsErr, IsErrAnd, refl, ap, ◌∙◌}
 use Rattle.std.specs.Option.{option_or}
+use Rattle.std.specs.Prelude.{OnErr}
 use Rattle.std.proofs.lemmas.Bool.{false≢true}
 use Rattle.admit_core.specs.declared.refusal.Refusal.{Refusal}
 use Rattle.admit_core.specs.declared.refusal.InFault.{InFault}
@@ -10,7 +11,7 @@ use Rattle.admit_core.specs.declared.tables.Tables.{Tables}
 use Rattle.admit_core.specs.Faults.{first_in}
 use Rattle.admit_core.specs.Relations.{first_fault, group_tests, programme_tests, school_tests, ranking_tests}
 use Rattle.admit_core.specs.Relations.{boarding_tests}
-use Rattle.dossier_check.specs.Outcome.{AnswersFault, first_in_named, first_in_ranks, first_from_wishes}
+use Rattle.dossier_check.specs.Outcome.{AnswersFault, MayLack, first_in_named, first_in_ranks, first_from_wishes}
 
 -- after a slot without a fault, the first fault is that of the others
 pub after_none : {A : Type 0} (result : Result A InFault) (fault rest : Option Refusal) → fault ≡ None
@@ -38,6 +39,23 @@ pub out_of_memory : {B : Type 0} (result : Result B InFault) (fault : Option Ref
     → IsErrAnd result (λ x. x ≡ OutOfMemory) → AnswersFault result fault
 out_of_memory (Ok b) fault err = absurd err
 out_of_memory (Err x) fault err = rw err tt
+
+-- what an error tells, and what follows from it
+pub on_err_of : {T E P Q : Type 0} (r : Result T E) → (P → Q) → OnErr r P → OnErr r Q
+on_err_of (Ok x) more p = tt
+on_err_of (Err e) more p = more p
+
+-- what takes memory may lack some
+pub may_lack : {B T : Type 0} (result : Result B InFault) → T → MayLack T result
+may_lack (Ok b) takes = tt
+may_lack (Err (Refused refusal)) takes = tt
+may_lack (Err OutOfMemory) takes = takes
+
+-- what takes none lacks none
+pub lacks_none : {B T : Type 0} (result : Result B InFault) → (T → ⊥) → MayLack T result → MayLack ⊥ result
+lacks_none (Ok b) none lack = tt
+lacks_none (Err (Refused refusal)) none lack = tt
+lacks_none (Err OutOfMemory) none lack = none lack
 
 -- the first of three and then of others
 three_then : (a b c rest : Option Refusal)

@@ -1,5 +1,5 @@
 -- Where the first that passes a test stands, and which one it is.
-use Rattle.std.proofs.Common.{◌≡◌, ℕ, ◌<◌, suc, Bool, true, false, nat_eq, nat_lt, List, [], ◌∷◌, length, get_or, find}
+use Rattle.std.proofs.Common.{◌≡◌, ℕ, ◌<◌, ◌≤◌, suc, Bool, true, false, nat_eq, nat_lt, List, [], ◌∷◌, length, get_or, find}
 use Rattle.std.proofs.Common.{position, Some, unwrap_or, refl, sym, ap, ◌∙◌, arith}
 use Rattle.std.specs.List.{list_any, position_or_len}
 use Rattle.std.proofs.lemmas.Bool.Decides.{nat_tests}
@@ -87,3 +87,24 @@ module _ (ids : List ℕ) where
   pub same_place : (a b : ℕ) → is_among a ids ≡ true → is_among b ids ≡ true → place_of ids a ≡ place_of ids b → a ≡ b
   same_place a b known_a known_b same = sym (at_place a 0 known_a) ∙ ap (λ i. get_or ids i 0) same
       ∙ at_place b 0 known_b
+
+  -- a place within is that of an id that is there, and past the end there is none
+  pub placed_within : (id place : ℕ) → place ≡ place_of ids id → place < length ids
+      → position (nat_eq id) ids ≡ Some place
+  placed_within id place same lt =
+      let within : nat_lt (place_of ids id) (length ids) ≡ true = grind (arith, nat_tests) in
+      rw within (ap Some (sym same))
+
+  pub none_past : (id : ℕ) → length ids ≤ place_of ids id → is_among id ids ≡ false
+  none_past id past = by (is_among id ids) refl
+    where
+      by : (b : Bool) → is_among id ids ≡ b → is_among id ids ≡ false
+      by true there = absurd (omega (arith, past, place_within id there))
+      by false none = none
+
+  pub there_within : (id : ℕ) → place_of ids id < length ids → is_among id ids ≡ true
+  there_within id lt = by (is_among id ids) refl
+    where
+      by : (b : Bool) → is_among id ids ≡ b → is_among id ids ≡ true
+      by true there = there
+      by false none = absurd (omega (arith, lt, none_passes (nat_eq id) ids none))

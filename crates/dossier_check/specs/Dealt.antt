@@ -7,7 +7,7 @@ use Rattle.admit_core.specs.declared.ranking.Ranked.{Ranked}
 use Rattle.admit_core.specs.declared.ranking.RankGroup.{RankGroup}
 use Rattle.admit_core.specs.Lists.{is_among, sorted_by}
 use Rattle.admit_core.specs.Relations.{group_ids}
-use Rattle.admit_core.specs.Standing.{group_of_row, ranked_in}
+use Rattle.admit_core.specs.Standing.{group_of_row, place_of, ranked_in}
 use Rattle.dossier_check.specs.declared.ranks.Dealt.{Dealt}
 use Rattle.dossier_check.specs.declared.who_is_ranked.WhoIsRanked.{WhoIsRanked}
 
@@ -28,6 +28,10 @@ built g list =
       resident_pct = g.resident_pct;
       list = sorted_by (λ r. r.rank) list;
     }
+
+-- the places of the groups of rows; the number of groups where a row's group is none of them
+abbrev pub places_in : List ℕ → List RankRow → List ℕ
+places_in groups rows = map (λ r. place_of groups r.group) rows
 
 -- the group of a row is there
 abbrev pub HasItsGroup : List ℕ → RankRow → Type 0

@@ -1,5 +1,5 @@
 -- What a check answers.
-use Rattle.std.specs.Prelude.{◌≡◌, [], ◌∷◌, Option, Some, None, Result, Ok, Err}
+use Rattle.std.specs.Prelude.{◌≡◌, [], ◌∷◌, Option, Some, None, Result, Ok, Err, ⊤}
 use Rattle.admit_core.specs.declared.refusal.Refusal.{Refusal}
 use Rattle.admit_core.specs.declared.refusal.InFault.{InFault}
 use Rattle.admit_core.specs.declared.refusal.InFault.TheVariants.{Refused, OutOfMemory}
@@ -14,6 +14,12 @@ abbrev pub AnswersFault : {A : Type 0} → Result A InFault → Option Refusal �
 AnswersFault (Ok a) fault = fault ≡ None
 AnswersFault (Err (Refused refusal)) fault = fault ≡ Some refusal
 AnswersFault (Err OutOfMemory) fault = Unit {0}
+
+-- want of memory comes only where memory is taken
+abbrev pub MayLack : {A : Type 0} → Type 0 → Result A InFault → Type 0
+MayLack takes (Ok a) = ⊤
+MayLack takes (Err (Refused refusal)) = ⊤
+MayLack takes (Err OutOfMemory) = takes
 
 -- the first fault of the groups, the programmes and the schools
 unfoldable pub first_in_named : Tables → Option Refusal

@@ -4,7 +4,7 @@ ghost use Rattle.indexmap.specs.IndexMap.{get};
 ghost use Rattle.admit_core.specs.declared.slot.Slot.TheVariants as slots;
 ghost use Rattle.admit_core.specs.Faults.{first_in};
 ghost use Rattle.admit_core.specs.Relations.{answer_tests, wish_ids};
-ghost use Rattle.dossier_check.specs.Outcome.{AnswersFault};
+ghost use Rattle.dossier_check.specs.Outcome.{AnswersFault, MayLack};
 ghost use Rattle.dossier_check.specs.Seen.{AreFirstWishes};
 
 use crate::day_falls::{DayFalls, ItsDay};
@@ -54,7 +54,7 @@ impl<'a> RowTest<AnswerRow> for TargetUnknown<'a> {
     ghost has_seen = { λ c before. (c.wishes.now.keys ≡ wish_ids c.tables.now)
         × AreFirstWishes (get nat_eq c.candidates.now) c.tables.now.wishes };
 
-    ghost takes_memory = { λ c. ⊥ };
+    ghost takes_memory = { ⊥ };
 
     fn stands(&mut self, row: &AnswerRow, _number: u64) -> Result<Option<Reason>, OutOfMemory> {
         if self.knows(row) {
@@ -73,8 +73,9 @@ pub(crate) fn check_answers<'a>(
     requires wishes { wishes.now.keys ≡ wish_ids tables.now }
     requires candidates { AreFirstWishes (get nat_eq candidates.now) tables.now.wishes }
     requires small { length tables.now.answers < 2 ^ 32 }
-    ensures { AnswersFault result
+    ensures fault { AnswersFault result
         (first_in slots.Answers (answer_tests tables.now) tables.now.answers) }
+    ensures memory { MayLack ⊥ result }
 {
     let mut checks = Then {
         first: TargetUnknown {

@@ -47,7 +47,7 @@ impl<R, Q: HasDay<R>> RowTest<R> for DayFalls<Q> {
 
     ghost has_seen = { λ c before. IsLastDay Q.day before c.last };
 
-    ghost takes_memory = { λ c. ⊥ };
+    ghost takes_memory = { ⊥ };
 
     fn stands(&mut self, row: &R, _number: u64) -> Result<Option<Reason>, OutOfMemory> {
         let day = self.rule.day_of(row);

@@ -1,9 +1,9 @@
 //! The candidates of each group, sorted by rank.
 ghost use Rattle.std.specs.Prelude.{◌≡◌, ◌<◌, ◌++◌, ◌∷◌, [], OnOk, IfOk, List, map, slice_set, slice_index_or, length};
-ghost use Rattle.admit_core.specs.Standing.{ranked_in, group_of_row};
+ghost use Rattle.admit_core.specs.Standing.{ranked_in, group_of_row, place_of};
 ghost use Rattle.admit_core.specs.Lists.{sorted_by};
 ghost use Rattle.admit_core.specs.Relations.{group_ids};
-ghost use Rattle.dossier_check.specs.Dealt.{built};
+ghost use Rattle.dossier_check.specs.Dealt.{built, places_in};
 
 use crate::row_ids::RowIds;
 use admit_core::{GroupRow, OutOfMemory, RankGroup, RankRow, Ranked, Sequence, Tables};
@@ -33,25 +33,22 @@ pub(crate) fn add(
     Ok(())
 }
 
-/// Counts a row for its group.
-fn count_row(rooms: &mut [usize], groups: &RowIds, row: &RankRow, near: &mut usize)
+/// Counts a row for its group, which stands at this place.
+fn count_row(rooms: &mut [usize], place: u32)
     ensures { length rooms.new ≡ length rooms.old }
 {
-    if let Some(place) = groups.find_near(row.group, near) {
-        if let Some(room) = rooms.get_mut(place) {
-            *room = room.saturating_add(1);
-        }
+    if let Some(room) = rooms.get_mut(place as usize) {
+        *room = room.saturating_add(1);
     }
 }
 
 /// How much room the list of each group is to have, by the groups' places: as many as it has rows.
-fn rooms_of(alloc: Global, rankings: &[RankRow], groups: &RowIds) -> Result<Vec<usize>, OutOfMemory>
-    ensures { IfOk result (λ rooms. length rooms.items ≡ length groups.now.keys) }
+fn rooms_of(alloc: Global, places: &[u32], groups: usize) -> Result<Vec<usize>, OutOfMemory>
+    ensures { IfOk result (λ rooms. length rooms.items ≡ groups) }
 {
-    let mut rooms = vec![in alloc; 0; groups.len()]?;
-    let mut near = 0;
-    for row in rankings {
-        count_row(rooms.as_mut_slice(), groups, row, &mut near);
+    let mut rooms = vec![in alloc; 0; groups]?;
+    for place in places {
+        count_row(rooms.as_mut_slice(), *place);
     }
     Ok(rooms)
 }
@@ -77,33 +74,33 @@ fn empty_lists(
 /// An empty list for each group, with room for its rows.
 fn roomy_lists(
     alloc: Global,
-    rankings: &[RankRow],
     groups: &RowIds,
+    places: &[u32],
 ) -> Result<Vec<Vec<Ranked>>, OutOfMemory>
     ensures { IfOk result (λ lists.
         map (λ l. l.items) lists.items ≡ map (ranked_in []) groups.now.keys) }
 {
-    let rooms = rooms_of(alloc, rankings, groups)?;
+    let rooms = rooms_of(alloc, places, groups.len())?;
     empty_lists(alloc, groups, rooms.as_slice())
 }
 
-/// Adds a candidate to the list of their group. `near` has the place of the group of the row
-/// before: the rows of a group mostly stand together.
+/// Adds a candidate to the list of their group, which stands at this place.
 pub(crate) fn lay_row(
     lists: &mut Vec<Vec<Ranked>>,
     groups: &RowIds,
     row: &RankRow,
-    near: &mut usize,
+    place: u32,
 ) -> Result<(), OutOfMemory>
-    requires { length lists.old.items ≡ length groups.now.keys }
+    requires lists { length lists.old.items ≡ length groups.now.keys }
+    requires place { place ≡ place_of groups.now.keys row.now.group }
     ensures laid { (rows : List RankRow) →
         map (λ l. l.items) lists.old.items ≡ map (ranked_in rows) groups.now.keys →
         OnOk result (map (λ l. l.items) lists.new.items
         ≡ map (ranked_in (rows ++ row.now ∷ [])) groups.now.keys) }
     ensures len { OnOk result (length lists.new.items ≡ length lists.old.items) }
 {
-    let _ = groups.len();
-    if let Some(place) = groups.find_near(row.group, near) {
+    let place = place as usize;
+    if place < groups.len() {
         add(
             lists,
             place,
@@ -124,14 +121,15 @@ pub(crate) fn ranked_lists(
     alloc: Global,
     rankings: &[RankRow],
     groups: &RowIds,
+    places: &[u32],
 ) -> Result<Vec<Vec<Ranked>>, OutOfMemory>
+    requires { places.now ≡ places_in groups.now.keys rankings.now }
     ensures { IfOk result (λ lists.
         map (λ l. l.items) lists.items ≡ map (ranked_in rankings.now) groups.now.keys) }
 {
-    let mut lists = roomy_lists(alloc, rankings, groups)?;
-    let mut near = 0;
-    for row in rankings {
-        lay_row(&mut lists, groups, row, &mut near)?;
+    let mut lists = roomy_lists(alloc, groups, places)?;
+    for (number, row) in rankings.iter().enumerate() {
+        lay_row(&mut lists, groups, row, places[number])?;
     }
     Ok(lists)
 }

@@ -5,13 +5,14 @@ ghost use Rattle.admit_core.specs.declared.slot.Slot.TheVariants as slots;
 ghost use Rattle.admit_core.specs.Faults.{first_in};
 ghost use Rattle.admit_core.specs.Lists.{sorted_by};
 ghost use Rattle.admit_core.specs.Relations.{ranking_tests, group_ids};
-ghost use Rattle.dossier_check.specs.Dealt.{AreDealt, HasItsGroup, ascending_candidates};
+ghost use Rattle.dossier_check.specs.Dealt.{AreDealt, ascending_candidates, places_in};
 ghost use Rattle.dossier_check.specs.Outcome.{AnswersFault};
 
 use crate::groups::{rank_groups, ranked_lists};
+use crate::placed::{all_below, places_in};
 use crate::row_ids::RowIds;
 use crate::slots::find_rank_fault;
-use admit_core::{InFault, OutOfMemory, RankGroup, RankRow, Ranked, Tables};
+use admit_core::{InFault, OutOfMemory, RankGroup, Ranked, Tables};
 use std::alloc::Global;
 
 /// The rankings by the places of their groups, and the ids of each one's candidates, ascending.
@@ -102,25 +103,18 @@ fn candidates_apart(lists: &[Vec<u32>]) -> bool
     true
 }
 
-/// Whether each row's group is there.
-fn groups_known(rows: &[RankRow], groups: &RowIds) -> bool
-    ensures { result ≡ true → All (HasItsGroup groups.now.keys) rows.now }
-{
-    let mut near = 0;
-    for row in rows {
-        if !groups.contains_near(row.group, &mut near) {
-            return false;
-        }
-    }
-    true
-}
-
 /// Deals out the rankings.
-fn deal(alloc: Global, tables: &Tables, groups: &RowIds) -> Result<Dealt, OutOfMemory>
-    requires { groups.now.keys ≡ group_ids tables.now }
+fn deal(
+    alloc: Global,
+    tables: &Tables,
+    groups: &RowIds,
+    places: &[u32],
+) -> Result<Dealt, OutOfMemory>
+    requires groups { groups.now.keys ≡ group_ids tables.now }
+    requires places { places.now ≡ places_in (group_ids tables.now) tables.now.rankings }
     ensures { IfOk result (AreDealt tables.now) }
 {
-    let lists = ranked_lists(alloc, tables.rankings.as_slice(), groups)?;
+    let lists = ranked_lists(alloc, tables.rankings.as_slice(), groups, places)?;
     let candidates = candidate_lists(alloc, lists.as_slice())?;
     let rankings = rank_groups(alloc, tables, lists)?;
     Ok(Dealt {
@@ -130,13 +124,14 @@ fn deal(alloc: Global, tables: &Tables, groups: &RowIds) -> Result<Dealt, OutOfM
 }
 
 /// Whether the dealt rankings show that no row has a fault.
-fn shows_no_fault(tables: &Tables, groups: &RowIds, dealt: &Dealt) -> bool
+fn shows_no_fault(tables: &Tables, groups: &RowIds, places: &[u32], dealt: &Dealt) -> bool
     requires groups { groups.now.keys ≡ group_ids tables.now }
+    requires places { places.now ≡ places_in (group_ids tables.now) tables.now.rankings }
     requires dealt { AreDealt tables.now dealt.now }
     ensures { result ≡ true →
         first_in slots.Rankings (ranking_tests tables.now) tables.now.rankings ≡ None }
 {
-    if !groups_known(tables.rankings.as_slice(), groups) {
+    if !all_below(places, groups.len()) {
         return false;
     }
     if !candidates_apart(dealt.candidates.as_slice()) {
@@ -150,12 +145,14 @@ fn shows_no_fault(tables: &Tables, groups: &RowIds, dealt: &Dealt) -> bool
 pub(crate) fn check_ranks(alloc: Global, tables: &Tables, groups: &RowIds) -> Result<Dealt, InFault>
     requires groups { groups.now.keys ≡ group_ids tables.now }
     requires small { length tables.now.rankings < 2 ^ 32 }
+    requires few { length (group_ids tables.now) < 2 ^ 32 }
     ensures fault { AnswersFault result
         (first_in slots.Rankings (ranking_tests tables.now) tables.now.rankings) }
     ensures dealt { IfOk result (AreDealt tables.now) }
 {
-    let dealt = deal(alloc, tables, groups)?;
-    if shows_no_fault(tables, groups, &dealt) {
+    let places = places_in(alloc, tables.rankings.as_slice(), groups)?;
+    let dealt = deal(alloc, tables, groups, places.as_slice())?;
+    if shows_no_fault(tables, groups, places.as_slice(), &dealt) {
         return Ok(dealt);
     }
     find_rank_fault(alloc, tables, groups)?;

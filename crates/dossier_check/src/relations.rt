@@ -5,10 +5,11 @@ ghost use Rattle.admit_core.specs.Relations.{first_fault, group_ids, programme_i
 ghost use Rattle.admit_core.specs.Standing.{dossier_of, group_of_row, wish_of_row, status_of_row, ceiling_of_row, answer_of_row};
 ghost use Rattle.admit_core.specs.Validity.{IsValid};
 ghost use Rattle.dossier_check.specs.Dates.{dates_of};
-ghost use Rattle.dossier_check.specs.Dealt.{AreDealt, HasItsGroup, SaysWhoIsRanked};
+ghost use Rattle.dossier_check.specs.Dealt.{AreDealt, HasItsGroup};
 ghost use Rattle.dossier_check.specs.Hashing.{numbers_of};
 ghost use Rattle.dossier_check.specs.Ids.{ids_of};
 ghost use Rattle.dossier_check.specs.Keys.{AreKeysOf};
+ghost use Rattle.dossier_check.specs.Known.{IsKnown};
 ghost use Rattle.dossier_check.specs.Outcome.{AnswersFault, first_in_named, first_in_ranks, first_from_wishes};
 ghost use Rattle.dossier_check.specs.Seen.{boarded_pairs};
 ghost use Rattle.keyed_hash.specs.Keys.{keyed_by};
@@ -18,6 +19,7 @@ use crate::dates::{Dates, dates_of};
 use crate::hashing::hashing_of;
 use crate::index::Index;
 use crate::items::{Keys, answers_of, ceilings_of, programmes_of, schools_of, wishes_of};
+use crate::known::Known;
 use crate::ranks::{Dealt, check_ranks};
 use crate::row_ids::RowIds;
 use crate::rules::OwnId;
@@ -46,23 +48,18 @@ pub struct Checked {
 /// Tests the slots from the wishes on, and answers what the wishes and the statuses are found by.
 fn check_wishes_on<'a>(
     alloc: Global,
-    keyed: Keyed,
     tables: &'a Tables,
-    programmes: &'a RowIds,
-    schools: &'a RowIds,
-    ranked: WhoIsRanked<'a>,
-    boarding: &'a IndexSet<(u32, u32), Keyed>,
+    known: Known<'a>,
 ) -> Result<(RowIds, RowIds), InFault>
-    requires programmes { programmes.now.keys ≡ programme_ids tables.now }
-    requires schools { schools.now.keys ≡ school_ids tables.now }
-    requires ranked { SaysWhoIsRanked tables.now ranked }
-    requires boarding { boarding.now.keys ≡ boarded_pairs tables.now }
+    requires known { IsKnown tables.now known }
     requires ranges { AreTables tables.now }
     ensures fault { AnswersFault result (first_from_wishes tables.now) }
     ensures wishes { IfOk result (λ keys. keys.0.keys ≡ wish_ids tables.now) }
     ensures state { IfOk result (λ keys. keys.1.keys ≡ map (λ s. s.wish) tables.now.state) }
 {
-    let wishes = check_wishes(alloc, keyed, tables, programmes, schools, ranked, boarding)?;
+    let keyed = known.keyed;
+    let schools = known.schools;
+    let wishes = check_wishes(alloc, tables, known)?;
     let state = check_state(alloc, keyed, tables, &wishes.ids)?;
     check_ceilings(alloc, keyed, tables, schools)?;
     check_answers(tables, &wishes.ids, &wishes.firsts)?;
@@ -206,15 +203,14 @@ fn check_slots(alloc: Global, tables: &Tables) -> Result<(Keys, Vec<RankGroup>),
         groups: &named.groups,
         candidates: ranks.dealt.candidates.as_slice(),
     };
-    let (wishes, state) = check_wishes_on(
-        alloc,
+    let known = Known {
         keyed,
-        tables,
-        &named.programmes,
-        &named.schools,
+        programmes: &named.programmes,
+        schools: &named.schools,
         ranked,
-        &ranks.boarding,
-    )?;
+        boarded: &ranks.boarding,
+    };
+    let (wishes, state) = check_wishes_on(alloc, tables, known)?;
     let (rankings, boarding) = ranks.into_parts();
     Ok((named.into_keys(boarding, wishes, state), rankings))
 }

@@ -231,13 +231,6 @@ impl RowIds {
         self.get_index_of(id).is_some()
     }
 
-    /// Whether an id is there. It's looked for first where `near` says, which becomes its place.
-    pub(crate) fn contains_near(&self, id: u32, near: &mut usize) -> bool
-        ensures { result ≡ list_any (nat_eq id) self.now.keys }
-    {
-        self.find_near(id, near).is_some()
-    }
-
     /// The number of ids.
     pub(crate) fn len(&self) -> usize
         ensures len { result ≡ length self.now.keys }

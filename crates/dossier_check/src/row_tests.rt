@@ -1,5 +1,5 @@
 //! Tests of rows, each on its own, and lists of them.
-ghost use Rattle.std.specs.Prelude.{◌≡◌, ℕ, List, [], ◌∷◌, ◌++◌, Option, option_map, length, IfOk, OnErr, map, true};
+ghost use Rattle.std.specs.Prelude.{◌≡◌, ◌⊎◌, ℕ, List, [], ◌∷◌, ◌++◌, Option, option_map, length, IfOk, OnErr, map, true};
 ghost use Rattle.std.specs.Option.{option_map_or};
 ghost use Rattle.admit_core.specs.declared.refusal.Reason.TheVariants as reasons;
 ghost use Rattle.admit_core.specs.Faults.{Test, row_number, first_reason, repeats, names_unknown};
@@ -22,7 +22,7 @@ pub(crate) trait RowTest<R> {
     ghost has_seen: { Self → List R → Type 0 };
 
     /// That the test takes memory, and so may run out of it.
-    ghost takes_memory: { Self → Type 0 };
+    ghost takes_memory: { Type 0 };
 
     /// The reason, where the test stands at the next row.
     fn stands(&mut self, row: &R, number: u64) -> Result<Option<Reason>, OutOfMemory>
@@ -32,7 +32,7 @@ pub(crate) trait RowTest<R> {
             ≡ row_number (length before) →
             IfOk result (λ reason. reason ≡ None → has_seen self.new (before ++ row.now ∷ [])) }
         ensures same_test { test self.new ≡ test self.old }
-        ensures memory { OnErr result (takes_memory self.old) };
+        ensures memory { OnErr result takes_memory };
 }
 
 /// No test.
@@ -43,6 +43,8 @@ impl<R> RowChecks<R> for NoTest {
     ghost tests = { λ c. [] };
 
     ghost has_seen = { λ c before. Unit {0} };
+
+    ghost takes_memory = { ⊥ };
 
     fn next(&mut self, _row: &R, _number: u64) -> Result<Option<Reason>, OutOfMemory> {
         Ok(None)
@@ -60,6 +62,8 @@ impl<R, A: RowTest<R>, B: RowChecks<R>> RowChecks<R> for Then<A, B> {
     ghost tests = { λ c. A.test c.first ∷ B.tests c.rest };
 
     ghost has_seen = { λ c before. A.has_seen c.first before × B.has_seen c.rest before };
+
+    ghost takes_memory = { A.takes_memory ⊎ B.takes_memory };
 
     fn next(&mut self, row: &R, number: u64) -> Result<Option<Reason>, OutOfMemory> {
         if let Some(reason) = self.first.stands(row, number)? {
@@ -83,7 +87,7 @@ impl<R, T: RowTest<R>> RowTest<R> for Unless<T> {
 
     ghost has_seen = { λ c before. c.is_known ≡ false → T.has_seen c.test before };
 
-    ghost takes_memory = { λ c. T.takes_memory c.test };
+    ghost takes_memory = { T.takes_memory };
 
     fn stands(&mut self, row: &R, number: u64) -> Result<Option<Reason>, OutOfMemory> {
         if self.is_known {
@@ -150,7 +154,7 @@ impl<R, K: Hash + Eq + Copy + Drop, Q: Key<R, K>> RowTest<R> for Repeats<K, Q> {
 
     ghost has_seen = { λ c before. c.keys.keys ≡ map Q.key before };
 
-    ghost takes_memory = { λ c. Unit {0} };
+    ghost takes_memory = { Unit {0} };
 
     fn stands(&mut self, row: &R, _number: u64) -> Result<Option<Reason>, OutOfMemory> {
         match note(&mut self.keys, &self.rule, row)? {
@@ -176,7 +180,7 @@ impl<R, Q: Key<R, u32>> RowTest<R> for RepeatsId<Q> {
 
     ghost has_seen = { λ c before. c.ids.keys ≡ map Q.key before };
 
-    ghost takes_memory = { λ c. Unit {0} };
+    ghost takes_memory = { Unit {0} };
 
     fn stands(&mut self, row: &R, _number: u64) -> Result<Option<Reason>, OutOfMemory> {
         match self.ids.note(self.alloc, self.keyed, &self.rule, row)? {
@@ -208,7 +212,7 @@ impl<'a, R, Q: Names<R>> RowTest<R> for NamesUnknown<'a, Q> {
 
     ghost has_seen = { λ c before. Unit {0} };
 
-    ghost takes_memory = { λ c. ⊥ };
+    ghost takes_memory = { ⊥ };
 
     fn stands(&mut self, row: &R, _number: u64) -> Result<Option<Reason>, OutOfMemory> {
         if let Some(id) = self.rule.named_by(row) {

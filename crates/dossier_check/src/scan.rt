@@ -1,7 +1,7 @@
 //! The rows of a slot, tested in turn.
-ghost use Rattle.std.specs.Prelude.{◌≡◌, List, [], ◌∷◌, ◌++◌, ◌<◌, ◌^◌, length, IfOk, OnOk};
+ghost use Rattle.std.specs.Prelude.{◌≡◌, List, [], ◌∷◌, ◌++◌, ◌<◌, ◌^◌, length, IfOk, OnErr, OnOk};
 ghost use Rattle.admit_core.specs.Faults.{Test, row_number, first_reason, first_in};
-ghost use Rattle.dossier_check.specs.Outcome.{AnswersFault};
+ghost use Rattle.dossier_check.specs.Outcome.{AnswersFault, MayLack};
 
 use admit_core::{InFault, OutOfMemory, Reason, Refusal, Slot};
 
@@ -12,6 +12,9 @@ pub(crate) trait RowChecks<R> {
 
     ghost has_seen: { Self → List R → Type 0 };
 
+    /// That some test takes memory, so that it may lack some.
+    ghost takes_memory: { Type 0 };
+
     /// Tests the next row, which has this number, and answers the reason of the first test that
     /// stands.
     fn next(&mut self, row: &R, number: u64) -> Result<Option<Reason>, OutOfMemory>
@@ -20,7 +23,8 @@ pub(crate) trait RowChecks<R> {
         ensures seen { (before : List R) → has_seen self.old before → number
             ≡ row_number (length before) →
             IfOk result (λ reason. reason ≡ None → has_seen self.new (before ++ row.now ∷ [])) }
-        ensures same_tests { tests self.new ≡ tests self.old };
+        ensures same_tests { tests self.new ≡ tests self.old }
+        ensures memory { OnErr result takes_memory };
 }
 
 /// Tests rows in turn, and refuses the first at which a test stands.
@@ -33,6 +37,7 @@ pub(crate) fn scan<R, C: RowChecks<R>>(
     requires fresh { C.has_seen checks.old [] }
     ensures fault { AnswersFault result (first_in slot (C.tests checks.old) rows.now) }
     ensures seen { OnOk result (C.has_seen checks.new rows.now) }
+    ensures memory { MayLack C.takes_memory result }
 {
     for (place, row) in rows.iter().enumerate() {
         let number = place as u64 + 2;
@@ -58,6 +63,7 @@ pub(crate) fn scanned<R, C: RowChecks<R> + Drop>(
     requires fresh { C.has_seen checks [] }
     ensures fault { AnswersFault result (first_in slot (C.tests checks) rows.now) }
     ensures seen { IfOk result (λ seen. C.has_seen seen rows.now) }
+    ensures memory { MayLack C.takes_memory result }
 {
     scan(slot, &mut checks, rows)?;
     Ok(checks)

@@ -62,7 +62,7 @@ impl<'a> RowTest<StateRow> for TwoAccepted<'a> {
     ghost has_seen = { λ c before. (c.wishes.now.keys ≡ wish_ids c.tables.now)
         × AreFirstRows (is_accepted_of c.tables.now) (get nat_eq c.rows) before };
 
-    ghost takes_memory = { λ c. Unit {0} };
+    ghost takes_memory = { Unit {0} };
 
     fn stands(&mut self, row: &StateRow, number: u64) -> Result<Option<Reason>, OutOfMemory> {
         let Some(candidate) = self.accepting_candidate(row) else {

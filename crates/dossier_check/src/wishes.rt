@@ -3,18 +3,19 @@ ghost use Rattle.std.specs.Prelude.{◌≡◌, ◌<◌, ◌^◌, ◌&&◌, ℕ, 
 ghost use Rattle.indexmap.specs.IndexMap.{get};
 ghost use Rattle.admit_core.specs.declared.slot.Slot.TheVariants as slots;
 ghost use Rattle.admit_core.specs.Faults.{first_in};
-ghost use Rattle.admit_core.specs.Relations.{wish_tests, programme_ids, school_ids, wish_ids};
+ghost use Rattle.admit_core.specs.Relations.{wish_tests, wish_ids};
 ghost use Rattle.dossier_check.specs.Chained.{past_two};
-ghost use Rattle.dossier_check.specs.Dealt.{SaysWhoIsRanked};
 ghost use Rattle.dossier_check.specs.Hashing.{numbers_of_wishes};
+ghost use Rattle.dossier_check.specs.Known.{IsKnown};
 ghost use Rattle.dossier_check.specs.Outcome.{AnswersFault};
 ghost use Rattle.dossier_check.specs.Pairs.{pair_eq};
 ghost use Rattle.dossier_check.specs.WishTests.{tests_unless};
-ghost use Rattle.dossier_check.specs.Seen.{boarded_pairs, has_preference, AreFirstRows, AreFirstWishes, IsLastCandidate};
+ghost use Rattle.dossier_check.specs.Seen.{has_preference, AreFirstRows, AreFirstWishes, IsLastCandidate};
 ghost use Rattle.keyed_hash.specs.Keys.{keyed_by};
 
 use crate::apart::{Apart, shown_apart};
 use crate::hashing::hashing_of_wishes;
+use crate::known::Known;
 use crate::noted::{FirstWish, note_first, placed_row_of};
 use crate::row_ids::RowIds;
 use crate::row_tests::{NamesUnknown, NoTest, Repeats, RepeatsId, RowTest, Shared, Then, Unless};
@@ -44,7 +45,7 @@ impl<'a> RowTest<WishRow> for Unranked<'a> {
     ghost has_seen = { λ c before. (c.programmes.now.keys ≡ programme_ids c.tables.now)
         × SaysWhoIsRanked c.tables.now c.ranked };
 
-    ghost takes_memory = { λ c. ⊥ };
+    ghost takes_memory = { ⊥ };
 
     fn stands(&mut self, row: &WishRow, _number: u64) -> Result<Option<Reason>, OutOfMemory> {
         let programmes = self.tables.programmes.as_slice();
@@ -79,7 +80,7 @@ impl<'a> RowTest<WishRow> for NoBoardingRank<'a> {
 
     ghost has_seen = { λ c before. c.boarded.now.keys ≡ boarded_pairs c.tables.now };
 
-    ghost takes_memory = { λ c. ⊥ };
+    ghost takes_memory = { ⊥ };
 
     fn stands(&mut self, row: &WishRow, _number: u64) -> Result<Option<Reason>, OutOfMemory> {
         if let Some(school) = row.school {
@@ -170,7 +171,7 @@ impl RowTest<WishRow> for PreferenceMixed {
     ghost has_seen = { λ c before. AreFirstWishes (get nat_eq c.firsts) before
         × IsLastCandidate (get nat_eq c.firsts) c.last };
 
-    ghost takes_memory = { λ c. Unit {0} };
+    ghost takes_memory = { Unit {0} };
 
     fn stands(&mut self, row: &WishRow, number: u64) -> Result<Option<Reason>, OutOfMemory> {
         let own = FirstWish {
@@ -208,7 +209,7 @@ impl RowTest<WishRow> for PreferenceTaken {
 
     ghost has_seen = { λ c before. AreFirstRows has_preference (get pair_eq c.rows) before };
 
-    ghost takes_memory = { λ c. Unit {0} };
+    ghost takes_memory = { Unit {0} };
 
     fn stands(&mut self, row: &WishRow, number: u64) -> Result<Option<Reason>, OutOfMemory> {
         if row.preference == 0 {
@@ -346,24 +347,24 @@ fn keys_in(tests: WishTests<'_>) -> WishKeys
 /// The tests of wishes, before the first row.
 fn fresh_tests<'a>(
     alloc: Global,
-    keyed: Keyed,
     apart: Apart,
     tables: &'a Tables,
-    programmes: &'a RowIds,
-    schools: &'a RowIds,
-    ranked: WhoIsRanked<'a>,
-    boarded: &'a IndexSet<(u32, u32), Keyed>,
+    known: Known<'a>,
 ) -> Result<WishTests<'a>, OutOfMemory>
-    requires programmes { programmes.now.keys ≡ programme_ids tables.now }
-    requires schools { schools.now.keys ≡ school_ids tables.now }
-    requires ranked { SaysWhoIsRanked tables.now ranked }
-    requires boarded { boarded.now.keys ≡ boarded_pairs tables.now }
+    requires { IsKnown tables.now known }
     ensures fresh { IfOk result (λ tests.
         ⟦<WishTests<'a> as RowChecks<WishRow>>⟧.has_seen tests []) }
     ensures tests { IfOk result (λ tests.
         ⟦<WishTests<'a> as RowChecks<WishRow>>⟧.tests tests
         ≡ tests_unless apart.wishes apart.preferences tables.now) }
 {
+    let Known {
+        keyed,
+        programmes,
+        schools,
+        ranked,
+        boarded,
+    } = known;
     let rows = tables.wishes.as_slice();
     let by_wish = hashing_by(keyed, apart, rows);
     let (own_ids, near) = wish_rooms(
@@ -423,17 +424,10 @@ fn fresh_tests<'a>(
 /// Checks the wishes.
 pub(crate) fn check_wishes<'a>(
     alloc: Global,
-    keyed: Keyed,
     tables: &'a Tables,
-    programmes: &'a RowIds,
-    schools: &'a RowIds,
-    ranked: WhoIsRanked<'a>,
-    boarded: &'a IndexSet<(u32, u32), Keyed>,
+    known: Known<'a>,
 ) -> Result<WishKeys, InFault>
-    requires programmes { programmes.now.keys ≡ programme_ids tables.now }
-    requires schools { schools.now.keys ≡ school_ids tables.now }
-    requires ranked { SaysWhoIsRanked tables.now ranked }
-    requires boarded { boarded.now.keys ≡ boarded_pairs tables.now }
+    requires known { IsKnown tables.now known }
     requires small { length tables.now.wishes < 2 ^ 32 }
     ensures fault { AnswersFault result
         (first_in slots.Wishes (wish_tests tables.now) tables.now.wishes) }
@@ -443,8 +437,6 @@ pub(crate) fn check_wishes<'a>(
 {
     let rows = tables.wishes.as_slice();
     let apart = shown_apart(alloc, rows)?;
-    let tests = fresh_tests(
-        alloc, keyed, apart, tables, programmes, schools, ranked, boarded,
-    )?;
+    let tests = fresh_tests(alloc, apart, tables, known)?;
     Ok(keys_in(scanned(Slot::Wishes, tests, rows)?))
 }

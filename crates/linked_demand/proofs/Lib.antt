@@ -1,7 +1,7 @@
 -- Reading order. Each file says in its first line what it shows.
 -- Tools: Keeping, Keyed, Dealing, Putting, PlaceOrder, Marked, Counting.
 -- The lineup: CalledRows, ClaimSpans, Seating, Lining, Lined.
--- Open wishes and flags: Opens, LeftOpen, Falling, Closing, Flagging, Waiting, AnyOpen, MaybeSure,
+-- Open wishes and flags: Opens, Falling, Closing, Flagging, Waiting, AnyOpen, MaybeSure,
 -- Boarding, Askings.
 -- How far seats reach: Reach, Leaving; the proposed wishes: Walking, Fronting, Listing, Fronted.
 -- Rows of the schools: Filling, Items, RowSteps, RowFronts, Demanded, Naming.
@@ -31,7 +31,6 @@ pub mod Items
 pub mod Keeping
 pub mod Keyed
 pub mod Leaving
-pub mod LeftOpen
 pub mod Lined
 pub mod Lining
 pub mod Listing

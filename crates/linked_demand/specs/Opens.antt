@@ -9,20 +9,12 @@ use Rattle.admit_core.specs.declared.ranking.CallOrder.{CallOrder}
 use Rattle.admit_core.specs.DossierRows.{DossierRows}
 use Rattle.admit_core.specs.State.{State, entries, is_waiting, holds_seat, holds_bed, has_school, seats_left}
 use Rattle.admit_core.specs.Proposals.{is_open, order_of, before, needs_no_seat}
-use Rattle.day_state.specs.Kept.{has_seat_there, mark_in}
+use Rattle.day_state.specs.Kept.{has_seat_there}
 use Rattle.linked_demand.specs.Line.{LineRow}
 
 -- the open wishes under bars
 abbrev pub opens_of : State → List ℕ → List Bool
 opens_of s bars = map (λ (w, m). is_open s bars w m) (entries s)
-
--- the wish at a place waits, and is not closed by its flag
-abbrev pub is_left_open : List Mark → List Bool → ℕ → Bool
-is_left_open marks closed k = is_waiting (mark_in marks k) && not (slice_index_or closed k false)
-
--- for each wish
-abbrev pub left_open : List Mark → List Bool → List Bool
-left_open marks closed = map (is_left_open marks closed) (range_with_len 0 (length marks))
 
 -- the entries with their flags
 abbrev pub flagged : State → List Bool → List ((Wish × Mark) × Bool)

@@ -16,7 +16,7 @@ fn stops_by_closing(
     claim: &[u32],
     beside: &[u32],
     cursors: &mut Cursors,
-    opens: &mut OpenWishes<'_, '_>,
+    opens: &mut OpenWishes,
     wish: u32,
 ) -> bool
     requires wish { wish < length opens.old }
@@ -37,7 +37,7 @@ pub fn leaves_by_closing(
     claims: &Claims,
     beside: &[u32],
     cursors: &mut Cursors,
-    opens: &mut OpenWishes<'_, '_>,
+    opens: &mut OpenWishes,
     item: RowWish,
     reached: usize,
 ) -> bool

@@ -15,7 +15,7 @@ pub struct Cursors {
 }
 
 /// The place of the first open wish of a claim from a place on, or how many there are.
-fn next_open(opens: &OpenWishes<'_, '_>, claim: &[u32], from: usize) -> usize
+fn next_open(opens: &OpenWishes, claim: &[u32], from: usize) -> usize
     requires claim { All (λ k. k < length opens.now) claim.now }
     requires from { from ≤ length claim.now }
     ensures open { nat_lt result (length claim.now)
@@ -66,7 +66,7 @@ impl Cursors {
     }
 
     /// Whether a wish of a claim is open.
-    fn is_any_open(&mut self, opens: &OpenWishes<'_, '_>, beside: &[u32], claim: &[u32]) -> bool
+    fn is_any_open(&mut self, opens: &OpenWishes, beside: &[u32], claim: &[u32]) -> bool
         requires { All (λ k. k < length opens.now) claim.now }
         ensures { result ≡ list_any (λ k. slice_index_or opens.now k false) claim.now }
     {
@@ -84,7 +84,7 @@ impl Cursors {
     pub fn wants_seat(
         &mut self,
         is_live: bool,
-        opens: &OpenWishes<'_, '_>,
+        opens: &OpenWishes,
         beside: &[u32],
         claim: &[u32],
     ) -> bool

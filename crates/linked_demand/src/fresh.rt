@@ -19,7 +19,7 @@ use std::sync::ledger::Ledger;
 fn is_fresh(
     state: &DayState<'_>,
     bars: &[u32],
-    opens: &OpenWishes<'_, '_>,
+    opens: &OpenWishes,
     early: &[bool],
     wish: u32,
 ) -> bool
@@ -46,7 +46,7 @@ fn mark(marked: &mut Marks, school: Option<u32>)
 pub fn note_fresh<L: Ledger>(
     state: &DayState<'_>,
     bars: &[u32],
-    opens: &OpenWishes<'_, '_>,
+    opens: &OpenWishes,
     early: &[bool],
     claim: &[u32],
     marked: &mut Marks,

@@ -13,12 +13,7 @@ use admit_core::OutOfMemory;
 use day_state::DayState;
 
 /// Whether the wish at a place is open and needs no seat.
-fn is_sure_open(
-    state: &DayState<'_>,
-    opens: &OpenWishes<'_, '_>,
-    early: &[bool],
-    place: u32,
-) -> bool
+fn is_sure_open(state: &DayState<'_>, opens: &OpenWishes, early: &[bool], place: u32) -> bool
     requires place { place < length state.now.dossier.wishes }
     requires opens { length opens.now ≡ length state.now.dossier.wishes }
     requires early { length early.now ≡ length state.now.dossier.wishes }
@@ -30,7 +25,7 @@ fn is_sure_open(
 /// Lists those of some wishes that are open and need no seat.
 pub fn list_sure(
     state: &DayState<'_>,
-    opens: &OpenWishes<'_, '_>,
+    opens: &OpenWishes,
     early: &[bool],
     wishes: &[u32],
     found: &mut Vec<u32>,
@@ -50,11 +45,7 @@ pub fn list_sure(
 }
 
 /// Lists those wishes of a claim that are open.
-fn list_claim(
-    opens: &OpenWishes<'_, '_>,
-    claim: &[u32],
-    found: &mut Vec<u32>,
-) -> Result<(), OutOfMemory>
+fn list_claim(opens: &OpenWishes, claim: &[u32], found: &mut Vec<u32>) -> Result<(), OutOfMemory>
     requires { All (λ k. k < length opens.now) claim.now }
     ensures { OnOk result (ListsAlso (λ k. is_among k claim.now && slice_index_or opens.now k false)
         found.old.items found.new.items) }
@@ -69,7 +60,7 @@ fn list_claim(
 
 /// Lists the open wishes of the first claims of a line.
 fn list_front(
-    opens: &OpenWishes<'_, '_>,
+    opens: &OpenWishes,
     claims: &Claims,
     reached: usize,
     found: &mut Vec<u32>,
@@ -87,7 +78,7 @@ fn list_front(
 
 /// Lists the open wishes of the claims that are reached, in each line.
 pub fn list_fronts(
-    opens: &OpenWishes<'_, '_>,
+    opens: &OpenWishes,
     lines: &[Claims],
     reached: &[usize],
     found: &mut Vec<u32>,

@@ -14,7 +14,7 @@ use day_state::DayState;
 
 /// Whether the wish at a place is open, by its flag, and its candidate is not live in its
 /// programme.
-fn is_wanting(state: &DayState<'_>, opens: &OpenWishes<'_, '_>, place: u32) -> bool
+fn is_wanting(state: &DayState<'_>, opens: &OpenWishes, place: u32) -> bool
     requires place { place < length state.now.dossier.wishes }
     requires opens { length opens.now ≡ length state.now.dossier.wishes }
     ensures { result ≡ wanting_at state.now opens.now place }
@@ -23,7 +23,7 @@ fn is_wanting(state: &DayState<'_>, opens: &OpenWishes<'_, '_>, place: u32) -> b
 }
 
 /// Whether one with this claim wants a seat.
-fn wants_seat(state: &DayState<'_>, opens: &OpenWishes<'_, '_>, claim: &[u32]) -> bool
+fn wants_seat(state: &DayState<'_>, opens: &OpenWishes, claim: &[u32]) -> bool
     requires claim { All (λ k. k < length state.now.dossier.wishes) claim.now }
     requires opens { length opens.now ≡ length state.now.dossier.wishes }
     ensures { result ≡ list_any (wanting_at state.now opens.now) claim.now }
@@ -33,7 +33,7 @@ fn wants_seat(state: &DayState<'_>, opens: &OpenWishes<'_, '_>, claim: &[u32]) -
 
 /// Whether one with this claim wants a seat, where an open wish that stands alone needs one: it is
 /// then not asked who is live.
-fn wants_alone(state: &DayState<'_>, opens: &OpenWishes<'_, '_>, claim: &[u32]) -> bool
+fn wants_alone(state: &DayState<'_>, opens: &OpenWishes, claim: &[u32]) -> bool
     requires claim { All (λ k. k < length state.now.dossier.wishes) claim.now }
     requires opens { length opens.now ≡ length state.now.dossier.wishes }
     requires alone { NeedsSeatAlone state.now opens.now claim.now }
@@ -48,12 +48,7 @@ fn wants_alone(state: &DayState<'_>, opens: &OpenWishes<'_, '_>, claim: &[u32]) 
 
 /// How many places of a line are reached: those with fewer who want a seat before them than there
 /// are seats.
-pub fn reach_of(
-    state: &DayState<'_>,
-    opens: &OpenWishes<'_, '_>,
-    claims: &Claims,
-    seats: usize,
-) -> usize
+pub fn reach_of(state: &DayState<'_>, opens: &OpenWishes, claims: &Claims, seats: usize) -> usize
     requires claims { AreBelow (length state.now.dossier.wishes) claims.now }
     requires opens { length opens.now ≡ length state.now.dossier.wishes }
     requires alone { AllNeedSeatAlone state.now opens.now claims.now }
@@ -74,12 +69,7 @@ pub fn reach_of(
 
 /// How many places there are up to and with the first one, from a place on, that wants a seat; or
 /// all of them.
-pub fn next_wanting(
-    state: &DayState<'_>,
-    opens: &OpenWishes<'_, '_>,
-    claims: &Claims,
-    from: usize,
-) -> usize
+pub fn next_wanting(state: &DayState<'_>, opens: &OpenWishes, claims: &Claims, from: usize) -> usize
     requires from { from ≤ length claims.now }
     requires claims { AreBelow (length state.now.dossier.wishes) claims.now }
     requires opens { length opens.now ≡ length state.now.dossier.wishes }
@@ -100,7 +90,7 @@ pub fn next_wanting(
 /// The last place that is reached, where it was not reached before and wants a seat.
 pub fn last_wanting(
     state: &DayState<'_>,
-    opens: &OpenWishes<'_, '_>,
+    opens: &OpenWishes,
     claims: &Claims,
     before: usize,
     reached: usize,

@@ -47,12 +47,12 @@ fn is_behind(state: &DayState<'_>, bars: &[u32], boarder: Boarder) -> bool
 
 /// The open wishes under bars: of those that wait only the wishes with a school are asked for its
 /// bar.
-fn open_under<'a, 'd>(
+fn open_under(
     alloc: Global,
-    state: &'a DayState<'d>,
+    state: &DayState<'_>,
     boarders: &[Boarder],
     bars: &[u32],
-) -> Result<OpenWishes<'a, 'd>, OutOfMemory>
+) -> Result<OpenWishes, OutOfMemory>
     requires boarders { AreBoarders state.now.dossier boarders.now }
     requires bars { length bars.now ≡ length state.now.dossier.schools }
     ensures flags { IfOk result (λ o. o ≡ opens_of state.now bars.now) }
@@ -89,7 +89,7 @@ fn is_seated(reached: bool, sure: bool) -> bool
 pub struct SeatLinks<'a, 'd> {
     state: &'a DayState<'d>,
     orders: &'a CallOrders,
-    opens: OpenWishes<'a, 'd>,
+    opens: OpenWishes,
     lineup: &'a Lineup,
     reached: Vec<usize>,
     cursors: Cursors,

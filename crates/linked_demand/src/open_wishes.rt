@@ -1,71 +1,40 @@
 //! Which wishes are open.
-ghost use Rattle.std.specs.Prelude.{◌≡◌, ◌<◌, ◌&&◌, false, not, length, replicate, map, slice_index_or, slice_set, IfOk};
+ghost use Rattle.std.specs.Prelude.{◌≡◌, ◌<◌, ◌&&◌, false, not, length, map, slice_index_or, slice_set, IfOk};
 ghost use Rattle.admit_core.specs.State.{is_waiting};
 
-use admit_core::{Mark, OutOfMemory};
+use admit_core::OutOfMemory;
 use day_state::DayState;
 use std::alloc::Global;
 use std::marker::Model;
 
-/// Whether each wish is open, by place: it waits, and is not closed. The state is asked who waits
-/// as one asks here, so that nobody is looked at before.
-pub struct OpenWishes<'a, 'd> {
-    state: &'a DayState<'d>,
-    closed: Vec<bool>,
+/// Whether each wish is open, by place: it waits, and is not closed.
+#[derive(Drop)]
+pub struct OpenWishes {
+    open: Vec<bool>,
 }
 
-// Not derived: so they are dropped in one step where they are held.
-impl Drop for OpenWishes<'_, '_> {
-    fn drop(self) {
-        let OpenWishes {
-            state: _,
-            closed: _,
-        } = self;
-    }
-}
-
-impl<'a, 'd> Model for OpenWishes<'a, 'd> {
-    ghost use Rattle.std.specs.Prelude.{◌≡◌, List, Bool, length};
-    ghost use Rattle.linked_demand.specs.Opens.{left_open};
+impl Model for OpenWishes {
+    ghost use Rattle.std.specs.Prelude.{List, Bool};
 
     ghost Value = { List Bool };
 
-    ghost view = { λ o. left_open o.state.now.marks o.closed.items };
-
-    ghost invariant = { λ o. length o.closed.items ≡ length o.state.now.marks };
+    ghost view = { λ o. o.open.items };
 }
 
-/// Whether a wish with this mark is open that is closed or not.
-fn is_left(mark: Mark, closed: bool) -> bool
-    ensures { result ≡ (is_waiting mark && not closed) }
-{
-    mark.is_waiting() && !closed
-}
-
-/// So many flags, of which none is set.
-fn no_flags(alloc: Global, count: usize) -> Result<Vec<bool>, OutOfMemory>
-    ensures { IfOk result (λ v. v.items ≡ replicate count false) }
-{
-    Ok(vec![in alloc; false; count]?)
-}
-
-impl<'a, 'd> OpenWishes<'a, 'd> {
+impl OpenWishes {
     /// All wishes that wait.
-    pub fn all_waiting(
-        alloc: Global,
-        state: &'a DayState<'d>,
-    ) -> Result<OpenWishes<'a, 'd>, OutOfMemory>
+    pub fn all_waiting(alloc: Global, state: &DayState<'_>) -> Result<OpenWishes, OutOfMemory>
         ensures { IfOk result (λ o. o ≡ map is_waiting state.now.marks) }
     {
-        let closed = no_flags(alloc, state.marks().len())?;
-        Ok(OpenWishes { state, closed })
+        let open = state.waits().to_vec(alloc)?;
+        Ok(OpenWishes { open })
     }
 
     /// How many wishes there are, open or not.
     pub fn count(&self) -> usize
         ensures { result ≡ length self.now }
     {
-        self.closed.len()
+        self.open.len()
     }
 
     /// Whether a wish is open.
@@ -73,8 +42,7 @@ impl<'a, 'd> OpenWishes<'a, 'd> {
         requires { place < length self.now }
         ensures { result ≡ slice_index_or self.now place false }
     {
-        let mark = self.state.marks()[place as usize];
-        is_left(mark, self.closed[place as usize])
+        self.open[place as usize]
     }
 
     /// Closes a wish.
@@ -82,7 +50,7 @@ impl<'a, 'd> OpenWishes<'a, 'd> {
         requires { place < length self.old }
         ensures { self.new ≡ slice_set self.old place false }
     {
-        self.closed[place as usize] = true;
+        self.open[place as usize] = false;
     }
 
     /// Closes a wish where its candidate is behind the bar of its school.

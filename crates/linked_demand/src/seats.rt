@@ -45,7 +45,7 @@ pub fn reached_of(
     state: &DayState<'_>,
     orders: &CallOrders,
     lineup: &Lineup,
-    opens: &OpenWishes<'_, '_>,
+    opens: &OpenWishes,
 ) -> Result<Vec<usize>, OutOfMemory>
     requires lineup { IsLineupOf state.now.dossier orders.now.orders lineup.now }
     requires opens { length opens.now ≡ length state.now.dossier.wishes }

@@ -10,7 +10,7 @@ returns c =
     let t = c.args.tables.now in
     let made = c.in_ok-lists.lists.items in
     let lists : map (λ l. l.items) made ≡ map (ranked_in t.rankings) (group_ids t) =
-    rw (← c.requires, ← c.as_slice.ensures) c.in_ok-lists.ensures in
+    rw (← c.requires.groups, ← c.as_slice.ensures) c.in_ok-lists.ensures in
     record {
       rankings = c.in_ok-rankings.ensures;
       candidates = c.in_ok-candidates.ensures

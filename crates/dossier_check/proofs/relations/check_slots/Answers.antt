@@ -21,12 +21,18 @@ returns-in_err-ranks-clause-fault c =
     (after_none e.result (first_in_named t) _ c.in_ok-named.ensures.fault
     (first_here e.result (first_in_ranks t) _ e.ensures.0 here))
 
-pub check_wishes_on-requires-clause-ranked : goal.check_wishes_on-requires-clause-ranked
-check_wishes_on-requires-clause-ranked c =
+pub check_wishes_on-requires-clause-known : goal.check_wishes_on-requires-clause-known
+check_wishes_on-requires-clause-known c =
     record {
-      groups = c.in_ok-named.ensures.groups;
-      candidates = ap (map (λ l. l.items)) c.as_slice.ensures.value ∙ c.in_ok-ranks.ensures.dealt.candidates;
-      known = c.in_ok-ranks.ensures.known;
+      keyed = c.hashing_of-keyed.ensures;
+      programmes = c.in_ok-named.ensures.programmes;
+      schools = c.in_ok-named.ensures.schools;
+      ranked = record {
+        groups = c.in_ok-named.ensures.groups;
+        candidates = ap (map (λ l. l.items)) c.as_slice.ensures.value ∙ c.in_ok-ranks.ensures.dealt.candidates;
+        known = c.in_ok-ranks.ensures.known;
+      };
+      boarded = c.in_ok-ranks.ensures.boarding;
     }
 
 pub returns-in_err-wishes-clause-fault : goal.returns-in_err-wishes-clause-fault

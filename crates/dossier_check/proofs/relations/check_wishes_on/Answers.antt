@@ -50,7 +50,7 @@ returns-in_err-check_answers-clause-fault c =
     let ceilings : Option Refusal = first_in slots.Ceilings (ceiling_tests t) t.ceilings in
     let answers : Option Refusal = first_in slots.Answers (answer_tests t) t.answers in
     let here : AnswersFault c.from_residual-in_err-check_answers.result answers =
-    handed_on _ _ _ c.from_residual-in_err-check_answers.ensures.1 c.in_err-check_answers.ensures in
+    handed_on _ _ _ c.from_residual-in_err-check_answers.ensures.1 c.in_err-check_answers.ensures.fault in
     after_none c.from_residual-in_err-check_answers.result wishes _ c.in_ok-wishes.ensures.fault
     (after_none c.from_residual-in_err-check_answers.result state _ c.in_ok-state.ensures.fault
     (after_none c.from_residual-in_err-check_answers.result ceilings _ c.in_ok-check_ceilings.ensures
@@ -67,4 +67,4 @@ returns-clause-fault c =
     let answers : Option Refusal = first_in slots.Answers (answer_tests t) t.answers in
     none_then wishes _ c.in_ok-wishes.ensures.fault
     (none_then state _ c.in_ok-state.ensures.fault
-    (none_then ceilings _ c.in_ok-check_ceilings.ensures (none_then answers _ c.in_ok-check_answers.ensures refl)))
+    (none_then ceilings _ c.in_ok-check_ceilings.ensures (none_then answers _ c.in_ok-check_answers.ensures.fault refl)))

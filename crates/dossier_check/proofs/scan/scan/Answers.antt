@@ -2,7 +2,11 @@ use Rattle.std.proofs.Common.{◌≡◌, ◌+◌, take, get_or, sym, ap, ◌∙�
 use Rattle.std.proofs.lemmas.List.{take_more, length-take-le}
 use Rattle.admit_core.specs.Faults.{first_reason}
 use Rattle.dossier_check.proofs.Scans.{found, passed, ended}
+use Rattle.dossier_check.proofs.Outcomes.{may_lack}
 use Rattle.dossier_check.proofs.scan.scan.Goals as goal
+
+pub returns-in_err-reason-clause-memory : goal.returns-in_err-reason-clause-memory
+returns-in_err-reason-clause-memory g c = may_lack _ c.in_err-reason.ensures.memory
 
 pub returns-in-Some-clause-fault : goal.returns-in-Some-clause-fault
 returns-in-Some-clause-fault g c =

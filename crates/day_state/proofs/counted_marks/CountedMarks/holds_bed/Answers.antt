@@ -17,9 +17,9 @@ pub returns : goal.returns
 returns c =
     let wishes : c.as_slice.result.now ≡ c.self.inside.dossier.now.wishes = c.as_slice.ensures
     ∙ ap (λ (d : DossierRows). d.wishes) c.dossier.view_is in
-    let s = state_of c.self.inside.dossier.now c.self.inside.marks.items in
+    let s = state_of c.self.inside.dossier.now c.self.inside.marks in
     let is = c.self.view_is in
     c.any_in_school.ensures
-    ∙ rw (wishes, c.as_slice-2.ensures.value, c.requires, ← ap (λ (s : State). s.dossier) c.self.view_is)
+    ∙ rw (wishes, c.marks.ensures, c.requires, ← ap (λ (s : State). s.dossier) c.self.view_is)
     (own_any (λ w. has_school w c.args.school) s c.args.candidate c.self.invariant.kept.marks)
     ∙ ap (λ (s : State). holds_one (λ w. has_school w c.args.school) s c.args.candidate) c.self.view_is

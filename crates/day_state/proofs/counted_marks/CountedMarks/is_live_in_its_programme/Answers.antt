@@ -7,13 +7,13 @@ use Rattle.day_state.proofs.counted_marks.CountedMarks.is_live_in_its_programme.
 
 pub is_live-requires : goal.is_live-requires
 is_live-requires c =
-    let in_range : c.args.wish < length c.self.inside.marks.items = rw (sym c.self.view_is) at c.requires in
+    let in_range : c.args.wish < length c.self.inside.marks = rw (sym c.self.view_is) at c.requires in
     let has = has_number c.self.invariant.programmes c.self.invariant.kept.marks in_range in
     record { place = has.place; number = has.number }
 
 pub returns : goal.returns
 returns c =
-    let marks = c.self.inside.marks.items in
+    let marks = c.self.inside.marks in
     let in_range : c.args.wish < length marks = rw (sym c.self.view_is) at c.requires in
     let lives : c.is_live-lives.result ≡ is_live (mark_in marks c.args.wish) = c.is_live-lives.ensures
     ∙ ap is_live (c.mark.ensures ∙ ap (λ (s : State). mark_in s.marks c.args.wish) (sym c.self.view_is)) in

@@ -1,17 +1,18 @@
 use Rattle.std.proofs.Common.{◌≡◌, ◌<◌, ◌∙◌, ap, sym, subst, length}
 use Rattle.admit_core.specs.DossierRows.{DossierRows}
+use Rattle.admit_core.specs.State.{is_live}
 use Rattle.admit_core.specs.Validity.{IsValid}
-use Rattle.day_state.proofs.Change.{seat_ready, bed_ready, freed_changed, live_read}
+use Rattle.day_state.proofs.Change.{seat_ready, bed_ready, freed_changed}
 use Rattle.day_state.proofs.Bundled.{can_turn, keeps_changed, seat_turned, bed_turned}
 use Rattle.day_state.proofs.counted_marks.CountedMarks.set_mark.Goals as goal
 
 pub turn-seat-requires : goal.turn-seat-requires
 turn-seat-requires c =
     let d = c.self.inside.dossier.now in
-    let marks = c.self.inside.marks.items in
+    let marks = c.self.inside.marks in
     let in_range : c.args.wish < length marks = rw (sym c.self.view_is) at c.requires in
     let valid : IsValid d = subst IsValid c.dossier.view_is c.dossier.invariant in
-    let was = live_read marks c.args.wish in_range c.index.ensures c.is_live-was_live.ensures in
+    let was = c.is_live-was_live.ensures ∙ ap is_live c.get.ensures in
     let can = can_turn c.self.invariant.programmes c.self.invariant.kept.marks in_range valid.size.wishes c.args.mark
     was c.is_live-lives.ensures in
     record { place = can.has.place; number = can.has.number; comes = can.comes; goes = can.goes }
@@ -19,10 +20,10 @@ turn-seat-requires c =
 pub turn-bed-requires : goal.turn-bed-requires
 turn-bed-requires c =
     let d = c.self.inside.dossier.now in
-    let marks = c.self.inside.marks.items in
+    let marks = c.self.inside.marks in
     let in_range : c.args.wish < length marks = rw (sym c.self.view_is) at c.requires in
     let valid : IsValid d = subst IsValid c.dossier.view_is c.dossier.invariant in
-    let was = live_read marks c.args.wish in_range c.index.ensures c.is_live-was_live.ensures in
+    let was = c.is_live-was_live.ensures ∙ ap is_live c.get.ensures in
     let can = can_turn c.self.invariant.schools c.self.invariant.kept.marks in_range valid.size.wishes c.args.mark
     was c.is_live-lives.ensures in
     record { place = can.has.place; number = can.has.number; comes = can.comes; goes = can.goes }
@@ -30,12 +31,12 @@ turn-bed-requires c =
 pub recount-requires : goal.recount-requires
 recount-requires c =
     let d = c.self.inside.dossier.now in
-    let marks = c.self.inside.marks.items in
+    let marks = c.self.inside.marks in
     let in_range : c.args.wish < length marks = rw (sym c.self.view_is) at c.requires in
     let valid : IsValid d = subst IsValid c.dossier.view_is c.dossier.invariant in
     let wishes : c.as_slice.result.now ≡ d.wishes =
     c.as_slice.ensures ∙ ap (λ (d : DossierRows). d.wishes) c.dossier.view_is in
-    let was = live_read marks c.args.wish in_range c.index.ensures c.is_live-was_live.ensures in
+    let was = c.is_live-was_live.ensures ∙ ap is_live c.get.ensures in
     let seat = seat_turned c.self.invariant in_range c.args.mark was c.is_live-lives.ensures c.turn-seat.ensures.live
     c.turn-seat.ensures.had c.turn-seat.ensures.has in
     let ready = seat_ready valid c.self.invariant.kept in_range c.args.mark in
@@ -48,12 +49,12 @@ recount-requires c =
 pub recount_some-requires : goal.recount_some-requires
 recount_some-requires c =
     let d = c.self.inside.dossier.now in
-    let marks = c.self.inside.marks.items in
+    let marks = c.self.inside.marks in
     let in_range : c.args.wish < length marks = rw (sym c.self.view_is) at c.requires in
     let valid : IsValid d = subst IsValid c.dossier.view_is c.dossier.invariant in
     let wishes : c.as_slice.result.now ≡ d.wishes =
     c.as_slice.ensures ∙ ap (λ (d : DossierRows). d.wishes) c.dossier.view_is in
-    let was = live_read marks c.args.wish in_range c.index.ensures c.is_live-was_live.ensures in
+    let was = c.is_live-was_live.ensures ∙ ap is_live c.get.ensures in
     let bed = bed_turned c.self.invariant in_range c.args.mark was c.is_live-lives.ensures c.turn-bed.ensures.live
     c.turn-bed.ensures.had c.turn-bed.ensures.has in
     let ready = bed_ready valid c.self.invariant.kept in_range c.args.mark in
@@ -66,17 +67,18 @@ recount_some-requires c =
 pub invariant_of-self : goal.invariant_of-self
 invariant_of-self c =
     let d = c.self.inside.dossier.now in
-    let marks = c.self.inside.marks.items in
+    let marks = c.self.inside.marks in
     let in_range : c.args.wish < length marks = rw (sym c.self.view_is) at c.requires in
     let valid : IsValid d = subst IsValid c.dossier.view_is c.dossier.invariant in
     let wishes : c.as_slice.result.now ≡ d.wishes =
     c.as_slice.ensures ∙ ap (λ (d : DossierRows). d.wishes) c.dossier.view_is in
-    let was = live_read marks c.args.wish in_range c.index.ensures c.is_live-was_live.ensures in
+    let was = c.is_live-was_live.ensures ∙ ap is_live c.get.ensures in
     let seat = seat_turned c.self.invariant in_range c.args.mark was c.is_live-lives.ensures c.turn-seat.ensures.live
     c.turn-seat.ensures.had c.turn-seat.ensures.has in
     let bed = bed_turned c.self.invariant in_range c.args.mark was c.is_live-lives.ensures c.turn-bed.ensures.live
     c.turn-bed.ensures.had c.turn-bed.ensures.has in
     rw (
+      c.set.ensures,
       c.recount.ensures,
       c.recount_some.ensures,
       c.wish_at-named.ensures,
@@ -97,13 +99,13 @@ invariant_of-self c =
 pub returns-clause-freed : goal.returns-clause-freed
 returns-clause-freed c =
     let d = c.self.inside.dossier.now in
-    let marks = c.self.inside.marks.items in
+    let marks = c.self.inside.marks in
     let in_range : c.args.wish < length marks = rw (sym c.self.view_is) at c.requires in
     let valid : IsValid d = subst IsValid c.dossier.view_is c.dossier.invariant in
-    let was = live_read marks c.args.wish in_range c.index.ensures c.is_live-was_live.ensures in
+    let was = c.is_live-was_live.ensures ∙ ap is_live c.get.ensures in
     let seat = seat_turned c.self.invariant in_range c.args.mark was c.is_live-lives.ensures c.turn-seat.ensures.live
     c.turn-seat.ensures.had c.turn-seat.ensures.has in
     let bed = bed_turned c.self.invariant in_range c.args.mark was c.is_live-lives.ensures c.turn-bed.ensures.live
     c.turn-bed.ensures.had c.turn-bed.ensures.has in
-    rw (← c.self.view_is, c.lost.ensures, c.lost-2.ensures, seat.0, seat.1, bed.0, bed.1)
+    rw (← c.self.view_is, c.set.ensures, c.lost.ensures, c.lost-2.ensures, seat.0, seat.1, bed.0, bed.1)
     (sym (freed_changed valid c.self.invariant.kept in_range c.args.mark))
