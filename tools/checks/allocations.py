@@ -15,7 +15,7 @@ from random import Random
 from dossier.wording import Words
 
 from .harness import EXAMPLES, scratch, until_told
-from .modes import MODES, NO_CHAIN, Mode, chain_of, known_modes, words_of
+from .modes import MODES, NO_CHAIN, Mode, chain_of, known_modes, mode_named, words_of
 from .runs import Files, Job, Watched, all_jobs, binary, file_of, put, watch
 
 NO_MEMORY = 5
@@ -186,7 +186,8 @@ def arguments() -> Words:
         "examples/two-days and of worked dossiers with the greatest bar and with falls. The answer must be the same, "
         f"or status 5 with a prefix of the text. A mode that shows something {MOST_FOUND} times is left.",
         "Status: 0 nothing found, 1 something found, 2 bad words.")
-    words.add_argument("modes", nargs="*", metavar="MODE", help=f"{', '.join(MODES)}; all where none is named")
+    words.add_argument("modes", nargs="*", type=mode_named, metavar="MODE",
+                       help=f"{', '.join(MODES)}; all where none is named")
     words.add_argument("--every", type=int, default=1, metavar="N", help="tries one request of N")
     return words
 
@@ -194,8 +195,6 @@ def arguments() -> Words:
 def attempts(given: list[str]) -> int:
     parser = arguments()
     asked = parser.of(given)
-    if unknown := [name for name in asked.modes if name not in MODES]:
-        parser.bad(f"no mode {unknown[0]}; the modes are {', '.join(MODES)}")
     if asked.every < 1:
         parser.bad("--every is a number from 1 on")
     with scratch() as place:

@@ -11,7 +11,7 @@ from random import Random
 
 from dossier.slots import SLOTS
 
-from .dossiers import FIRST_DAY, Cell, Dossier, Rows, add_state, distinct_ids, ranks
+from .dossiers import FIRST_DAY, Cell, Dossier, Rows, add_state, distinct_ids, random_wishes, ranks
 
 LIVE = ("offered", "accepted")
 CEILINGS = (0, 3, 6, 12, 2_000_000_000, 2_000_000_000)
@@ -82,16 +82,7 @@ def shuffled(random: Random, rows: Rows) -> Rows:
 def crowded_wishes(random: Random, candidates: list[int], programmes: list[int], schools: list[int]) -> Rows:
     """Most wishes are with boarding, where there is a school."""
     choices = [(programme, school) for programme in programmes for school in [None, *schools]]
-    most, automatic = random.choice((1, 3, 6)), random.choice((0, 0.4, 0.8, 1))
-    asked = [(candidate, choice) for candidate in candidates
-             for choice in random.sample(choices, min(len(choices), random.randint(1, most)))]
-    is_automatic = {candidate: random.random() < automatic for candidate in candidates}
-    numbers = distinct_ids(random, len(asked))
-    preferences = random.sample(range(1, len(asked) + 1), len(asked))
-    rows: Rows = [(number, candidate, programme, school, preference if is_automatic[candidate] else 0)
-                  for number, (candidate, (programme, school)), preference in zip(numbers, asked, preferences)]
-    random.shuffle(rows)
-    return rows
+    return random_wishes(random, candidates, choices, random.choice((1, 3, 6)), random.choice((0, 0.4, 0.8, 1)))
 
 
 def standing(program: str, folder: Path, dossier: Dossier, day: int, deadlines: tuple[str, ...]) -> dict[Cell, str]:

@@ -39,7 +39,7 @@ from dossier.slots import ANSWERS, SLOTS
 
 from .crowded import CEILINGS, crowded_dossier, give_answers
 from .dossiers import FIRST_DAY, Cell, Dossier
-from .harness import EXAMPLES, TOP, Tally, scratch, until_told
+from .harness import EXAMPLES, TOP, Tally, scratch, tell, until_told
 from .runs import Files
 
 MOST_DAYS = 7
@@ -401,10 +401,7 @@ def main() -> int:
     os.fsync = lambda _: None
     tally, begun = Tally(), time.monotonic()
     seen = check_random(tally, program_named(), asked.number, asked.seed)
-    for kind, number in seen.items():
-        print(f"{number:8} {kind}")
-    print(f"in {time.monotonic() - begun:.0f} s\n{tally.passed} passed, {tally.failed} failed")
-    return 0 if tally.failed == 0 else 1
+    return tell(tally, begun, seen.items())
 
 
 if __name__ == "__main__":

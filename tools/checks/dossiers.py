@@ -10,6 +10,7 @@ from dossier.writing import csv_bytes
 
 Cell = int | str | None
 Rows = list[tuple[Cell, ...]]
+Choice = tuple[int, int | None]  # a programme, with a school or without
 FIRST_DAY = date(2026, 6, 2)
 GONE = ("refused", "withdrawn", "quit", "auto_refused", "auto_withdrawn", "lapsed")
 
@@ -61,7 +62,8 @@ def random_dossier(random: Random) -> Dossier:
                         for group in groups for candidate, rank in ranks(random, candidates)]
     rows["boarding"] = [(school, candidate, rank)
                         for school in schools for candidate, rank in ranks(random, candidates)]
-    rows["wishes"] = random_wishes(random, candidates, list(programmes), schools)
+    choices = [(programme, school) for programme in programmes for school in [None, *schools]]
+    rows["wishes"] = random_wishes(random, candidates, choices, most=4, automatic=0.4)
     add_state(random, dossier)
     days = sorted(random.randint(1, 8) for _ in range(3))
     changes = [(day, random.choice(schools), random.randint(0, 12)) for day in days] if schools else []
@@ -75,11 +77,11 @@ def ranks(random: Random, candidates: list[int]) -> list[tuple[int, int]]:
     return list(zip(random.sample(candidates, len(candidates)), places))
 
 
-def random_wishes(random: Random, candidates: list[int], programmes: list[int], schools: list[int]) -> Rows:
-    choices = [(programme, school) for programme in programmes for school in [None, *schools]]
+def random_wishes(random: Random, candidates: list[int], choices: list[Choice], most: int, automatic: float) -> Rows:
+    """Wishes among the choices, at most so many a candidate; such a part of the candidates rank theirs."""
     asked = [(candidate, choice) for candidate in candidates
-             for choice in random.sample(choices, min(len(choices), random.randint(1, 4)))]
-    is_automatic = {candidate: random.random() < 0.4 for candidate in candidates}
+             for choice in random.sample(choices, min(len(choices), random.randint(1, most)))]
+    is_automatic = {candidate: random.random() < automatic for candidate in candidates}
     numbers = distinct_ids(random, len(asked))
     preferences = random.sample(range(1, len(asked) + 1), len(asked))
     rows: Rows = [(number, candidate, programme, school, preference if is_automatic[candidate] else 0)

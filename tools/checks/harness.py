@@ -9,7 +9,7 @@ import sys
 import tempfile
 import time
 import traceback
-from collections.abc import Callable, Iterator
+from collections.abc import Callable, Iterable, Iterator
 from contextlib import contextmanager, suppress
 from dataclasses import dataclass, field
 from pathlib import Path
@@ -52,6 +52,14 @@ class Tally:
             checks()
         except Exception:
             self.check("it runs to its end", False, traceback.format_exc())
+
+
+def tell(tally: Tally, begun: float, counts: Iterable[tuple[str, int]]) -> int:
+    """Says what a longer round met, and how it ended; answers its status."""
+    for kind, number in counts:
+        print(f"{number:8} {kind}")
+    print(f"in {time.monotonic() - begun:.0f} s\n{tally.passed} passed, {tally.failed} failed")
+    return 0 if tally.failed == 0 else 1
 
 
 def until_told(main: Callable[[], int]) -> int:
@@ -107,6 +115,13 @@ def run(*words: str | Path, folder: Path = TOP, given: bytes = b"", environment:
                 os.killpg(call.pid, signal.SIGKILL)
             raise
     return Ended(call.returncode, told or b"", complained.decode(errors="replace"))
+
+
+def executable(path: Path, text: str) -> str:
+    """A program of this text."""
+    path.write_text(text)
+    path.chmod(0o755)
+    return str(path)
 
 
 def stopped_once_begun(number: signal.Signals, wait: float, folder: Path, tool: str, *words: str,

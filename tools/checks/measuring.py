@@ -4,7 +4,7 @@ import csv
 from collections import Counter
 from pathlib import Path
 
-from .harness import TOOLS, Ended, Tally, run, scratch
+from .harness import TOOLS, Ended, Tally, executable, run, scratch
 from .measure import ORDER, WITHOUT_DAYS, surroundings
 from .national import KINDS
 from .timed import maker
@@ -23,12 +23,6 @@ LARGE = 70_000_000
 
 def call(program: str, *words: str, runs: str = "1") -> Ended:
     return run(TOOLS / "measure.sh", "--candidates", *SIZES, "--runs", runs, *words, environment={"PARCOURS": program})
-
-
-def executable(path: Path, text: str) -> str:
-    path.write_text(text)
-    path.chmod(0o755)
-    return str(path)
 
 
 def table(ended: Ended) -> list[list[str]]:

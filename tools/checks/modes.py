@@ -4,6 +4,7 @@ import csv
 import io
 import subprocess
 import sys
+from argparse import ArgumentTypeError
 from collections.abc import Iterator
 from dataclasses import dataclass
 from random import Random
@@ -42,6 +43,13 @@ MODES = {mode.name: mode for mode in (
 )}
 NUMBER_OF_A_SAMPLE = ("--number", "20")
 NO_CHAIN = b"end\n"
+
+
+def mode_named(name: str) -> str:
+    """A word that names a mode."""
+    if name not in MODES:
+        raise ArgumentTypeError(f"no mode {name}; the modes are {', '.join(MODES)}")
+    return name
 
 
 def items(files: Files, slot: str) -> list[str]:

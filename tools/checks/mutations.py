@@ -18,7 +18,7 @@ from dossier.wording import Words
 
 from .harness import scratch, shortened, until_told
 from .judging import LONGEST, OF_INPUT, fault
-from .modes import MODES, Mode, known_modes, turned, words_of
+from .modes import MODES, Mode, known_modes, mode_named, turned, words_of
 from .runs import BAD_WORDS, Job, Watched, all_jobs, put, run_of, watch
 
 MOST_FOUND = 20
@@ -251,7 +251,8 @@ def arguments() -> Words:
         f"{LONGEST:.0f} s of a processor with a status of its input, and a line that names a slot and a row must name "
         f"one that is there. A mode that shows something {MOST_FOUND} times is left.",
         "Status: 0 nothing found, 1 something found, 2 bad words.")
-    words.add_argument("modes", nargs="*", metavar="MODE", help=f"{', '.join(MODES)}; all where none is named")
+    words.add_argument("modes", nargs="*", type=mode_named, metavar="MODE",
+                       help=f"{', '.join(MODES)}; all where none is named")
     words.add_argument("--cuts", action="store_true",
                        help="cuts each slot that a mode reads at each byte, in place of random changes")
     words.add_argument("--words", action="store_true", help="changes the words in place of the slots")
@@ -263,10 +264,7 @@ def arguments() -> Words:
 
 
 def attempts(given: list[str]) -> int:
-    parser = arguments()
-    asked = parser.of(given)
-    if unknown := [name for name in asked.modes if name not in MODES]:
-        parser.bad(f"no mode {unknown[0]}; the modes are {', '.join(MODES)}")
+    asked = arguments().of(given)
     modes, worked = known_modes(asked.modes), all_jobs()
     found = words_round(modes, worked, asked) if asked.words else sum(round_of(mode, worked, asked) for mode in modes)
     print(f"{found} found")

@@ -1,8 +1,8 @@
 """Dossiers of national shape: as the nation's, with any number of candidates.
 
 There is a programme for every 40 candidates, of very different sizes: at a million candidates from 2 seats to many
-thousands, and the best known one is wished for by more than 100,000. Three of ten programmes share a group, all three the
-same one; one of four has a boarding school, and some schools have many programmes. A candidate wishes for up to 19
+thousands, and the best known one is wished for by more than 100,000. Three of ten programmes share a group, all three
+the same one; one of four has a boarding school, and some schools have many programmes. A candidate wishes for up to 19
 programmes, and every third one boards too where they can. A third rank their wishes; a tenth hold a seat, others an
 offer; on days 1 to 3 some accept, refuse or quit, and on day 1 some withdraw a wish. The groups rank by what they
 share, a candidate's merit, and by as much of their own.
@@ -21,7 +21,8 @@ from itertools import accumulate
 from pathlib import Path
 from random import Random
 
-from .shaped import HEADERS, mixed, up_to
+from .samples import HEADERS
+from .shaped import mixed, up_to
 
 KINDS = ("sorted", "shuffled", "gaps")
 LONG_SLOTS = ("rankings", "boarding", "wishes")

@@ -19,7 +19,7 @@ from types import ModuleType
 from dossier.program import program as program_named
 
 from .crowded import Crowd, crowd, other_dossier
-from .harness import EXAMPLES, TOOLS, Tally, run, scratch, until_told
+from .harness import EXAMPLES, TOOLS, Tally, run, scratch, tell, until_told
 from .mutations import CHANGES
 from .reports import MUTATIONS, Case, Lines, first_wrong, offer_changed, run_text, word
 from .runs import all_jobs, put
@@ -246,10 +246,7 @@ def main() -> int:
     counts = check_random(tally, program, asked.random, asked.changes, asked.seed) if asked.random else Counter()
     counts += check_broken(tally, program, asked.broken, asked.seed) if asked.broken else Counter()
     counts += check_large(tally, program, asked.candidates, asked.large, asked.seed) if asked.large else Counter()
-    for kind, number in sorted(counts.items()):
-        print(f"{number:8} {kind}")
-    print(f"in {time.monotonic() - begun:.0f} s\n{tally.passed} passed, {tally.failed} failed")
-    return 0 if tally.failed == 0 else 1
+    return tell(tally, begun, sorted(counts.items()))
 
 
 if __name__ == "__main__":

@@ -6,7 +6,7 @@ import signal
 import subprocess
 from pathlib import Path
 
-from .harness import TOOLS, Ended, Tally, run, scratch, stopped_once_begun
+from .harness import TOOLS, Ended, Tally, executable, run, scratch, stopped_once_begun
 
 WRONG = """#!/bin/sh
 # A program of which each mode is wrong in its own way on most dossiers.
@@ -55,12 +55,6 @@ int main(int count, char **words) {
 
 def call(tool: str, program: str, folder: Path, *words: str, **environment: str) -> Ended:
     return run(TOOLS / tool, *words, folder=folder, environment={"PARCOURS": program, **environment})
-
-
-def executable(path: Path, text: str) -> str:
-    path.write_text(text)
-    path.chmod(0o755)
-    return str(path)
 
 
 def check_small_rounds(tally: Tally, program: str) -> None:

@@ -127,9 +127,15 @@ def check_unreadable(tally: Tally, script: Path) -> None:
             groups.chmod(0)
             told("order", "groups.csv", "Permission denied")
             groups.chmod(0o600)
+
+
+def check_pipe(tally: Tally, script: Path) -> None:
+    with scratch() as place:
+        shutil.copytree(EXAMPLES / "blank", place / "dossier")
+        groups = place / "dossier/groups.csv"
         groups.unlink()
         os.mkfifo(groups)
-        ended = call(script, "order", folder=folder)
+        ended = call(script, "order", folder=place / "dossier")
         tally.check("a pipe", ended.status == 0 and "groups.csv is a named pipe" in ended.complaint, ended)
 
 
@@ -342,7 +348,7 @@ def check_script(tally: Tally) -> None:
     with scratch() as folder:
         script = make_tree(folder)
         call(script)
-        for checks in (check_statuses, check_unreadable, check_folder, check_words, check_small_tools, check_help,
-                       check_long_runs, check_real_program, check_changed_sources):
+        for checks in (check_statuses, check_unreadable, check_pipe, check_folder, check_words, check_small_tools,
+                       check_help, check_long_runs, check_real_program, check_changed_sources):
             tally.run(lambda: checks(tally, script))
     tally.run(lambda: check_long_builds(tally))

@@ -11,17 +11,8 @@ from itertools import count
 from pathlib import Path
 from random import Random
 
-HEADERS = {
-    "groups": "group,scholar_pct,resident_pct",
-    "programmes": "programme,group,seats",
-    "schools": "school,beds,ceiling",
-    "rankings": "group,candidate,rank,scholar,resident",
-    "boarding": "school,candidate,rank",
-    "wishes": "wish,candidate,programme,school,preference",
-    "state": "wish,status",
-    "ceilings": "day,school,ceiling",
-    "answers": "day,kind,target",
-}
+from .samples import HEADERS
+
 CEILING = 1_000_000
 MOST_ID = 2_000_000_000
 PROGRAMMES_OF_A_SCHOOL = 200

@@ -60,7 +60,8 @@ def lines(name: str, program: str, rows: list[int], found: list[Measured]) -> st
     told = []
     for count, one, grow in zip(rows, found, (("", ""), growth(small, large, rows[1] / rows[0]))):
         told.append(f"| {name} | {' '.join(SHAPES[name].words)} | {count} | {one.length / MEGABYTE:.1f} "
-                    f"| {program}{one.ended} | {one.seconds:.2f} | {one.memory / MEGABYTE:.0f} | {grow[0]} | {grow[1]} |")
+                    f"| {program}{one.ended} | {one.seconds:.2f} | {one.memory / MEGABYTE:.0f} "
+                    f"| {grow[0]} | {grow[1]} |")
     return "\n".join(told)
 
 
@@ -88,10 +89,10 @@ def tried(name: str, programs: list[str | None], asked: argparse.Namespace) -> b
 
 
 def arguments() -> Words:
-    words = Words("shapes.sh", "Makes dossiers of extreme shapes, each at two sizes, runs the program on them (and another "
-                  "one in turn, whose text must be the same), and prints a table of processor seconds and peak memory. The "
-                  "last two columns are the growth from the first size to the second, as a power of the rows: 1 is as the "
-                  "rows, 2 their square. A run is never said to take less memory than this script.",
+    words = Words("shapes.sh", "Makes dossiers of extreme shapes, each at two sizes, runs the program on them (and "
+                  "another one in turn, whose text must be the same), and prints a table of processor seconds and peak "
+                  "memory. The last two columns are the growth from the first size to the second, as a power of the "
+                  "rows: 1 is as the rows, 2 their square. A run is never said to take less memory than this script.",
                   f"Shapes: {', '.join(SHAPES)}. Status: 0 all texts are the same, 1 some are not or a run did not end "
                   "well, 2 bad words.")
     words.add_argument("shapes", nargs="*", metavar="SHAPE", help="all where none is named")

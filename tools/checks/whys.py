@@ -5,12 +5,12 @@ from datetime import timedelta
 from pathlib import Path
 from random import Random
 
-from dossier import words_en, words_fr
 from dossier.campaign import next_day
 from dossier.dating import Calendar
 from dossier.explanation import Explanation, OfferedWish, explanation_of
 from dossier.records import kept_days
 from dossier.setting import Deadline, Moment, Setting
+from dossier.telling import LANGUAGES, sentences
 
 from .days import DAYS, grown
 from .dossiers import FIRST_DAY
@@ -91,7 +91,7 @@ def expected(found: Explanation, calendar: Calendar, since: str) -> dict[str, st
         deadline = Deadline(limit, limit <= calendar.today)
     setting = Setting(moment=lambda stamp: Moment(day_of(max(stamp.day, 1)), is_before=stamp.day == 0),
                       deadline=deadline, may_lapse=calendar.today is not None)
-    return {"en": " ".join(words_en.sentences(found, setting)), "fr": " ".join(words_fr.sentences(found, setting))}
+    return {language: " ".join(sentences(found, setting, language)) for language in LANGUAGES}
 
 
 def check_campaigns(tally: Tally, program: str) -> None:

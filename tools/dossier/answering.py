@@ -12,12 +12,12 @@ from . import program
 from .campaign import CALENDAR, Stopped, complaint
 from .cells import IN_ENGLISH, IN_FRENCH
 from .dating import Calendar
-from .explaining import Wish
 from .faults import Faults, Row, shown
 from .messages import (CORRECT_WISH, DONE, FAR_DAY, NAME_TARGET, NAME_WISH, NO_CANDIDATE_NAMED, NO_DATES, NO_TARGET,
                        NO_WISH, NO_WISH_NAMED, NO_WISH_OF, NUMBER_DAY, OTHER_CANDIDATE, PAST_DAY, QUIT_CANDIDATE,
                        REFUSE_IT, TAKE_OUT, TAKE_OUT_WAITING, UNFIT, WITHDRAW_IT)
 from .naming import Names
+from .records import Wish
 from .slots import GREATEST_DAY, SLOTS, Thing
 from .tables import Table
 from .texts import Text

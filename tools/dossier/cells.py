@@ -16,7 +16,7 @@ from .messages import (BECAME_DATE, CORRECT_DATE, CORRECT_NUMBER, CORRECT_RATE, 
                        SIGN_RATE, THOUSANDS, TWO_WORDS, UNKNOWN_WORD, WITHOUT_POINTS, WRITE_DATE, WRITE_FLAG,
                        WRITE_WORD, WRITE_ZERO, ZERO_ID)
 from .slots import GREATEST_NUMBER, Column, Content
-from .texts import Filled
+from .texts import NoReading
 
 BLANKS = " \t\u00a0\u2007\u2009\u202f"
 PLAIN_NUMBER = re.compile(r"[0-9]+")
@@ -77,9 +77,9 @@ IN_ENGLISH = {
     "lapsed": "lapsed",
 }
 IN_FRENCH = {
-    "waiting": "en attente", "offered": "proposition", "accepted": "accepté", "refused": "refusé", "withdrawn": "retiré",
-    "quit": "démission", "auto_refused": "refusé automatiquement", "auto_withdrawn": "retiré automatiquement",
-    "lapsed": "caduc", "accept": "accepter", "refuse": "refuser", "withdraw": "retirer",
+    "waiting": "en attente", "offered": "proposition", "accepted": "accepté", "refused": "refusé",
+    "withdrawn": "retiré", "quit": "démission", "auto_refused": "refusé automatiquement",
+    "auto_withdrawn": "retiré automatiquement", "lapsed": "caduc", "accept": "accepter", "refuse": "refuser", "withdraw": "retirer",
 }
 DOUBTFUL = ("renonce", "renoncer", "renoncement", "renonciation")
 
@@ -98,13 +98,8 @@ class Rates(Enum):
     FRACTION = "fraction"
 
 
-class Unclear(Exception):
-    """A cell without exactly one reading: what is wrong, and what to do."""
-
-    def __init__(self, what: Filled, to_do: Filled):
-        super().__init__(what)
-        self.what = what
-        self.to_do = to_do
+class Unclear(NoReading):
+    """A cell without exactly one reading."""
 
 
 @dataclass(frozen=True, slots=True)

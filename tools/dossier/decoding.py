@@ -4,7 +4,7 @@ import re
 from dataclasses import dataclass
 
 from .messages import BROKEN_CODE, SAVE_AGAIN, TWO_MARKS, WORKBOOK_AS_EXPORT, ZERO_BYTES
-from .texts import Filled
+from .texts import NoReading
 
 MARKS = ((b"\xef\xbb\xbf", "utf-8", "UTF-8"), (b"\xff\xfe", "utf-16-le", "UTF-16"),
          (b"\xfe\xff", "utf-16-be", "UTF-16"))
@@ -20,13 +20,8 @@ LATIN_9_LETTERS = re.compile(rb"[A-Za-z\xc0-\xff][\xa6\xa8\xb4\xb8\xbc\xbd\xbe]"
                              rb"|[\xa6\xa8\xb4\xb8\xbc\xbd\xbe][A-Za-z\xc0-\xff]|\xa4")
 
 
-class Unreadable(Exception):
-    """An export that has no reading, or more than one: what is wrong, and what to do."""
-
-    def __init__(self, what: Filled, to_do: Filled):
-        super().__init__(what)
-        self.what = what
-        self.to_do = to_do
+class Unreadable(NoReading):
+    """An export without exactly one reading."""
 
 
 @dataclass(frozen=True)

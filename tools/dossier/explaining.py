@@ -4,46 +4,27 @@ The program explains each wish from the slots as they were for that day. Its day
 stamp of the day itself as that day, and where a wish changed earlier, by the record of the day on which it did.
 """
 
-import csv
 import gc
 import sys
 import tempfile
 from dataclasses import dataclass, replace
 from datetime import date, timedelta
 from pathlib import Path
-from types import ModuleType
-from typing import NamedTuple
 
-from . import program, words_en
+from . import program
 from .campaign import Stopped, unread
 from .explanation import AcceptedWish, Explanation, GoneWish, OfferedWish, Stamp, explanation_of
 from .faults import shown
 from .naming import Names, NotIds, names_in
-from .records import WAITING, Held, KeptDay, made_days
+from .records import WAITING, Held, KeptDay, Wish, made_days, wishes_in
 from .setting import Day, Deadline, Moment, Setting
 from .slots import Thing
-from .telling import LANGUAGES
+from .telling import LANGUAGES, sentences
+from .texts import Language, spaced
 from .wording import Words
 from .writing import named_folder, stop_cleanly, write_whole
 
 SAID, NOT_THERE = 0, 1
-
-
-class Wish(NamedTuple):
-    """A row of the wishes, by numbers."""
-
-    wish: int
-    candidate: int
-    programme: int
-    school: int | None
-
-
-def wishes_in(dossier: Path) -> list[Wish]:
-    """The wishes of a dossier that the program has accepted."""
-    with open(dossier / "wishes.csv", newline="", encoding="utf-8-sig") as file:
-        _, *rows = (cells for cells in csv.reader(file) if cells)
-    return [Wish(int(wish), int(candidate), int(programme), int(school) if school else None)
-            for wish, candidate, programme, school, _ in rows]
 
 
 def asked_wishes(given: list[str], candidates: list[str], wishes: list[Wish], names: Names) -> list[Wish]:
@@ -102,16 +83,17 @@ class Evening:
         limit = date.fromisoformat(since) + timedelta(days=calendar.term)
         return Deadline(limit, is_over=limit <= calendar.today)
 
-    def told(self, found: Explanation, language: ModuleType) -> list[str]:
+    def told(self, found: Explanation, language: Language) -> list[str]:
         """The sentences of an explanation, with the ids of the exports and the days of the campaign."""
         moment = Moment(self.day(self.last.number))
         if isinstance(found, AcceptedWish | GoneWish | OfferedWish):
             moment, turn = self.changed(found.wish, found.stamp)
             found = replace(found, stamp=Stamp(found.stamp.day, turn))
-        return language.sentences(found, Setting(
+        setting = Setting(
             lambda wish: self.names.spelled(Thing.WISH, wish), lambda school: self.names.spelled(Thing.SCHOOL, school),
             lambda _: moment, self.deadline(found.wish) if isinstance(found, OfferedWish) else None,
-            self.last.calendar.today is not None))
+            self.last.calendar.today is not None)
+        return sentences(found, setting, language)
 
 
 def explained(wish: Wish, day: KeptDay, slots: Path) -> Explanation:
@@ -127,19 +109,19 @@ def explained(wish: Wish, day: KeptDay, slots: Path) -> Explanation:
     return found
 
 
-def paragraphs(asked: list[Wish], evening: Evening, dossier: Path, language: ModuleType) -> list[str]:
+def paragraphs(asked: list[Wish], evening: Evening, dossier: Path, language: Language) -> list[str]:
     """A heading for the evening, and a paragraph for each wish."""
-    day = evening.last
-    told = [language.evening(evening.day(day.number), day.number)]
+    day, words_of = evening.last, LANGUAGES[language]
+    told = [words_of.evening(evening.day(day.number), day.number)]
     with tempfile.TemporaryDirectory(prefix="why.") as place:
         day.put_slots(dossier, Path(place))
         for wish in asked:
             found = explained(wish, day, Path(place))
             spelled = evening.names.spelled
-            heading = language.heading(spelled(Thing.WISH, wish.wish), spelled(Thing.CANDIDATE, wish.candidate),
+            heading = words_of.heading(spelled(Thing.WISH, wish.wish), spelled(Thing.CANDIDATE, wish.candidate),
                                        spelled(Thing.PROGRAMME, wish.programme),
                                        spelled(Thing.SCHOOL, wish.school) if wish.school else None)
-            told.append(heading + "\n" + " ".join(evening.told(found, language)))
+            told.append(spaced(heading, language) + "\n" + " ".join(evening.told(found, language)))
     return told
 
 
@@ -161,7 +143,7 @@ def main(arguments: list[str]) -> int:
     parser = words()
     given = parser.of(arguments)
     *wishes, last = given.words or [""]
-    language = LANGUAGES.get(last, words_en)
+    language: Language = "fr" if last == "fr" else "en"
     wishes += [last] if last and last not in LANGUAGES else []
     if not wishes and not given.candidate:
         parser.bad("name a wish, or a candidate with --candidate")
@@ -183,7 +165,7 @@ def main(arguments: list[str]) -> int:
         return program.READ_FAULT
 
 
-def tell(folder: Path, wishes: list[str], candidates: list[str], language: ModuleType) -> int:
+def tell(folder: Path, wishes: list[str], candidates: list[str], language: Language) -> int:
     evening = Evening(made_days(folder), names_in(folder))
     asked = asked_wishes(wishes, candidates, wishes_in(folder), evening.names)
     told = "\n\n".join(paragraphs(asked, evening, folder, language)) + "\n"

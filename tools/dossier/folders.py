@@ -99,7 +99,7 @@ def named_sheet(readings: list[AnySheet], slots: tuple[Slot, ...], choices: Choi
 
 
 def read_folder(folder: Path, choices: Choices, faults: Faults) -> Exports:
-    """Reads all sheets of a folder, one for each slot. A sheet that names no slot is passed over, if none is missing."""
+    """Reads all sheets of a folder, one for each slot. A sheet that names no slot is passed over if none is missing."""
     exports = Exports()
     found: dict[str, Named] = {}
     others: list[tuple[str, list[str]]] = []

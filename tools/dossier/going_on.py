@@ -53,10 +53,7 @@ def go_on(folder: Path) -> str:
 
 
 def main(arguments: list[str]) -> int:
-    parser = words()
-    given = parser.of(arguments)
-    if (given.start is None) != (given.term is None):
-        parser.bad("--start and --term are given together or not at all")
+    given = words().of_campaign(arguments)
     if not is_folder(given.folder):
         print(f"next_day: there is no folder {given.folder}; name the folder of the dossier.", file=sys.stderr)
         return program.READ_FAULT

@@ -38,8 +38,8 @@ NAME_COLUMN = Text('name each column as in examples/blank, or say which one it i
 NAME_COLUMNS = Text("name the columns as in examples/blank, each once.",
                     "donnez aux colonnes les titres de examples/blank, chacun une fois.")
 NO_NAMES = Text("{file} has no sheet with ids of candidates, programmes or schools beside their names.",
-                "{file} n'a pas de feuille où des identifiants de candidats, de formations ou d'internats soient à côté "
-                "de leurs noms.")
+                "{file} n'a pas de feuille où des identifiants de candidats, de formations ou d'internats soient à "
+                "côté de leurs noms.")
 TWO_SLOTS = Text("it has the columns of {one} and of {other}.", "il a les colonnes de {one} et de {other}.")
 RENAME_COLUMNS = Text("leave in it the columns of one of the two.", "n'y laissez que les colonnes de l'un des deux.")
 SLOT_TWICE = Text("{other} has the columns of {slot} too.", "{other} a aussi les colonnes de {slot}.")
@@ -132,7 +132,8 @@ NAME_WISH = Text("name the wish and not the candidate, or correct the target.",
                  "nommez le vœu et non le candidat, ou corrigez la cible.")
 UNRANKED = Text("the candidate {candidate} is not ranked in the programme's group {group}.",
                 "le candidat {candidate} n'est pas classé dans le groupe {group} de la formation.")
-ADD_RANK = Text("add the candidate to {file}, or take the wish out.", "ajoutez le candidat à {file}, ou retirez le vœu.")
+ADD_RANK = Text("add the candidate to {file}, or take the wish out.",
+                "ajoutez le candidat à {file}, ou retirez le vœu.")
 NO_RANK = Text("the candidate {candidate} has no rank in the school {school}.",
                "le candidat {candidate} n'a pas de rang à l'internat {school}.")
 ADD_BOARDER = Text("add the candidate to {file}, or empty the school of the wish.",
@@ -144,7 +145,8 @@ ALL_OR_NONE = Text("write 0 for all of them, or different numbers from 1 on for 
 PREFERENCE_TWICE = Text("the candidate has the preference {preference} twice.",
                         "le candidat a deux fois la préférence {preference}.")
 WRITE_DIFFERENT = Text("write different numbers.", "écrivez des nombres différents.")
-TWO_ACCEPTED = Text("the candidate {candidate} has accepted two wishes.", "le candidat {candidate} a accepté deux vœux.")
+TWO_ACCEPTED = Text("the candidate {candidate} has accepted two wishes.",
+                    "le candidat {candidate} a accepté deux vœux.")
 CORRECT_EITHER = Text("correct one of the two.", "corrigez l'un des deux.")
 DAY_FALLS = Text("day {day} stands after day {before}.", "le jour {day} vient après le jour {before}.")
 SORT_DAYS = Text("sort the rows by day; those of one day keep their order.",
@@ -180,7 +182,8 @@ OTHER_CANDIDATE = Text("the wish {wish} is of candidate {candidate}, and not of 
                        "le vœu {wish} est du candidat {candidate}, et non de {other}.")
 CORRECT_WISH = Text("correct the wish or the candidate.", "corrigez le vœu ou le candidat.")
 UNFIT = Text("the wish {wish} of candidate {candidate}, for {programme}, is then: {status}. It cannot be {done}.",
-             "le vœu {wish} du candidat {candidate}, pour {programme}, en est alors là : {status}. On ne peut pas {done}.")
+             "le vœu {wish} du candidat {candidate}, pour {programme}, en est alors là : {status}. "
+             "On ne peut pas {done}.")
 DONE = {"accept": Text("accepted", "l'accepter"), "refuse": Text("refused", "le refuser"),
         "withdraw": Text("withdrawn", "le retirer")}
 REFUSE_IT = Text("write refuse: an offer is refused, and what waits is withdrawn.",
@@ -199,7 +202,8 @@ THINGS = {
 }
 PLURALS = {
     "group": Text("groups", "groupes"), "programme": Text("programmes", "formations"),
-    "school": Text("schools", "internats"), "candidate": Text("candidates", "candidats"), "wish": Text("wishes", "vœux"),
+    "school": Text("schools", "internats"), "candidate": Text("candidates", "candidats"),
+    "wish": Text("wishes", "vœux"),
 }
 KEYS = {
     ("group",): Text("the group {group}", "le groupe {group}"),

@@ -10,7 +10,7 @@ from typing import NamedTuple
 from .cells import IN_ENGLISH, IN_FRENCH
 from .labels import Labels
 from .naming import Names
-from .records import WAITING, Held, KeptDay
+from .records import WAITING, Held, KeptDay, Wish
 from .slots import Thing
 from .texts import Language, Text
 
@@ -71,16 +71,6 @@ def harmless(name: str) -> str:
     return f"'{name}" if name.startswith(FORMULAS) else name
 
 
-class WishRow(NamedTuple):
-    """A row of the wishes, by numbers."""
-
-    wish: int
-    candidate: int
-    programme: int
-    school: int | None
-    preference: int
-
-
 class Ranked(NamedTuple):
     """A candidate in a group's ranking."""
 
@@ -94,7 +84,7 @@ class Campaign:
     """What the tables tell of: the days that were made, the wishes, the lists, and what everything is called."""
 
     days: list[KeptDay]
-    wishes: list[WishRow]
+    wishes: list[Wish]
     groups: dict[int, int]  # of the programmes
     rankings: dict[tuple[int, int], Ranked]  # by group and candidate
     boarding: dict[int, dict[int, int]]  # of the schools, the rank of each candidate
@@ -163,7 +153,7 @@ class Tables:
     calls: dict[int, dict[int, int]]
     queues: dict[tuple[int, int], int]
 
-    def place_cells(self, row: WishRow) -> Row:
+    def place_cells(self, row: Wish) -> Row:
         call = self.calls[self.campaign.groups[row.programme]][row.candidate]
         is_waiting = self.campaign.held(row.wish).status == WAITING
         return [call, self.queues[row.programme, row.candidate] if is_waiting else ""]
@@ -176,7 +166,7 @@ class Tables:
                    *campaign.id_cells(Thing.PROGRAMME, row.programme), *campaign.id_cells(Thing.SCHOOL, row.school),
                    row.preference, *campaign.status_cells(row.wish), *self.place_cells(row)]
 
-    def programme(self, number: int, rows: list[WishRow]) -> Iterator[Row]:
+    def programme(self, number: int, rows: list[Wish]) -> Iterator[Row]:
         """A programme's wishes in the call order."""
         campaign = self.campaign
         group = campaign.groups[number]
@@ -191,7 +181,7 @@ class Tables:
                    *campaign.id_cells(Thing.SCHOOL, row.school), row.preference,
                    *campaign.status_cells(row.wish), queue]
 
-    def school(self, number: int, rows: list[WishRow]) -> Iterator[Row]:
+    def school(self, number: int, rows: list[Wish]) -> Iterator[Row]:
         """A boarding school's wishes by its own ranking."""
         campaign = self.campaign
         ranks = campaign.boarding.get(number, {})

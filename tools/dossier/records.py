@@ -16,6 +16,30 @@ from .program import READ_FAULT
 WAITING = "waiting"
 
 
+class Wish(NamedTuple):
+    """A row of the wishes, by numbers."""
+
+    wish: int
+    candidate: int
+    programme: int
+    school: int | None
+    preference: int
+
+
+def rows_of(dossier: Path, slot: str) -> Iterator[list[int]]:
+    """The rows of a slot of numbers that the program has accepted; an empty cell is 0."""
+    with open(dossier / f"{slot}.csv", newline="", encoding="utf-8-sig") as file:
+        records = (cells for cells in csv.reader(file) if cells)
+        next(records)
+        for cells in records:
+            yield [int(cell or 0) for cell in cells]
+
+
+def wishes_in(dossier: Path) -> list[Wish]:
+    return [Wish(wish, candidate, programme, school or None, preference)
+            for wish, candidate, programme, school, preference in rows_of(dossier, "wishes")]
+
+
 class Held(NamedTuple):
     """How a wish stands in a state: its status, and since when where that is an offer with a date."""
 

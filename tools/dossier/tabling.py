@@ -1,6 +1,5 @@
 """From the numbers of a campaign to tables that a spreadsheet opens, with the ids of the sheets, and names."""
 
-import csv
 import gc
 import os
 import sys
@@ -12,8 +11,8 @@ from .campaign import Stopped, unread
 from .decoding import Unreadable
 from .labels import Labels, read_labels
 from .naming import Names, NotIds, names_in
-from .outputs import DIALECTS, Campaign, Dialect, Ranked, Row, Tables, WishRow
-from .records import made_days
+from .outputs import DIALECTS, Campaign, Dialect, Ranked, Row, Tables
+from .records import Wish, made_days, rows_of, wishes_in
 from .slots import Thing
 from .texts import Language, Text
 from .wording import Words, language_here
@@ -49,24 +48,13 @@ def words() -> Words:
     return parser
 
 
-def rows_of(dossier: Path, slot: str) -> Iterator[list[int]]:
-    """The rows of a slot of numbers that the program has accepted; an empty cell is 0."""
-    with open(dossier / f"{slot}.csv", newline="", encoding="utf-8-sig") as file:
-        records = (cells for cells in csv.reader(file) if cells)
-        next(records)
-        for cells in records:
-            yield [int(cell or 0) for cell in cells]
-
-
 def campaign_of(dossier: Path, names: Names, labels: Labels, language: Language) -> Campaign:
     days = made_days(dossier)
     days[-1].test_slots(dossier)
-    wishes = [WishRow(wish, candidate, programme, school or None, preference)
-              for wish, candidate, programme, school, preference in rows_of(dossier, "wishes")]
     boarding: dict[int, dict[int, int]] = {row[0]: {} for row in rows_of(dossier, "schools")}
     for school, candidate, rank in rows_of(dossier, "boarding"):
         boarding[school][candidate] = rank
-    return Campaign(days, wishes, {row[0]: row[1] for row in rows_of(dossier, "programmes")},
+    return Campaign(days, wishes_in(dossier), {row[0]: row[1] for row in rows_of(dossier, "programmes")},
                     {(group, candidate): Ranked(rank, scholar, resident)
                      for group, candidate, rank, scholar, resident in rows_of(dossier, "rankings")},
                     boarding, names, labels, language)
@@ -100,8 +88,8 @@ def files_of(campaign: Campaign, dialect: Dialect) -> dict[str, Iterator[bytes]]
     put(BARS, "", tables.bars())
     for day in campaign.days:
         put(OFFERS, f"{day.number:03}", tables.offers(day))
-    of_programmes: dict[int, list[WishRow]] = {number: [] for number in campaign.groups}
-    of_schools: dict[int, list[WishRow]] = {number: [] for number in campaign.boarding}
+    of_programmes: dict[int, list[Wish]] = {number: [] for number in campaign.groups}
+    of_schools: dict[int, list[Wish]] = {number: [] for number in campaign.boarding}
     for row in campaign.wishes:
         of_programmes[row.programme].append(row)
         if row.school is not None:

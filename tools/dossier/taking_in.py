@@ -10,12 +10,12 @@ from .campaign import Stopped, alone, unread
 from .cells import DateOrder
 from .dating import Calendar
 from .decoding import Unreadable
-from .explaining import wishes_in
 from .faults import Faults, Row, shown
 from .folders import one_table
 from .going_on import start_date, term_of_days
 from .naming import NotIds, names_in
 from .preparing import LEFT_OUT, chosen_column
+from .records import wishes_in
 from .slots import ANSWER_SHEET
 from .tables import Choices, Table
 from .texts import Language, Text
@@ -26,7 +26,8 @@ from .writing import Told, csv_bytes, is_folder, named_folder, replace_file, say
 DONE, FAULTY = 0, 1
 TAKEN = Text("answers of {file} for the coming day{dated}: {count}, for later days: {later}, there already: {known}.",
              "réponses de {file} pour le jour qui vient{dated} : {count}, pour plus tard : {later}, déjà là : {known}.")
-REPLACED = Text("answers that were there and are replaced: {count}.", "réponses qui y étaient et sont remplacées : {count}.")
+REPLACED = Text("answers that were there and are replaced: {count}.",
+                "réponses qui y étaient et sont remplacées : {count}.")
 LATER = Text("Whether an answer of a later day fits is told when that day comes.",
              "Si une réponse convient un jour plus lointain, on le saura ce jour-là.")
 
@@ -34,9 +35,9 @@ LATER = Text("Whether an answer of a later day fits is told when that day comes.
 def words() -> Words:
     parser = Words(
         "take_in",
-        "Takes the answers of SHEET (.csv, .tsv, .txt, .ods, .xlsx) into FOLDER/answers.csv. Each row has an answer, its "
-        "wish or, to quit, its candidate, by id or number, and if it is not for the coming day its day or date. What "
-        "does not fit on the coming day is told at once, by the program, and then nothing is written.",
+        "Takes the answers of SHEET (.csv, .tsv, .txt, .ods, .xlsx) into FOLDER/answers.csv. Each row has an answer, "
+        "its wish or, to quit, its candidate, by id or number, and if it is not for the coming day its day or date. "
+        "What does not fit on the coming day is told at once, by the program, and then nothing is written.",
         "Status: 0 taken in, 1 faults, 2 bad words, 3 not read, 4 not written; else the program's.")
     parser.add_argument("folder", type=named_folder, metavar="FOLDER", help="the folder of the dossier")
     parser.add_argument("sheet", type=named_folder, metavar="SHEET", help="the sheet of answers")
@@ -100,10 +101,7 @@ def take_in(folder: Path, sheet: Path, choices: Choices, calendar: Calendar, is_
 
 
 def main(arguments: list[str]) -> int:
-    parser = words()
-    given = parser.of(arguments)
-    if (given.start is None) != (given.term is None):
-        parser.bad("--start and --term are given together or not at all")
+    given = words().of_campaign(arguments)
     if not is_folder(given.folder):
         print(f"take_in: there is no folder {given.folder}; name the folder of the dossier.", file=sys.stderr)
         return program.READ_FAULT

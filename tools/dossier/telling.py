@@ -4,14 +4,16 @@ import sys
 from types import ModuleType
 
 from . import words_en, words_fr
-from .explanation import explanation_of
+from .explanation import (AcceptedWish, BarredWish, Explanation, GoneWish, OfferedWish, SeatlessWish, UnknownWish,
+                          explanation_of)
 from .faults import shown
-from .setting import OF_A_RUN
+from .setting import OF_A_RUN, Setting
+from .texts import Language, spaced
 from .wording import Words
 from .writing import write_whole
 
 SAID, NOT_A_LINE, BAD_WORDS, NOT_READ, NOT_WRITTEN = range(5)
-LANGUAGES: dict[str, ModuleType] = {"en": words_en, "fr": words_fr}
+LANGUAGES: dict[Language, ModuleType] = {"en": words_en, "fr": words_fr}
 LONGEST_LINE = 1000
 
 
@@ -30,12 +32,31 @@ def one_line(data: bytes) -> str:
     return data[:-1].decode(errors="replace").removesuffix("\r")
 
 
-def in_words(data: bytes, language: str) -> str:
+def sentences(found: Explanation, setting: Setting, language: Language) -> list[str]:
+    """An explanation, said to the candidate: how the wish stands, then why, then what they can do."""
+    words_of = LANGUAGES[language]
+    match found:
+        case GoneWish():
+            told = words_of.gone(found, setting)
+        case OfferedWish():
+            told = words_of.offered(found, setting)
+        case AcceptedWish():
+            told = words_of.accepted(found, setting)
+        case BarredWish():
+            told = words_of.barred(found, setting)
+        case SeatlessWish():
+            told = words_of.seatless(found, setting)
+        case UnknownWish():
+            told = words_of.unknown(found, setting)
+    return [spaced(sentence, language) for sentence in told]
+
+
+def in_words(data: bytes, language: Language) -> str:
     line = one_line(data)
     found = explanation_of(line)
     if found is None:
         raise NotALine(f"this is no line of `explain`: {shown(line)}")
-    return " ".join(LANGUAGES[language].sentences(found, OF_A_RUN)) + "\n"
+    return " ".join(sentences(found, OF_A_RUN, language)) + "\n"
 
 
 def words() -> Words:

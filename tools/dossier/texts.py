@@ -30,6 +30,15 @@ class Filled:
         return spaced(getattr(self.text, language).format(**values), language)
 
 
+class NoReading(Exception):
+    """What has no reading, or more than one: what is wrong, and what to do."""
+
+    def __init__(self, what: Filled, to_do: Filled):
+        super().__init__(what)
+        self.what = what
+        self.to_do = to_do
+
+
 @dataclass(frozen=True)
 class Counted:
     """So many things. French has the singular for none, too."""

@@ -32,6 +32,13 @@ class Words(argparse.ArgumentParser):
     def of(self, arguments: list[str]) -> argparse.Namespace:
         return self.parse_intermixed_args(["--help"] if arguments == ["help"] else arguments)
 
+    def of_campaign(self, arguments: list[str]) -> argparse.Namespace:
+        """As `of`, where --start and --term are among the words."""
+        given = self.of(arguments)
+        if (given.start is None) != (given.term is None):
+            self.bad("--start and --term are given together or not at all")
+        return given
+
     def bad(self, message: str) -> NoReturn:
         """Says what is wrong with the words, and ends with status 2."""
         self.error(message)

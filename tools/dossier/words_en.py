@@ -2,8 +2,7 @@
 
 from datetime import date
 
-from .explanation import (AcceptedWish, BarredWish, Explanation, Gone, GoneWish, OfferedWish, SeatlessWish,
-                          UnknownWish)
+from .explanation import AcceptedWish, BarredWish, Gone, GoneWish, OfferedWish, SeatlessWish, UnknownWish
 from .setting import Day, Moment, Setting
 
 MONTHS = ("January", "February", "March", "April", "May", "June", "July", "August", "September", "October", "November",
@@ -116,19 +115,3 @@ def seatless(found: SeatlessWish, setting: Setting) -> list[str]:
 
 def unknown(found: UnknownWish, setting: Setting) -> list[str]:
     return [f"There is no wish {setting.wish(found.wish)} in the dossier.", "Check its number and ask again."]
-
-
-def sentences(found: Explanation, setting: Setting) -> list[str]:
-    match found:
-        case GoneWish():
-            return gone(found, setting)
-        case OfferedWish():
-            return offered(found, setting)
-        case AcceptedWish():
-            return accepted(found, setting)
-        case BarredWish():
-            return barred(found, setting)
-        case SeatlessWish():
-            return seatless(found, setting)
-        case UnknownWish():
-            return unknown(found, setting)

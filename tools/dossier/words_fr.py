@@ -2,11 +2,9 @@
 
 from datetime import date
 
-from .explanation import (AcceptedWish, BarredWish, Explanation, Gone, GoneWish, OfferedWish, SeatlessWish,
-                          UnknownWish)
+from .explanation import AcceptedWish, BarredWish, Gone, GoneWish, OfferedWish, SeatlessWish, UnknownWish
 from .setting import Day, Moment, Setting
 
-NO_BREAK = "\u00a0"
 MONTHS = ("janvier", "février", "mars", "avril", "mai", "juin", "juillet", "août", "septembre", "octobre", "novembre",
           "décembre")
 ENDED = {
@@ -49,7 +47,7 @@ def evening(day: Day, number: int) -> str:
 
 def heading(wish: str, candidate: str, programme: str, school: str | None) -> str:
     boarding = "sans internat" if school is None else f"avec l'internat {school}"
-    return spaced(f"Vœu {wish} du candidat {candidate}, formation {programme}, {boarding} :")
+    return f"Vœu {wish} du candidat {candidate}, formation {programme}, {boarding} :"
 
 
 def gone(found: GoneWish, setting: Setting) -> list[str]:
@@ -126,28 +124,3 @@ def seatless(found: SeatlessWish, setting: Setting) -> list[str]:
 def unknown(found: UnknownWish, setting: Setting) -> list[str]:
     return [f"Il n'y a pas de vœu {setting.wish(found.wish)} dans le dossier.",
             "Vérifiez son numéro et posez la question de nouveau."]
-
-
-def spaced(text: str) -> str:
-    """Le texte avec des espaces insécables devant les deux-points et les points-virgules."""
-    return text.replace(" :", NO_BREAK + ":").replace(" ;", NO_BREAK + ";")
-
-
-def sentences(found: Explanation, setting: Setting) -> list[str]:
-    return [spaced(sentence) for sentence in _sentences(found, setting)]
-
-
-def _sentences(found: Explanation, setting: Setting) -> list[str]:
-    match found:
-        case GoneWish():
-            return gone(found, setting)
-        case OfferedWish():
-            return offered(found, setting)
-        case AcceptedWish():
-            return accepted(found, setting)
-        case BarredWish():
-            return barred(found, setting)
-        case SeatlessWish():
-            return seatless(found, setting)
-        case UnknownWish():
-            return unknown(found, setting)
