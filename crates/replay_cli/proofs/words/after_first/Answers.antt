@@ -2,8 +2,8 @@ use Rattle.std.proofs.Common.{◌≡◌, ◌∙◌, ap, drop, length}
 use Rattle.std.specs.Vec.Iter.{into_iter_items, into_iter_len}
 use Rattle.std.proofs.lemmas.Iterator.{items_from_collect}
 use Rattle.std.proofs.lemmas.Iterator.Adapters.{YieldsList-from_vec}
-use Rattle.parcours.proofs.FirstWord.{without_first}
-use Rattle.parcours.proofs.words.after_first.Goals as goal
+use Rattle.replay_cli.proofs.FirstWord.{without_first}
+use Rattle.replay_cli.proofs.words.after_first.Goals as goal
 
 pub returns : goal.returns
 returns c =

@@ -5,7 +5,7 @@ use Rattle.bar_fixpoint.specs.Choices.{first_of, last_of, turn_of}
 use Rattle.request.specs.declared.pickers.PickerName.{PickerName}
 use Rattle.request.specs.declared.pickers.PickerName.TheVariants.{First, Last, Turn}
 use Rattle.played.specs.Lent.{choice_in, named, told_in}
-use Rattle.parcours.specs.NewRun.{AreNew}
+use Rattle.replay_cli.specs.Start.{AreNew}
 
 module _ {B : Type 0} (told : B → List ℕ) (choice : B → List ℕ → List ℕ → ℕ) where
   none_told : (place : Option B) → option_map told place ≡ Some [] → told_in told place ≡ []

@@ -1,5 +1,5 @@
-use Rattle.parcours.proofs.NewPickers.{are_new}
-use Rattle.parcours.proofs.start.run_with_new.Goals as goal
+use Rattle.replay_cli.proofs.NewPickers.{are_new}
+use Rattle.replay_cli.proofs.start.run_with_new.Goals as goal
 
 pub returns : goal.returns
 returns g c =
@@ -8,5 +8,5 @@ returns g c =
       pickers' = _;
       are_new = are_new _ _ _ _ _ c.requires.first c.requires.last c.requires.turn c.requires.first_of
           c.requires.last_of c.requires.turn_of;
-      is_run = c.run.ensures.is_run;
+      is_run = c.run.ensures;
     }

@@ -1,26 +1,55 @@
-//! The one run of the program, with new pickers.
-ghost use Rattle.std.specs.Prelude.{◌≡◌, [], IfOk, IsErr, IsErrAnd, OnErr, Some, map, option_map, string_bytes};
+//! The one run of a program, with new pickers.
+ghost use Rattle.std.specs.Prelude.{◌≡◌, ℕ, List, [], IfOk, IsErr, IsErrAnd, OnErr, Some, map, option_map, string_bytes};
 ghost use Rattle.std.specs.Process.{exit_status};
 ghost use Rattle.bar_fixpoint.specs.Choices.{first_of, last_of, turn_of};
 ghost use Rattle.intake.specs.Shelves.{on_shelf};
-ghost use Rattle.replay_cli.specs.Run.{at_sink};
-ghost use Rattle.parcours.specs.NewRun.{IsNewRun, IsUntouched, LacksMemory, Starts};
-ghost use Rattle.parcours.specs.Start.{IsLack, words_in};
+ghost use Rattle.modes.specs.declared.exit.Exit.{Exit};
+ghost use Rattle.played.specs.Lent.{AreThere, standing};
+ghost use Rattle.replay_cli.specs.Run.{Around, at_sink};
+ghost use Rattle.replay_cli.specs.Start.{IsNewRun, IsUntouched, LacksMemory, Starts};
+ghost use Rattle.replay_cli.specs.Words.{IsLack, words_in};
 
 use crate::words::words_of;
 use bar_fixpoint::{FirstPicker, LastPicker, TurnPicker};
 use modes::{Exit, exit_number};
 use played::Pickers;
-use replay_cli::run;
 use slot_io::{Shelf, Sink};
 use std::alloc::{AllocError, Global};
 use std::env::Args;
 use std::io;
 use std::process::{ExitCode, Termination};
 
-/// The number that the program ends with. `started` alone makes one, and it can be neither copied
+/// A program, by what one run of it does.
+pub trait Program {
+    /// A run with these words, from what stood around it before to what stands after it.
+    ghost is_run: { List (List ℕ) → Around → Around → Exit → Type 0 };
+
+    /// Runs the program once, with the words after its name.
+    fn run<S: Shelf, K: Sink>(
+        alloc: Global,
+        words: &[String],
+        shelf: &mut S,
+        sink: &mut K,
+        pickers: &mut Pickers,
+    ) -> Exit
+        requires { AreThere pickers.old }
+        ensures { is_run (map string_bytes words.now)
+            (record {
+              shelf = on_shelf S.left S.taken S.faults shelf.old;
+              sink = at_sink K.held K.faults sink.old;
+              pickers = standing (λ p. told p) (λ p. choice p) pickers.old;
+            })
+            (record {
+              shelf = on_shelf S.left S.taken S.faults shelf.new;
+              sink = at_sink K.held K.faults sink.new;
+              pickers = standing (λ p. told p) (λ p. choice p) pickers.new;
+            })
+            result };
+}
+
+/// The number that a program ends with. `started` alone makes one, and it can be neither copied
 /// nor let go: so `main` ends with the number of a run, and runs once.
-pub(crate) struct Ended {
+pub struct Ended {
     number: u8,
 }
 
@@ -34,7 +63,7 @@ impl Termination for Ended {
 }
 
 /// Runs the program with these pickers, which are new, each in its place.
-fn run_with_new<S: Shelf, K: Sink>(
+fn run_with_new<P: Program, S: Shelf, K: Sink>(
     alloc: Global,
     words: &[String],
     shelf: &mut S,
@@ -50,21 +79,21 @@ fn run_with_new<S: Shelf, K: Sink>(
         ≡ Some (λ told places. last_of places) }
     requires turn_of { option_map (λ p. choice (p.vtable, p.value)) pickers.old.turn
         ≡ Some turn_of }
-    ensures { IsNewRun (map string_bytes words.now)
+    ensures { IsNewRun (P.is_run (map string_bytes words.now))
         (on_shelf S.left S.taken S.faults shelf.old) (on_shelf S.left S.taken S.faults shelf.new)
         (at_sink K.held K.faults sink.old) (at_sink K.held K.faults sink.new) result }
 {
-    run(alloc, words, shelf, sink, pickers)
+    P::run(alloc, words, shelf, sink, pickers)
 }
 
 /// Runs the program with three new pickers, each in its place.
-fn run_new<S: Shelf, K: Sink>(
+fn run_new<P: Program, S: Shelf, K: Sink>(
     alloc: Global,
     words: &[String],
     shelf: &mut S,
     sink: &mut K,
 ) -> Result<Exit, AllocError>
-    ensures ran { IfOk result (IsNewRun (map string_bytes words.now)
+    ensures ran { IfOk result (IsNewRun (P.is_run (map string_bytes words.now))
         (on_shelf S.left S.taken S.faults shelf.old) (on_shelf S.left S.taken S.faults shelf.new)
         (at_sink K.held K.faults sink.old) (at_sink K.held K.faults sink.new)) }
     ensures lacked { OnErr result (IsUntouched
@@ -76,17 +105,17 @@ fn run_new<S: Shelf, K: Sink>(
         last: Some(Box::new(alloc, LastPicker::new(alloc))?),
         turn: Some(Box::new(alloc, TurnPicker::new(alloc))?),
     };
-    Ok(run_with_new(alloc, words, shelf, sink, &mut pickers))
+    Ok(run_with_new::<P, S, K>(alloc, words, shelf, sink, &mut pickers))
 }
 
 /// Runs the program with what it was given.
-fn run_given<S: Shelf, K: Sink>(
+fn run_given<P: Program, S: Shelf, K: Sink>(
     alloc: Global,
     args: io::Result<Args>,
     shelf: &mut S,
     sink: &mut K,
 ) -> Result<Exit, AllocError>
-    ensures ran { IfOk result (IsNewRun (map string_bytes (words_in args))
+    ensures ran { IfOk result (IsNewRun (P.is_run (map string_bytes (words_in args)))
         (on_shelf S.left S.taken S.faults shelf.old) (on_shelf S.left S.taken S.faults shelf.new)
         (at_sink K.held K.faults sink.old) (at_sink K.held K.faults sink.new)) }
     ensures lacked { OnErr result (IsUntouched
@@ -95,25 +124,25 @@ fn run_given<S: Shelf, K: Sink>(
     ensures told { IsErrAnd args IsLack → IsErr result }
 {
     let words = words_of(alloc, args)?;
-    run_new(alloc, &words, shelf, sink)
+    run_new::<P, S, K>(alloc, &words, shelf, sink)
 }
 
 /// Runs the program once, with what it was given, and ends with the number of the exit. Where there
 /// was no memory for the words or the pickers, nothing is read and nothing written.
-pub(crate) fn started<S: Shelf, K: Sink>(
+pub fn started<P: Program, S: Shelf, K: Sink>(
     alloc: Global,
     args: io::Result<Args>,
     shelf: &mut S,
     sink: &mut K,
 ) -> Ended
-    ensures starts { Starts (map string_bytes (words_in args))
+    ensures starts { Starts (P.is_run (map string_bytes (words_in args)))
         (on_shelf S.left S.taken S.faults shelf.old) (on_shelf S.left S.taken S.faults shelf.new)
         (at_sink K.held K.faults sink.old) (at_sink K.held K.faults sink.new) result.number }
     ensures told { IsErrAnd args IsLack → LacksMemory
         (on_shelf S.left S.taken S.faults shelf.old) (on_shelf S.left S.taken S.faults shelf.new)
         (at_sink K.held K.faults sink.old) (at_sink K.held K.faults sink.new) result.number }
 {
-    let exit = run_given(alloc, args, shelf, sink).unwrap_or(Exit::NoMemory);
+    let exit = run_given::<P, S, K>(alloc, args, shelf, sink).unwrap_or(Exit::NoMemory);
     Ended {
         number: exit_number(exit),
     }

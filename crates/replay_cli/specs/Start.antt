@@ -1,14 +1,14 @@
--- A run of the program, whose three pickers are new.
+-- The one run of a program, whose three pickers are new.
 use Rattle.std.specs.Prelude.{◌≡◌, ◌⊎◌, ℕ, List, []}
 use Rattle.bar_fixpoint.specs.Choices.{first_of, last_of, turn_of}
 use Rattle.intake.specs.Shelves.{OnShelf}
-use Rattle.request.specs.declared.pickers.PickerName.{PickerName}
-use Rattle.request.specs.declared.pickers.PickerName.TheVariants.{First, Last, Turn}
-use Rattle.played.specs.Lent.{Lent}
-use Rattle.replay_cli.specs.Run.{AtSink, IsRun}
 use Rattle.modes.specs.Exits.{exit_number}
 use Rattle.modes.specs.declared.exit.Exit.{Exit}
 use Rattle.modes.specs.declared.exit.Exit.TheVariants.{NoMemory}
+use Rattle.played.specs.Lent.{Lent}
+use Rattle.request.specs.declared.pickers.PickerName.{PickerName}
+use Rattle.request.specs.declared.pickers.PickerName.TheVariants.{First, Last, Turn}
+use Rattle.replay_cli.specs.Run.{Around, AtSink}
 
 -- the pickers have told nothing, and each in its place chooses as its name says
 pub record AreNew (pickers : Lent) : Type 0 where
@@ -17,14 +17,13 @@ pub record AreNew (pickers : Lent) : Type 0 where
   pub last : (told places : List ℕ) → pickers.choice Last told places ≡ last_of places
   pub turn : (told places : List ℕ) → pickers.choice Turn told places ≡ turn_of told places
 
--- a run with these words and new pickers, over a shelf and a sink as they stand before it and after
--- it
-pub record IsNewRun (words : List (List ℕ)) (shelf shelf' : OnShelf) (sink sink' : AtSink)
-    (exit : Exit) : Type 0 where
+-- such a run with new pickers, over a shelf and a sink as they stand before it and after it
+pub record IsNewRun (IsRun : Around → Around → Exit → Type 0) (shelf shelf' : OnShelf)
+    (sink sink' : AtSink) (exit : Exit) : Type 0 where
   pub pickers : Lent
   pub pickers' : Lent
   pub are_new : AreNew pickers
-  pub is_run : IsRun words (record { shelf = shelf; sink = sink; pickers = pickers })
+  pub is_run : IsRun (record { shelf = shelf; sink = sink; pickers = pickers })
       (record { shelf = shelf'; sink = sink'; pickers = pickers' }) exit
 
 -- nothing was read, and nothing written
@@ -37,15 +36,16 @@ pub record LacksMemory (shelf shelf' : OnShelf) (sink sink' : AtSink) (number : 
   pub untouched : IsUntouched shelf shelf' sink sink'
   pub is_number : number ≡ exit_number NoMemory
 
--- one run with these words and new pickers, and the number of its exit
-pub record EndsRun (words : List (List ℕ)) (shelf shelf' : OnShelf) (sink sink' : AtSink)
-    (number : ℕ) : Type 0 where
+-- one such run with new pickers, and the number of its exit
+pub record EndsRun (IsRun : Around → Around → Exit → Type 0) (shelf shelf' : OnShelf)
+    (sink sink' : AtSink) (number : ℕ) : Type 0 where
   pub exit : Exit
-  pub is_run : IsNewRun words shelf shelf' sink sink' exit
+  pub is_run : IsNewRun IsRun shelf shelf' sink sink' exit
   pub is_number : number ≡ exit_number exit
 
--- the program with these words, over a shelf and a sink as they stand before it and after it, and
--- the number that it ends with
-abbrev pub Starts : List (List ℕ) → OnShelf → OnShelf → AtSink → AtSink → ℕ → Type 0
-Starts words shelf shelf' sink sink' number =
-    EndsRun words shelf shelf' sink sink' number ⊎ LacksMemory shelf shelf' sink sink' number
+-- a program of one such run, over a shelf and a sink as they stand before it and after it, and the
+-- number that it ends with
+abbrev pub Starts : (Around → Around → Exit → Type 0) → OnShelf → OnShelf → AtSink → AtSink → ℕ
+    → Type 0
+Starts IsRun shelf shelf' sink sink' number =
+    EndsRun IsRun shelf shelf' sink sink' number ⊎ LacksMemory shelf shelf' sink sink' number

@@ -1,7 +1,7 @@
 //! The words that the program is given.
 ghost use Rattle.std.specs.Prelude.{◌≡◌, IfOk, drop};
 ghost use Rattle.std.specs.Vec.Iter.{into_iter_items};
-ghost use Rattle.parcours.specs.Start.{ReadsWords};
+ghost use Rattle.replay_cli.specs.Words.{ReadsWords};
 
 use std::alloc::{AllocError, Global};
 use std::env::Args;
