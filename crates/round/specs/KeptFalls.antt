@@ -33,8 +33,9 @@ pub record IsPassBy (s : State) (orders : List CallOrder) (ceilings : List ℕ)
   pub chosen : AreChosen (boarding s orders ceilings) choice told ceilings pass.falls
 
 -- the same, with the state that the offers of the pass led to; the pass keeps the laws of passes
-pub record IsPassOffered (s new : State) (orders : List CallOrder) (ceilings : List ℕ) (stamp : Stamp)
-    (choice : List ℕ → List ℕ → ℕ) (told told_after : List ℕ) (pass : PassRecord) : Type 0 where
+pub record IsPassOffered (s new : State) (orders : List CallOrder) (ceilings : List ℕ)
+    (stamp : Stamp) (choice : List ℕ → List ℕ → ℕ) (told told_after : List ℕ)
+    (pass : PassRecord) : Type 0 where
   pub by : IsPassBy s orders ceilings choice told told_after pass
   pub offers : new ≡ offered s orders pass.bars stamp
   pub laws : KeepsPassLaws s new ceilings pass
