@@ -67,4 +67,5 @@ returns-clause-fault c =
     let answers : Option Refusal = first_in slots.Answers (answer_tests t) t.answers in
     none_then wishes _ c.in_ok-wishes.ensures.fault
     (none_then state _ c.in_ok-state.ensures.fault
-    (none_then ceilings _ c.in_ok-check_ceilings.ensures (none_then answers _ c.in_ok-check_answers.ensures.fault refl)))
+    (none_then ceilings _ c.in_ok-check_ceilings.ensures
+    (none_then answers _ c.in_ok-check_answers.ensures.fault refl)))
