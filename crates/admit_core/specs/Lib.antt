@@ -26,6 +26,7 @@ pub mod SlotLoans
 pub mod Slots
 pub mod Standing
 pub mod State
+pub mod Texts
 pub mod Validity
 pub mod WorkedChains
 pub mod WorkedDays

@@ -1,8 +1,11 @@
 //! Chains: the falls of days, written down so that a reader can test them without making them.
-ghost use Rattle.std.specs.Prelude.{◌≡◌, Some};
+ghost use Rattle.std.specs.Prelude.{◌≡◌, ◌++◌, OnErr, OnOk, Some, string_bytes};
+ghost use Rattle.admit_core.specs.Texts.{KeepsRoom, LacksRoom};
 ghost use Rattle.admit_core.specs.ChainLines.{chain_reason_name, chain_reason_number, check_reason_name, check_reason_number, chain_fault_text};
 
 use crate::sequence::Sequence;
+use crate::text::push_after;
+use std::alloc::AllocError;
 use std::fmt;
 
 /// A written fall of a school's bar. The school and the wishes are ids as read.
@@ -75,6 +78,18 @@ impl ChainReason {
             ChainReason::AfterEnd => 4,
         }
     }
+
+    /// The reason's name.
+    pub fn name(&self) -> &'static str
+        ensures { result.now ≡ chain_reason_name self.now }
+    {
+        match self {
+            ChainReason::NotLine => "NotLine",
+            ChainReason::WrongNumber => "WrongNumber",
+            ChainReason::NoEnd => "NoEnd",
+            ChainReason::AfterEnd => "AfterEnd",
+        }
+    }
 }
 
 impl CheckReason {
@@ -91,6 +106,35 @@ impl CheckReason {
             CheckReason::PassExtra => 6,
         }
     }
+
+    /// The reason's name, without the school that is kept.
+    pub fn name(&self) -> &'static str
+        ensures { result.now ≡ check_reason_name self.now }
+    {
+        match self {
+            CheckReason::NotOver => "NotOver",
+            CheckReason::WrongWishes => "WrongWishes",
+            CheckReason::WrongBar => "WrongBar",
+            CheckReason::StillOver { school: _ } => "StillOver",
+            CheckReason::PassMissing => "PassMissing",
+            CheckReason::PassExtra => "PassExtra",
+        }
+    }
+}
+
+impl ChainFault {
+    /// Adds the line of the fault, without its line feed.
+    pub fn push_onto(&self, text: &mut String) -> Result<(), AllocError>
+        ensures all { OnOk result
+            (string_bytes text.new ≡ string_bytes text.old ++ chain_fault_text self.now) }
+        ensures full { OnErr result (LacksRoom text.old (chain_fault_text self.now)) }
+        ensures room { KeepsRoom text.old text.new }
+    {
+        push_after(text, "not a chain row ", self.row)?;
+        push_after(text, " reason ", self.reason.number() as u64)?;
+        text.push_str(" ")?;
+        text.push_str(self.reason.name())
+    }
 }
 
 /// The reason's name.
@@ -98,12 +142,7 @@ impl fmt::Display for ChainReason {
     ghost output = { λ reason. Some (chain_reason_name reason) };
 
     fn fmt<W: fmt::Write>(&self, f: &mut fmt::Formatter<W>) -> fmt::Result {
-        f.write_str(match self {
-            ChainReason::NotLine => "NotLine",
-            ChainReason::WrongNumber => "WrongNumber",
-            ChainReason::NoEnd => "NoEnd",
-            ChainReason::AfterEnd => "AfterEnd",
-        })
+        f.write_str(self.name())
     }
 }
 
@@ -112,14 +151,7 @@ impl fmt::Display for CheckReason {
     ghost output = { λ reason. Some (check_reason_name reason) };
 
     fn fmt<W: fmt::Write>(&self, f: &mut fmt::Formatter<W>) -> fmt::Result {
-        f.write_str(match self {
-            CheckReason::NotOver => "NotOver",
-            CheckReason::WrongWishes => "WrongWishes",
-            CheckReason::WrongBar => "WrongBar",
-            CheckReason::StillOver { school: _ } => "StillOver",
-            CheckReason::PassMissing => "PassMissing",
-            CheckReason::PassExtra => "PassExtra",
-        })
+        f.write_str(self.name())
     }
 }
 

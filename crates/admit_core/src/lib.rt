@@ -20,6 +20,7 @@ mod slot;
 mod state;
 mod steps;
 mod tables;
+mod text;
 mod with_beds;
 mod worked;
 
@@ -44,4 +45,5 @@ pub use tables::{
     AnswerRow, BoardRow, CeilingRow, GroupRow, ProgrammeRow, RankRow, SchoolRow, Since, StateRow,
     Tables, WishRow,
 };
+pub use text::push_after;
 pub use worked::{worked_chains, worked_days, worked_faults, worked_rows};

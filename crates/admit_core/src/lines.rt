@@ -1,18 +1,22 @@
 //! How slots, statuses, bounds and refusals are printed.
-ghost use Rattle.std.specs.Prelude.{◌≡◌, Some};
+ghost use Rattle.std.specs.Prelude.{◌≡◌, ◌++◌, OnErr, OnOk, Some, string_bytes};
+ghost use Rattle.admit_core.specs.Texts.{KeepsRoom, LacksRoom};
 ghost use Rattle.admit_core.specs.Lines.{bound_letter, kept_by, kept_text, reason_name, reason_number, reason_text, refusal_text, slot_name, status_word};
 
 use crate::ranking::Bound;
 use crate::refusal::{Reason, Refusal};
 use crate::slot::Slot;
 use crate::state::Status;
+use crate::text::push_after;
+use std::alloc::AllocError;
 use std::fmt;
 
-impl fmt::Display for Slot {
-    ghost output = { λ slot. Some (slot_name slot) };
-
-    fn fmt<W: fmt::Write>(&self, f: &mut fmt::Formatter<W>) -> fmt::Result {
-        f.write_str(match self {
+impl Slot {
+    /// The name of the file, without its ending.
+    pub fn name(self) -> &'static str
+        ensures { result.now ≡ slot_name self }
+    {
+        match self {
             Slot::Groups => "groups",
             Slot::Programmes => "programmes",
             Slot::Schools => "schools",
@@ -23,7 +27,15 @@ impl fmt::Display for Slot {
             Slot::Ceilings => "ceilings",
             Slot::Answers => "answers",
             Slot::Chain => "chain",
-        })
+        }
+    }
+}
+
+impl fmt::Display for Slot {
+    ghost output = { λ slot. Some (slot_name slot) };
+
+    fn fmt<W: fmt::Write>(&self, f: &mut fmt::Formatter<W>) -> fmt::Result {
+        f.write_str(self.name())
     }
 }
 
@@ -54,18 +66,26 @@ impl fmt::Display for Status {
     }
 }
 
-/// The letter of a position in the line of a group's rules.
-impl fmt::Display for Bound {
-    ghost output = { λ bound. Some (bound_letter bound) };
-
-    fn fmt<W: fmt::Write>(&self, f: &mut fmt::Formatter<W>) -> fmt::Result {
-        f.write_str(match self {
+impl Bound {
+    /// The letter of a position in the line of a group's rules.
+    pub fn letter(self) -> &'static str
+        ensures { result.now ≡ bound_letter self }
+    {
+        match self {
             Bound::Free => "-",
             Bound::Scholar => "s",
             Bound::Resident => "r",
             Bound::Both => "b",
             Bound::Alone => "x",
-        })
+        }
+    }
+}
+
+impl fmt::Display for Bound {
+    ghost output = { λ bound. Some (bound_letter bound) };
+
+    fn fmt<W: fmt::Write>(&self, f: &mut fmt::Formatter<W>) -> fmt::Result {
+        f.write_str(self.letter())
     }
 }
 
@@ -106,15 +126,21 @@ enum Kept {
     Found(Status),
 }
 
-/// As it stands after the name.
-impl fmt::Display for Kept {
-    ghost output = { λ kept. Some (kept_text kept) };
-
-    fn fmt<W: fmt::Write>(&self, f: &mut fmt::Formatter<W>) -> fmt::Result {
+impl Kept {
+    /// Adds it as it stands after the name.
+    fn push_onto(self, text: &mut String) -> Result<(), AllocError>
+        ensures all { OnOk result
+            (string_bytes text.new ≡ string_bytes text.old ++ kept_text self) }
+        ensures full { OnErr result (LacksRoom text.old (kept_text self)) }
+        ensures room { KeepsRoom text.old text.new }
+    {
         match self {
             Kept::Nothing => Ok(()),
-            Kept::Number(number) => write!(f, " {number}"),
-            Kept::Found(status) => write!(f, " {status}"),
+            Kept::Number(number) => push_after(text, " ", number),
+            Kept::Found(status) => {
+                text.push_str(" ")?;
+                text.push_str(status.word())
+            }
         }
     }
 }
@@ -173,26 +199,32 @@ impl Reason {
     }
 }
 
-/// The reason's name, and the value that it keeps.
-impl fmt::Display for Reason {
-    ghost output = { λ reason. Some (reason_text reason) };
-
-    fn fmt<W: fmt::Write>(&self, f: &mut fmt::Formatter<W>) -> fmt::Result {
-        let name = self.name();
-        let kept = self.kept();
-        write!(f, "{name}{kept}")
+impl Reason {
+    /// Adds the reason's name, and the value that it keeps.
+    fn push_onto(&self, text: &mut String) -> Result<(), AllocError>
+        ensures all { OnOk result
+            (string_bytes text.new ≡ string_bytes text.old ++ reason_text self.now) }
+        ensures full { OnErr result (LacksRoom text.old (reason_text self.now)) }
+        ensures room { KeepsRoom text.old text.new }
+    {
+        text.push_str(self.name())?;
+        self.kept().push_onto(text)
     }
 }
 
-/// The line of a refusal, without its line feed.
-impl fmt::Display for Refusal {
-    ghost output = { λ refusal. Some (refusal_text refusal) };
-
-    fn fmt<W: fmt::Write>(&self, f: &mut fmt::Formatter<W>) -> fmt::Result {
-        let slot = self.slot;
-        let row = self.row;
-        let number = self.reason.number();
-        let reason = self.reason;
-        write!(f, "refused {slot} row {row} reason {number} {reason}")
+impl Refusal {
+    /// Adds the line of the refusal, without its line feed.
+    pub fn push_onto(&self, text: &mut String) -> Result<(), AllocError>
+        ensures all { OnOk result
+            (string_bytes text.new ≡ string_bytes text.old ++ refusal_text self.now) }
+        ensures full { OnErr result (LacksRoom text.old (refusal_text self.now)) }
+        ensures room { KeepsRoom text.old text.new }
+    {
+        text.push_str("refused ")?;
+        text.push_str(self.slot.name())?;
+        push_after(text, " row ", self.row)?;
+        push_after(text, " reason ", self.reason.number() as u64)?;
+        text.push_str(" ")?;
+        self.reason.push_onto(text)
     }
 }

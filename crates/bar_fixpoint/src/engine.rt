@@ -2,6 +2,7 @@
 ghost use Rattle.std.specs.Prelude.{◌≡◌, ℕ, ◌+◌, ◌<◌, ◌≤◌, List, length, [], ◌∷◌, ◌++◌, Contains, IfOk, IsOk, OnOk, OnErr, IfSome, IfNone, IsTrue, sum};
 ghost use Rattle.admit_core.specs.Falls.{IsAtMost, IsGreatest, IsRunOfFalls, is_overfilled, is_settled, fall_of, fallen, bars_after};
 ghost use Rattle.bar_fixpoint.specs.Runs.{AreAboveAllThatFit, schools_of};
+ghost use Rattle.bar_fixpoint.specs.Overfilled.{all_overfilled};
 ghost use Rattle.bar_fixpoint.specs.Chosen.{AreChosen, PickedFall, TellsAtMostOne, EndsEarly, IsPicked, IsRunBy};
 
 use crate::falling::Falling;
@@ -37,6 +38,8 @@ pub fn greatest<F: Falling, L: Ledger>(
     ensures above { OnErr result (AreAboveAllThatFit (F.system system.old) (F.bars system.new)) }
     ensures early { OnErr result (EndsEarly (F.system system.old) (choice picker.old)
         (told picker.old) (told picker.new) (F.bars system.new)) }
+    ensures always { F.lends system.old
+        → all_overfilled (F.system system.old) (F.bars system.old) ≡ [] → IsOk result }
 
     ensures same { F.system system.new ≡ F.system system.old }
     ensures offers { F.offers system.new ≡ F.offers system.old }
@@ -66,6 +69,8 @@ pub fn settle<F: Falling, L: Ledger>(
     ensures above { OnErr result (AreAboveAllThatFit (F.system system.old) (F.bars system.new)) }
     ensures early { OnErr result (EndsEarly (F.system system.old) (choice picker.old)
         (told picker.old) (told picker.new) (F.bars system.new)) }
+    ensures always { F.lends system.old
+        → all_overfilled (F.system system.old) (F.bars system.old) ≡ [] → IsOk result }
 
     ensures same { F.system system.new ≡ F.system system.old }
     ensures offers { F.offers system.new ≡ F.offers system.old }
@@ -95,6 +100,8 @@ fn sink_once<F: Falling, L: Ledger>(
     ensures err { OnErr result (F.bars system.new ≡ F.bars system.old) }
     ensures told { OnErr result (TellsAtMostOne (F.system system.old) (choice picker.old)
         (F.bars system.old) (told picker.old) (told picker.new)) }
+    ensures always { F.lends system.old
+        → all_overfilled (F.system system.old) (F.bars system.old) ≡ [] → IsOk result }
     ensures same { F.system system.new ≡ F.system system.old }
     ensures offers { F.offers system.new ≡ F.offers system.old }
     ensures choice { choice picker.new ≡ choice picker.old }
@@ -121,6 +128,8 @@ fn picked<F: Falling>(
         IfNone place (IsTrue (is_settled (F.system system.now) (F.bars system.now)))) }
     ensures rest { IfOk result (λ place. IfNone place (told picker.new ≡ told picker.old)) }
     ensures err { OnErr result (told picker.new ≡ told picker.old) }
+    ensures always { F.lends system.now
+        → all_overfilled (F.system system.now) (F.bars system.now) ≡ [] → IsOk result }
     ensures choice { choice picker.new ≡ choice picker.old }
 {
     if let Some(places) = system.listed() {
@@ -168,6 +177,8 @@ fn fall_once<F: Falling, L: Ledger>(
     ensures err { OnErr result (F.bars system.new ≡ F.bars system.old) }
     ensures told { OnErr result (TellsAtMostOne (F.system system.old) (choice picker.old)
         (F.bars system.old) (told picker.old) (told picker.new)) }
+    ensures always { F.lends system.old
+        → all_overfilled (F.system system.old) (F.bars system.old) ≡ [] → IsOk result }
     ensures same { F.system system.new ≡ F.system system.old }
     ensures offers { F.offers system.new ≡ F.offers system.old }
     ensures choice { choice picker.new ≡ choice picker.old }

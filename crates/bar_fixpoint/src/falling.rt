@@ -1,5 +1,5 @@
 //! What a system of falling bars can be asked.
-ghost use Rattle.std.specs.Prelude.{◌≡◌, ℕ, ◌<◌, List, length, slice_index, slice_set, map, filter, nat_le, IfOk, IfSome};
+ghost use Rattle.std.specs.Prelude.{◌≡◌, ℕ, ◌<◌, List, length, slice_index, slice_set, map, filter, nat_le, IfOk, IfSome, IsSome};
 ghost use Rattle.admit_core.specs.Falls.{FallingSystem, IsLawful};
 ghost use Rattle.bar_fixpoint.specs.Overfilled.{rank_over, all_overfilled};
 
@@ -18,6 +18,9 @@ pub trait Falling {
 
     /// What is offered under given bars: this never changes.
     ghost offers: { Self → List ℕ → List ℕ };
+
+    /// That `listed` lends the list, so that asking which places are overfilled takes no memory.
+    ghost lends: { Self → Type 0 } = { λ s. ⊥ };
 
     /// The number of places.
     fn count(&self) -> u32
@@ -51,11 +54,9 @@ pub trait Falling {
 
     /// The same, lent by a system that keeps the list; `None` from one that keeps none.
     fn listed(&self) -> Option<&[u32]>
-        ensures { IfSome result (λ places.
+        ensures places { IfSome result (λ places.
             places.now ≡ all_overfilled (system self.now) (bars self.now)) }
-    {
-        None
-    }
+        ensures lent { lends self.now → IsSome result };
 
     /// A name for each demanded rank of at most `upto`, from the least rank.
     fn names(&self, alloc: Global, i: u32, upto: u32) -> Result<Vec<u32>, OutOfMemory>

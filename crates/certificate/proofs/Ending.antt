@@ -1,12 +1,13 @@
 -- The evening of a valid day.
-use Rattle.std.proofs.Common.{◌≡◌, ℕ, ◌+◌, List, [], ◌∷◌, None, sym, subst, ◌∙◌}
+use Rattle.std.proofs.Common.{◌≡◌, ℕ, ◌+◌, List, [], ◌∷◌, None, Result, Ok, Err, OnOk, sym, subst, ◌∙◌}
 use Rattle.admit_core.specs.declared.chain.DayChain.{DayChain}
 use Rattle.admit_core.specs.declared.chain.PassChain.{PassChain}
 use Rattle.admit_core.specs.declared.ranking.CallOrder.{CallOrder}
 use Rattle.admit_core.specs.State.{State}
 use Rattle.admit_core.specs.Chains.{ArePassChains, IsDayChain, closing_by, day_fault}
 use Rattle.admit_core.specs.ChainLaws.{NoFaultWhereValid}
-use Rattle.certificate.specs.Checked.{state_after}
+use Rattle.certificate.specs.Checked.{Finds, state_after}
+use Rattle.certificate.specs.declared.stop.CheckStop.{CheckStop}
 
 pub evening_is : (orders : List CallOrder) (ceilings : List ℕ) (day k : ℕ) (s : State)
     (passes : List PassChain) (evening : State)
@@ -28,3 +29,13 @@ is_valid law orders ceilings day morning chain evening none is =
     let (last, are) = (law orders ceilings day morning chain).0 none in
     subst (IsDayChain orders ceilings day morning chain)
     (evening_is orders ceilings day 1 morning chain.passes last are ∙ sym is) are
+
+-- so where a check goes through
+pub found_valid : {X : Type 0} → NoFaultWhereValid
+    → (orders : List CallOrder) (ceilings : List ℕ) (day : ℕ) (morning : State) (chain : DayChain)
+    (evening : State) (result : Result X CheckStop) → Finds result (day_fault orders ceilings day morning chain)
+    → OnOk result (evening ≡ state_after orders ceilings day 1 morning chain.passes)
+    → OnOk result (IsDayChain orders ceilings day morning chain evening)
+found_valid law orders ceilings day morning chain evening (Ok x) none is =
+    is_valid law orders ceilings day morning chain evening none is
+found_valid law orders ceilings day morning chain evening (Err e) none is = tt

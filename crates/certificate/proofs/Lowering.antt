@@ -12,7 +12,7 @@ use Rattle.admit_core.specs.Proposals.{proposed}
 use Rattle.admit_core.specs.Chains.{school_of_line, lowered, bars_by, line_fault, lines_fault, pass_fault, passes_fault}
 use Rattle.admit_core.specs.Chains.{extra_pass, frees_nothing_by, closing_by}
 use Rattle.linked_demand.specs.Rounds.{Round}
-use Rattle.certificate.specs.declared.stop.Stop.{Stop}
+use Rattle.certificate.specs.declared.stop.CheckStop.{CheckStop}
 use Rattle.certificate.specs.Checked.{Stops, state_after}
 use Rattle.certificate.proofs.Testing.{goes_on, stops_at}
 
@@ -57,7 +57,7 @@ keeps_round old now new bars kept fell =
     fell ∙ ap (λ (r : Round). put r bars) kept ∙ ap (put old) (sym (ap (λ (r : Round). r.bars) fell))
 
 -- a line that is not valid
-pub line_stops : (s : State) (now : Round) (line : FallLine) (rest : List FallLine) (found : Stop)
+pub line_stops : (s : State) (now : Round) (line : FallLine) (rest : List FallLine) (found : CheckStop)
     (whole : Option (ℕ × CheckReason))
     → whole ≡ lines_fault s now.orders now.ceilings now.bars (line ∷ rest)
     → Stops found (option_map {U = ℕ × CheckReason} (λ reason. (line.row, reason))
@@ -85,7 +85,7 @@ module _ (orders : List CallOrder) (ceilings : List ℕ) (day end k : ℕ) (s : 
   stamp = record { day = day; pass = k }
 
   -- a pass whose lines are not valid
-  pub pass_stops : (found : Stop) → whole ≡ passes_fault orders ceilings day end k s (pass ∷ rest)
+  pub pass_stops : (found : CheckStop) → whole ≡ passes_fault orders ceilings day end k s (pass ∷ rest)
       → Stops found (pass_fault s orders ceilings pass) → Stops found whole
   pass_stops found e stops = stops_at found (pass_fault s orders ceilings pass) _ whole e stops
 

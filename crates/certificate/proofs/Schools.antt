@@ -1,6 +1,6 @@
 -- A school that a day's fault tells is one of the dossier.
 use Rattle.std.proofs.Common.{◌≡◌, ℕ, ◌+◌, Bool, true, false, cond, not, List, [], ◌∷◌, length, Option, Some, None}
-use Rattle.std.proofs.Common.{IfSome, inl, inr, subst, nat_lt, slice_index}
+use Rattle.std.proofs.Common.{Result, Ok, Err, IfErr, IfSome, inl, inr, subst, nat_lt, slice_index}
 use Rattle.std.specs.Prelude.{find, option_map, if◌then◌else◌}
 use Rattle.std.specs.List.{range_with_len}
 use Rattle.std.specs.Option.{option_or}
@@ -17,9 +17,10 @@ use Rattle.admit_core.specs.Falls.{FallingSystem, fall_of, ranks_up_to_over, is_
 use Rattle.admit_core.specs.Chains.{bars_by, closing_by, day_fault, extra_pass, first_overfilled, frees_nothing_by}
 use Rattle.admit_core.specs.Chains.{lines_fault, lowered, pass_fault, passes_fault, school_of_line, shows_ranks}
 use Rattle.admit_core.specs.Chains.{tells_bars}
-use Rattle.certificate.specs.Verdicts.{IfRejected, KeepsSchool, fault_told}
-use Rattle.certificate.specs.declared.check.Verdict.{Verdict}
-use Rattle.certificate.specs.declared.check.Verdict.TheVariants.{Proved, Rejected}
+use Rattle.certificate.specs.Checked.{Finds}
+use Rattle.certificate.specs.Verdicts.{KeepsSchool, StopsAt}
+use Rattle.certificate.specs.declared.stop.CheckStop.{CheckStop}
+use Rattle.certificate.specs.declared.stop.CheckStop.TheVariants as stop
 
 abbrev Tells : ℕ → Option (ℕ × CheckReason) → Type 0
 Tells n fault = IfSome fault (λ x. KeepsSchool n x.1)
@@ -93,16 +94,13 @@ module _ (orders : List CallOrder) (ceilings : List ℕ) where
       (extra_pass rest) (passes_fault orders ceilings day end (k + 1) after rest)
       (extra_tells rest) (passes_tell day end (k + 1) after rest))
 
-verdict_keeps : (n : ℕ) (v : Verdict) → Tells n (fault_told v) → IfRejected v (KeepsSchool n)
-verdict_keeps n (Proved evening) tells = tt
-verdict_keeps n (Rejected row reason) tells = tells
-
--- a rejected day keeps a school of the dossier, if it keeps one
-pub rejects_school : (orders : List CallOrder) (ceilings : List ℕ) (day : ℕ) (morning : State)
-    (chain : DayChain) (v : Verdict) → length ceilings ≡ length morning.dossier.schools
-    → day_fault orders ceilings day morning chain ≡ fault_told v
-    → IfRejected v (KeepsSchool (length morning.dossier.schools))
-rejects_school orders ceilings day morning chain v as_many is =
-    subst (λ n. IfRejected v (KeepsSchool n)) as_many
-    (verdict_keeps (length ceilings) v (subst (Tells (length ceilings)) is
-    (passes_tell orders ceilings day chain.next_row 1 morning chain.passes)))
+-- where a check stops, it keeps a school of the dossier, if it keeps one
+pub stops_school : {X : Type 0} (orders : List CallOrder) (ceilings : List ℕ) (day : ℕ) (morning : State)
+    (chain : DayChain) (result : Result X CheckStop) → length ceilings ≡ length morning.dossier.schools
+    → Finds result (day_fault orders ceilings day morning chain)
+    → IfErr result (StopsAt (length morning.dossier.schools))
+stops_school orders ceilings day morning chain (Ok x) as_many found = tt
+stops_school orders ceilings day morning chain (Err stop.OutOfMemory) as_many found = tt
+stops_school orders ceilings day morning chain (Err (stop.Rejected row reason)) as_many found =
+    subst (λ n. KeepsSchool n reason) as_many (subst (Tells (length ceilings)) found
+    (passes_tell orders ceilings day chain.next_row 1 morning chain.passes))

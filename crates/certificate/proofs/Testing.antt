@@ -22,8 +22,8 @@ use Rattle.admit_core.specs.Falls.{IsAtMost, FallingSystem, is_overfilled, ranks
 use Rattle.admit_core.specs.Chains.{school_of_line, shows_ranks, tells_bars, line_fault}
 use Rattle.admit_core.proofs.DemandLaws.{boarding_is_lawful}
 use Rattle.admit_core.proofs.FallsLaw.{at_set}
-use Rattle.certificate.specs.declared.stop.Stop.{Stop}
-use Rattle.certificate.specs.declared.stop.Stop.TheVariants as stop
+use Rattle.certificate.specs.declared.stop.CheckStop.{CheckStop}
+use Rattle.certificate.specs.declared.stop.CheckStop.TheVariants as stop
 use Rattle.admit_core.specs.declared.dossier.School.{School}
 use Rattle.dossier_check.specs.Ids.{Ids}
 use Rattle.certificate.proofs.Cutting.{no_place, place_found}
@@ -312,7 +312,7 @@ stops_unknown s orders ceilings bars index line are as_many none =
     (tells_bars line (fall_of sys bars h)))) idle
 
 -- a fault at a line, or none there
-pub stops_at : (found : Stop) (fault rest all : Option (ℕ × CheckReason)) → all ≡ option_or fault rest
+pub stops_at : (found : CheckStop) (fault rest all : Option (ℕ × CheckReason)) → all ≡ option_or fault rest
     → Stops found fault → Stops found all
 stops_at stop.OutOfMemory fault rest all is stops = tt
 stops_at (stop.Rejected row reason) fault rest all is stops = is ∙ ap (λ o. option_or o rest) stops

@@ -8,20 +8,20 @@ use Rattle.admit_core.specs.DossierRows.{DossierRows}
 use Rattle.admit_core.specs.State.{State}
 use Rattle.admit_core.specs.Chains.{closing_by}
 use Rattle.dossier_check.specs.Ids.{Ids}
-use Rattle.certificate.specs.declared.stop.Stop.{Stop}
-use Rattle.certificate.specs.declared.stop.Stop.TheVariants as stop
+use Rattle.certificate.specs.declared.stop.CheckStop.{CheckStop}
+use Rattle.certificate.specs.declared.stop.CheckStop.TheVariants as stop
 
 -- the ids of a dossier's wishes and schools, by place
 abbrev pub ids_in : DossierRows → Ids
 ids_in d = record { wishes = map (λ w. w.id) d.wishes; schools = map (λ h. h.id) d.schools }
 
 -- a check that stopped found this fault, unless memory ran out
-abbrev pub Stops : Stop → Option (ℕ × CheckReason) → Type 0
+abbrev pub Stops : CheckStop → Option (ℕ × CheckReason) → Type 0
 Stops stop.OutOfMemory fault = Unit {0}
 Stops (stop.Rejected row reason) fault = fault ≡ Some (row, reason)
 
 -- a check that went through found none
-abbrev pub Finds : {X : Type 0} → Result X Stop → Option (ℕ × CheckReason) → Type 0
+abbrev pub Finds : {X : Type 0} → Result X CheckStop → Option (ℕ × CheckReason) → Type 0
 Finds (Ok x) fault = fault ≡ None
 Finds (Err s) fault = Stops s fault
 

@@ -6,6 +6,7 @@ pub mod ChainText
 pub mod Written
 pub mod ProvedDays
 pub mod Checked
+pub mod Desks
 pub mod Grounds
 pub mod Counted
 pub mod Verdicts

@@ -6,6 +6,8 @@ use Rattle.admit_core.specs.declared.chain.CheckReason.TheVariants.{PassMissing,
 use Rattle.admit_core.specs.State.{State}
 use Rattle.certificate.specs.declared.check.Verdict.{Verdict}
 use Rattle.certificate.specs.declared.check.Verdict.TheVariants.{Proved, Rejected}
+use Rattle.certificate.specs.declared.stop.CheckStop.{CheckStop}
+use Rattle.certificate.specs.declared.stop.CheckStop.TheVariants as stop
 
 -- the fault that a verdict tells, if it tells one
 abbrev pub fault_told : Verdict → Option (ℕ × CheckReason)
@@ -30,3 +32,8 @@ KeepsSchool schools PassExtra = Unit {0}
 abbrev pub IfRejected : Verdict → (CheckReason → Type 0) → Type 0
 IfRejected (Proved evening) P = Unit {0}
 IfRejected (Rejected row reason) P = P reason
+
+-- a school that a check keeps where it stops is one of so many
+abbrev pub StopsAt : ℕ → CheckStop → Type 0
+StopsAt schools (stop.Rejected row reason) = KeepsSchool schools reason
+StopsAt schools stop.OutOfMemory = Unit {0}

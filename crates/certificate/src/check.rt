@@ -1,15 +1,15 @@
 //! Whether the chain of a day is valid.
-ghost use Rattle.std.specs.Prelude.{◌≡◌, ◌<◌, ◌^◌, IfOk, length};
+ghost use Rattle.std.specs.Prelude.{◌≡◌, ◌<◌, ◌^◌, IfErr, IfOk, OnOk, length};
 ghost use Rattle.admit_core.specs.CallOrder.{AreCallOrders};
 ghost use Rattle.admit_core.specs.ChainLaws.{passes_told};
 ghost use Rattle.admit_core.specs.Chains.{IsDayChain, day_fault};
 ghost use Rattle.admit_core.specs.Days.{Passes};
-ghost use Rattle.certificate.specs.Checked.{ids_in};
-ghost use Rattle.certificate.specs.Verdicts.{IfProved, IfRejected, KeepsSchool, fault_told};
+ghost use Rattle.certificate.specs.Checked.{Finds, ids_in};
+ghost use Rattle.certificate.specs.Verdicts.{IfProved, IfRejected, KeepsSchool, StopsAt, fault_told};
 
+use crate::desk::CheckDesk;
 use crate::grounds::Grounds;
-use crate::passes::check_passes;
-use crate::stop::Stop;
+use crate::stop::CheckStop;
 use admit_core::{CallOrders, CheckReason, DayChain, OutOfMemory, laws_of_chains};
 use day_state::DayState;
 use dossier_check::Index;
@@ -60,7 +60,7 @@ pub fn check_day<'d>(
 /// The same on grounds that the days of a chain share.
 pub fn check_day_along<'d>(
     alloc: Global,
-    grounds: &Grounds<'_>,
+    grounds: &Grounds<'_, '_>,
     morning: &DayState<'d>,
     ceilings: &[u32],
     day: u32,
@@ -80,11 +80,43 @@ pub fn check_day_along<'d>(
         IfProved v (Passes grounds.now.orders ceilings.now day 1 morning.now
         (passes_told grounds.now.orders ceilings.now day 1 morning.now chain.now.passes))) }
 {
-    laws_of_chains();
-    let mut evening = morning.copy(alloc)?;
-    match check_passes(alloc, &mut evening, grounds, ceilings, day, chain) {
-        Ok(()) => Ok(Verdict::Proved { evening }),
-        Err(Stop::Rejected(row, reason)) => Ok(Verdict::Rejected { row, reason }),
-        Err(Stop::OutOfMemory) => Err(OutOfMemory),
+    let state = morning.copy(alloc)?;
+    let mut desk = CheckDesk::begin(alloc, state);
+    match desk.check_day(alloc, grounds, ceilings, day, chain) {
+        Ok(()) => Ok(Verdict::Proved {
+            evening: desk.into_now(),
+        }),
+        Err(CheckStop::Rejected(row, reason)) => Ok(Verdict::Rejected { row, reason }),
+        Err(CheckStop::OutOfMemory) => Err(OutOfMemory),
+    }
+}
+
+impl CheckDesk<'_> {
+    /// Tests the chain of a day from its morning on, in which the desk is, and leaves the evening of
+    /// the day. Where the check stops, the desk may be in the midst of the day.
+    pub fn check_day(
+        &mut self,
+        alloc: Global,
+        grounds: &Grounds<'_, '_>,
+        ceilings: &[u32],
+        day: u32,
+        chain: &DayChain,
+    ) -> Result<(), CheckStop>
+        requires same { grounds.now.dossier ≡ self.old.dossier }
+        requires ceilings { length ceilings.now ≡ length self.old.dossier.schools }
+        requires passes { length chain.now.passes < 2 ^ 32 }
+
+        ensures found { Finds result
+            (day_fault grounds.now.orders ceilings.now day self.old chain.now) }
+        ensures valid { OnOk result
+            (IsDayChain grounds.now.orders ceilings.now day self.old chain.now self.new) }
+        ensures greatest { OnOk result (Passes grounds.now.orders ceilings.now day 1 self.old
+            (passes_told grounds.now.orders ceilings.now day 1 self.old chain.now.passes)
+            self.new) }
+        ensures school { IfErr result (StopsAt (length self.old.dossier.schools)) }
+        ensures dossier { self.new.dossier ≡ self.old.dossier }
+    {
+        laws_of_chains();
+        self.check_passes(alloc, grounds, ceilings, day, chain)
     }
 }

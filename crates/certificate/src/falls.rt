@@ -8,7 +8,7 @@ ghost use Rattle.certificate.specs.Checked.{Finds, ids_in};
 
 use crate::grounds::Grounds;
 use crate::named::{ranks_up_to, show_ranks};
-use crate::stop::Stop;
+use crate::stop::CheckStop;
 use admit_core::{CheckReason, FallLine, PassChain, Steps};
 use bar_fixpoint::Falling;
 use day_state::DayState;
@@ -32,7 +32,7 @@ fn check_line(
     state: &DayState<'_>,
     index: &Index,
     line: &FallLine,
-) -> Result<u32, Stop>
+) -> Result<u32, CheckStop>
     requires same { round.now.state ≡ state.now }
     requires index { index.now ≡ ids_in state.now.dossier }
     requires ceilings { length round.now.ceilings ≡ length state.now.dossier.schools }
@@ -46,18 +46,18 @@ fn check_line(
     let _ = state.marks(); // one for each wish
     let row = line.row;
     let Some(school) = school_place(index, line.school) else {
-        return Err(Stop::Rejected(row, CheckReason::NotOver));
+        return Err(CheckStop::Rejected(row, CheckReason::NotOver));
     };
     let Some(over) = round.first_over(school) else {
-        return Err(Stop::Rejected(row, CheckReason::NotOver));
+        return Err(CheckStop::Rejected(row, CheckReason::NotOver));
     };
     let ranks = ranks_up_to(alloc, round, state, school, over)?;
     if !show_ranks(round, state, index, school, &ranks, line.wishes.as_slice()) {
-        return Err(Stop::Rejected(row, CheckReason::WrongWishes));
+        return Err(CheckStop::Rejected(row, CheckReason::WrongWishes));
     }
     let from = round.bar(school);
     if !tells_bars(line, from, over - 1) {
-        return Err(Stop::Rejected(row, CheckReason::WrongBar));
+        return Err(CheckStop::Rejected(row, CheckReason::WrongBar));
     }
     Ok(school)
 }
@@ -70,7 +70,7 @@ fn check_lines<L: Ledger>(
     index: &Index,
     lines: &[FallLine],
     steps: &mut Steps<L>,
-) -> Result<(), Stop>
+) -> Result<(), CheckStop>
     requires same { round.old.state ≡ state.now }
     requires index { index.now ≡ ids_in state.now.dossier }
     requires ceilings { length round.old.ceilings ≡ length state.now.dossier.schools }
@@ -107,10 +107,10 @@ fn first_overfilled(round: &LinkedRound<'_, '_>) -> Option<u32>
 pub(crate) fn offers_of(
     alloc: Global,
     state: &DayState<'_>,
-    grounds: &Grounds<'_>,
+    grounds: &Grounds<'_, '_>,
     ceilings: &[u32],
     pass: &PassChain,
-) -> Result<Vec<u32>, Stop>
+) -> Result<Vec<u32>, CheckStop>
     requires same { grounds.now.dossier ≡ state.now.dossier }
     requires ceilings { length ceilings.now ≡ length state.now.dossier.schools }
     ensures found { Finds result (pass_fault state.now grounds.now.orders ceilings.now pass.now) }
@@ -129,7 +129,7 @@ fn offers_on<L: Ledger>(
     index: &Index,
     pass: &PassChain,
     steps: &mut Steps<L>,
-) -> Result<Vec<u32>, Stop>
+) -> Result<Vec<u32>, CheckStop>
     requires same { round.old.state ≡ state.now }
     requires index { index.now ≡ ids_in state.now.dossier }
     requires ceilings { length round.old.ceilings ≡ length state.now.dossier.schools }
@@ -141,7 +141,7 @@ fn offers_on<L: Ledger>(
 {
     check_lines(alloc, round, state, index, pass.falls.as_slice(), steps)?;
     if let Some(school) = first_overfilled(round) {
-        return Err(Stop::Rejected(pass.next_row, CheckReason::StillOver { school }));
+        return Err(CheckStop::Rejected(pass.next_row, CheckReason::StillOver { school }));
     }
     Ok(round.proposed(alloc)?)
 }
@@ -151,10 +151,10 @@ fn counted_offers<L: Ledger>(
     alloc: Global,
     blank: Blank,
     state: &DayState<'_>,
-    grounds: &Grounds<'_>,
+    grounds: &Grounds<'_, '_>,
     ceilings: &[u32],
     pass: &PassChain,
-) -> Result<Vec<u32>, Stop>
+) -> Result<Vec<u32>, CheckStop>
     requires name { blank.name ≡ L.name }
     requires parts { blank.parts ≡ L.parts }
     requires shared { 0 < L.parts }

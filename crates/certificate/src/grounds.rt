@@ -12,15 +12,15 @@ use std::marker::Model;
 
 /// What does not change from day to day while a chain is tested: the dossier, the index of its ids,
 /// its call orders, and who wishes for each programme in their order.
-pub struct Grounds<'a> {
-    pub(crate) dossier: &'a Dossier,
+pub struct Grounds<'a, 'd> {
+    pub(crate) dossier: &'d Dossier,
     pub(crate) index: &'a Index,
     pub(crate) orders: &'a CallOrders,
     pub(crate) lineup: Lineup,
 }
 
 // Not derived: so grounds are dropped in one step where they are held, and not part by part.
-impl Drop for Grounds<'_> {
+impl Drop for Grounds<'_, '_> {
     fn drop(self) {
         let Grounds {
             dossier: _,
@@ -31,7 +31,7 @@ impl Drop for Grounds<'_> {
     }
 }
 
-impl<'a> Model for Grounds<'a> {
+impl<'a, 'd> Model for Grounds<'a, 'd> {
     ghost use Rattle.certificate.specs.Grounds.{Ground, AreGroundsOf};
 
     ghost Value = { Ground };
@@ -41,15 +41,15 @@ impl<'a> Model for Grounds<'a> {
     ghost invariant = { λ g. AreGroundsOf g.dossier.now g.index.now g.orders.now.orders g.lineup };
 }
 
-impl<'a> Grounds<'a> {
+impl<'a, 'd> Grounds<'a, 'd> {
     /// The grounds of a state's dossier, which all states of it share. They cost a walk along the
     /// call order of each group.
-    pub fn build<'d>(
+    pub fn build(
         alloc: Global,
         index: &'a Index,
         orders: &'a CallOrders,
-        state: &'a DayState<'d>,
-    ) -> Result<Grounds<'a>, OutOfMemory>
+        state: &DayState<'d>,
+    ) -> Result<Grounds<'a, 'd>, OutOfMemory>
         requires index { index.now ≡ ids_in state.now.dossier }
         requires orders { AreCallOrders state.now.dossier.groups orders.now.orders }
         ensures { IfOk result (λ g. g ≡ record {
@@ -74,12 +74,12 @@ impl<'a> Grounds<'a> {
     }
 
     /// The boarding schools of a state, with their bars at the ceilings.
-    pub(crate) fn begin_round<'b, 'd>(
+    pub(crate) fn begin_round<'b, 'e>(
         &'b self,
         alloc: Global,
-        state: &'b DayState<'d>,
+        state: &'b DayState<'e>,
         ceilings: &[u32],
-    ) -> Result<LinkedRound<'b, 'd>, OutOfMemory>
+    ) -> Result<LinkedRound<'b, 'e>, OutOfMemory>
         requires same { self.now.dossier ≡ state.now.dossier }
         requires ceilings { length ceilings.now ≡ length state.now.dossier.schools }
         ensures { IfOk result (λ round. round ≡ record {

@@ -9,6 +9,7 @@
 
 mod check;
 mod cut;
+mod desk;
 mod falls;
 mod grounds;
 mod line;
@@ -23,9 +24,11 @@ mod worked;
 mod write;
 
 pub use check::{Verdict, check_day, check_day_along};
+pub use desk::CheckDesk;
 pub use grounds::Grounds;
 pub use read::read_chain;
 pub use refusal::ChainRefusal;
+pub use stop::CheckStop;
 pub use texts::{chain_fault_text, verdict_text};
 pub use worked::worked_chain_texts;
 pub use write::write_chain;

@@ -4,29 +4,29 @@ use std::alloc::AllocError;
 
 /// Why a check ends early. A rejection tells the row, and for a fall or a pass why it is not valid.
 #[derive(Clone, Copy)]
-pub(crate) enum Stop {
+pub enum CheckStop {
     Rejected(u64, CheckReason),
     OutOfMemory,
 }
 
-impl From<AllocError> for Stop {
+impl From<AllocError> for CheckStop {
     ghost use Rattle.std.specs.Prelude.{◌≡◌};
-    ghost use Rattle.certificate.specs.declared.stop.Stop.TheVariants as stop;
+    ghost use Rattle.certificate.specs.declared.stop.CheckStop.TheVariants as stop;
 
     ghost from_gives = { λ _ found. found ≡ stop.OutOfMemory };
 
-    fn from(_error: AllocError) -> Stop {
-        Stop::OutOfMemory
+    fn from(_error: AllocError) -> CheckStop {
+        CheckStop::OutOfMemory
     }
 }
 
-impl From<OutOfMemory> for Stop {
+impl From<OutOfMemory> for CheckStop {
     ghost use Rattle.std.specs.Prelude.{◌≡◌};
-    ghost use Rattle.certificate.specs.declared.stop.Stop.TheVariants as stop;
+    ghost use Rattle.certificate.specs.declared.stop.CheckStop.TheVariants as stop;
 
     ghost from_gives = { λ _ found. found ≡ stop.OutOfMemory };
 
-    fn from(_error: OutOfMemory) -> Stop {
-        Stop::OutOfMemory
+    fn from(_error: OutOfMemory) -> CheckStop {
+        CheckStop::OutOfMemory
     }
 }

@@ -116,15 +116,8 @@ impl Falling for PlainRound<'_, '_> {
         self.over_among(alloc, &places, i)
     }
 
-    fn overfilled(&self, alloc: Global) -> Result<Vec<u32>, OutOfMemory> {
-        let places = self.proposed(alloc)?;
-        let mut schools = Vec::new(alloc);
-        for school in 0..self.count() {
-            if self.over_among(alloc, &places, school)?.is_some() {
-                schools.push(school)?;
-            }
-        }
-        Ok(schools)
+    fn listed(&self) -> Option<&[u32]> {
+        None
     }
 
     fn names(&self, alloc: Global, i: u32, upto: u32) -> Result<Vec<u32>, OutOfMemory> {

@@ -28,13 +28,6 @@ pub tells_on : {T E : Type 0} (r : Result T E) (before after picks : List ℕ) �
 tells_on (Ok x) before after picks more = tt
 tells_on (Err e) before after picks more = (picks, more)
 
--- a day that is recorded so came about
-pub done_so : (terms : Option Terms) (orders : List CallOrder) (ceilings : List ℕ) (day : ℕ) (before after : Moment)
-    (found done : DayRecord) → found ≡ done
-    → IsDayDone terms orders ceilings day before done after → IsDayDone terms orders ceilings day before found after
-done_so terms orders ceilings day before after found done same is =
-    subst (λ (d : DayRecord). IsDayDone terms orders ceilings day before d after) (sym same) is
-
 -- nothing was told, and the opening is as it was
 keeps_still : (before after : State) → after ≡ before → (refusal : DayRefusal) → KeepsOpening before after refusal
 keeps_still before after same (refusals.Unfit refusal) = same

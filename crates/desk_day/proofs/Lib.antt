@@ -3,6 +3,7 @@
 -- A pass and its answers: OnePass, ChangedMarks, BesideChanges, OnceEach, MarkPairs.
 -- Passes one after another: LaterPasses (who need not be asked again), PassesSoFar, PassEnds.
 -- The whole day: DayEnds, DayPlaces, Stamps, SameDossier, IdleDays (nothing happens).
+-- What is kept of passes and of days: KeptPasses, KeptDays.
 -- Laws of days: SameDays, DayLaws.
 pub mod Listed
 pub mod ChangedMarks
@@ -25,3 +26,5 @@ pub mod BesideChanges
 pub mod Touching
 pub mod OnceEach
 pub mod IdleDays
+pub mod KeptPasses
+pub mod KeptDays

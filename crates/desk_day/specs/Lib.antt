@@ -12,3 +12,4 @@ pub mod RunDay
 pub mod Idle
 pub mod Once
 pub mod Running
+pub mod KeptDays

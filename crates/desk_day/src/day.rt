@@ -7,14 +7,17 @@ ghost use Rattle.admit_core.specs.Lapses.{AreTermsFor};
 ghost use Rattle.desk_day.specs.AnswersOn.{IsUnfitOf};
 ghost use Rattle.desk_day.specs.DayPasses.{IsAnswered, IsAnsweredBut};
 ghost use Rattle.desk_day.specs.DayPlaces.{AreWishesOf};
+ghost use Rattle.desk_day.specs.KeptDays.{EndsDayKept, kept_day};
 ghost use Rattle.desk_day.specs.RunDay.{EndsDay, IsDayDone};
 ghost use Rattle.desk_day.specs.Running.{IsUndone, moment_on};
+ghost use Rattle.round.specs.KeptFalls.{IsKeptOf};
 
 use crate::answers_on::answer;
 use crate::desk::{Desk, keep_evening};
 use crate::evening::record_day;
 use crate::idle::is_idle;
 use crate::lapses::lapse_offers;
+use crate::plan::DayPlan;
 use crate::refusal::DayRefusal;
 use crate::running::{Running, both};
 use crate::touched::list_touched;
@@ -44,12 +47,38 @@ pub fn run_day_along(
         (record { desk = desk.old; told = told picker.old; choice = choice picker.old })
         (record { desk = desk.new; told = told picker.new; choice = choice picker.new }) result }
 {
+    let plan = DayPlan {
+        ceilings,
+        terms,
+        day,
+        keeps_falls: true,
+    };
+    run_day_by(alloc, desk, roster, plan, picker)
+}
+
+/// Runs a day as [`run_day_along`] does, by a plan. Where the plan keeps no falls, the record has
+/// none, and the day takes no memory for them.
+pub fn run_day_by(
+    alloc: Global,
+    desk: &mut Desk<'_>,
+    roster: &Roster<'_, '_>,
+    plan: DayPlan<'_>,
+    picker: &mut dyn Picker,
+) -> Result<DayRecord, DayRefusal>
+    requires roster { roster.now.dossier ≡ desk.old.present.dossier }
+    requires ceilings { length plan.ceilings.now ≡ length desk.old.present.dossier.schools }
+    requires before { AreTermsFor desk.old.present.dossier (option_copied plan.terms) }
+    requires day { IsDayNumber plan.day }
+
+    ensures { EndsDayKept plan.entry.keeps_falls (option_copied plan.entry.terms) roster.now.orders
+        plan.entry.ceilings.now plan.entry.day
+        (record { desk = desk.old; told = told picker.old; choice = choice picker.old })
+        (record { desk = desk.new; told = told picker.new; choice = choice picker.new }) result }
+{
     let _ = desk.now().marks(); // one for each wish
     keep_evening(&mut desk.evening, desk.running.now(), desk.is_still);
     let is_settled = desk.running.is_settled();
-    let outcome = desk
-        .running
-        .play(alloc, roster, ceilings, terms, day, picker);
+    let outcome = desk.running.play(alloc, roster, plan, picker);
     desk.is_still = false;
     match outcome {
         Ok(done) => {
@@ -71,21 +100,20 @@ impl Running<'_> {
         &mut self,
         alloc: Global,
         roster: &Roster<'_, '_>,
-        ceilings: &[u32],
-        terms: Option<&Terms>,
-        day: u32,
+        plan: DayPlan<'_>,
         picker: &mut dyn Picker,
     ) -> Result<DayRecord, DayRefusal>
         requires roster { roster.now.dossier ≡ self.old.present.dossier }
-        requires ceilings { length ceilings.now ≡ length self.old.present.dossier.schools }
-        requires before { AreTermsFor self.old.present.dossier (option_copied terms) }
-        requires day { IsDayNumber day }
+        requires ceilings { length plan.ceilings.now ≡ length self.old.present.dossier.schools }
+        requires before { AreTermsFor self.old.present.dossier (option_copied plan.terms) }
+        requires day { IsDayNumber plan.day }
 
-        ensures done { IfOk result (λ done. IsDayDone (option_copied terms.entry) roster.now.orders
-            ceilings.now day
+        ensures done { IfOk result (IsKeptOf (kept_day plan.entry.keeps_falls) (λ done.
+            IsDayDone (option_copied plan.entry.terms) roster.now.orders plan.entry.ceilings.now
+            plan.entry.day
             (moment_on self.old self.old.present (told picker.old) (choice picker.old)) done
-            (moment_on self.new self.old.present (told picker.new) (choice picker.new))) }
-        ensures undone { IfErr result (IsUndone (option_copied terms.entry) day
+            (moment_on self.new self.old.present (told picker.new) (choice picker.new)))) }
+        ensures undone { IfErr result (IsUndone (option_copied plan.entry.terms) plan.entry.day
             (moment_on self.old self.old.present (told picker.old) (choice picker.old))
             (moment_on self.new self.old.present (told picker.new) (choice picker.new))) }
         ensures choice { choice picker.new ≡ choice picker.old }
@@ -94,9 +122,9 @@ impl Running<'_> {
         let state = self.now();
         let _ = state.dossier().wishes.len(); // learns that the dossier is valid
         let _ = roster.orders(); // these are the dossier's
-        let lapsed = self.begin_day(alloc, terms, day)?;
-        let passes = self.make_passes(alloc, roster, ceilings, day, picker)?;
-        let done = record_day(alloc, self.now(), day, passes, lapsed)?;
+        let lapsed = self.begin_day(alloc, plan.terms, plan.day)?;
+        let passes = self.make_passes(alloc, roster, plan, picker)?;
+        let done = record_day(alloc, self.now(), plan.day, passes, lapsed)?;
         Ok(done)
     }
 

@@ -16,14 +16,16 @@ mod lapses;
 mod morning;
 mod once;
 mod passes;
+mod plan;
 mod refusal;
 mod running;
 mod touched;
 
 pub use ceilings::{ceilings_on, own_ceilings};
-pub use day::{Begun, begin_day, run_day_along};
+pub use day::{Begun, begin_day, run_day_along, run_day_by};
 pub use desk::Desk;
 pub use morning::make_morning;
 pub use once::ask_beside;
 pub use passes::answer_after;
+pub use plan::DayPlan;
 pub use refusal::DayRefusal;

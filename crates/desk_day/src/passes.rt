@@ -1,25 +1,25 @@
 //! The passes of a day.
-ghost use Rattle.std.specs.Prelude.{◌≡◌, ◌++◌, length, true, IfOk, OnErr};
+ghost use Rattle.std.specs.Prelude.{◌≡◌, length, map, true, IfOk, OnErr};
 ghost use Rattle.admit_core.specs.AutoAnswer.{auto_all, freed};
-ghost use Rattle.admit_core.specs.Boarding.{boarding};
 ghost use Rattle.admit_core.specs.Days.{frees_nothing};
-ghost use Rattle.bar_fixpoint.specs.Runs.{schools_of};
-ghost use Rattle.bar_fixpoint.specs.Chosen.{AreChosen};
 ghost use Rattle.auto_answer.specs.Laws.{AreAnsweredBut, SameOthers};
 ghost use Rattle.desk_day.specs.Changes.{answered_changes};
-ghost use Rattle.desk_day.specs.DayPasses.{AreChosenPasses, TellsMore, schools_of_passes, offered_along};
+ghost use Rattle.desk_day.specs.DayPasses.{TellsMore, offered_along};
 ghost use Rattle.desk_day.specs.DayPlaces.{AreWishesOf};
-ghost use Rattle.desk_day.specs.Running.{ArePassesMade, IsPassMade, opening_after};
+ghost use Rattle.desk_day.specs.KeptDays.{ArePassesPicked, IsPassPicked, kept_end};
+ghost use Rattle.desk_day.specs.Running.{opening_after};
+ghost use Rattle.round.specs.KeptFalls.{IsKeptOf};
 
 use crate::changes::{answered_changes, changes_beside};
 use crate::once::ask_beside;
+use crate::plan::DayPlan;
 use crate::running::Running;
 use admit_core::{Change, Freed, OutOfMemory, PassEnd, Sequence, Stamp};
 use auto_answer::{auto_all, auto_some};
 use bar_fixpoint::Picker;
 use day_state::DayState;
 use linked_demand::Roster;
-use round::pass_along;
+use round::pass_keeping;
 use std::alloc::Global;
 
 impl Running<'_> {
@@ -32,19 +32,16 @@ impl Running<'_> {
         &mut self,
         alloc: Global,
         roster: &Roster<'_, '_>,
-        ceilings: &[u32],
-        day: u32,
+        plan: DayPlan<'_>,
         picker: &mut dyn Picker,
     ) -> Result<Vec<PassEnd>, OutOfMemory>
         requires roster { roster.now.dossier ≡ self.old.present.dossier }
-        requires ceilings { length ceilings.now ≡ length self.old.present.dossier.schools }
+        requires ceilings { length plan.ceilings.now ≡ length self.old.present.dossier.schools }
 
-        ensures made { IfOk result (λ ends. ArePassesMade roster.now.orders ceilings.now day
-            self.old.present ends.items self.new) }
-        ensures told { IfOk result (λ ends. told picker.new ≡ told picker.old
-            ++ schools_of_passes ends.items) }
-        ensures chosen { IfOk result (λ ends. AreChosenPasses roster.now.orders ceilings.now day 1
-            self.old.present (choice picker.old) (told picker.old) ends.items) }
+        ensures made { IfOk result (λ ends. IsKeptOf (map (kept_end plan.entry.keeps_falls))
+            (ArePassesPicked roster.now.orders plan.entry.ceilings.now plan.entry.day
+            self.old.present (choice picker.old) (told picker.old) (told picker.new) self.new)
+            ends.items) }
         ensures early { OnErr result (TellsMore (told picker.old) (told picker.new)) }
         ensures choice { choice picker.new ≡ choice picker.old }
         ensures dossier { self.new.present.dossier ≡ self.old.present.dossier }
@@ -56,8 +53,11 @@ impl Running<'_> {
         let mut ends = Vec::new(alloc);
         let mut number = 1;
         'passes: loop {
-            let stamp = Stamp { day, pass: number };
-            let end = self.make_pass(alloc, roster, ceilings, stamp, picker)?;
+            let stamp = Stamp {
+                day: plan.day,
+                pass: number,
+            };
+            let end = self.make_pass(alloc, roster, plan, stamp, picker)?;
             let is_last = frees_nothing(end.freed);
             ends.push(end)?;
             if is_last {
@@ -73,20 +73,17 @@ impl Running<'_> {
         &mut self,
         alloc: Global,
         roster: &Roster<'_, '_>,
-        ceilings: &[u32],
+        plan: DayPlan<'_>,
         stamp: Stamp,
         picker: &mut dyn Picker,
     ) -> Result<PassEnd, OutOfMemory>
         requires opened { self.old.opening ≡ self.old.present }
         requires roster { roster.now.dossier ≡ self.old.present.dossier }
-        requires ceilings { length ceilings.now ≡ length self.old.present.dossier.schools }
+        requires ceilings { length plan.ceilings.now ≡ length self.old.present.dossier.schools }
 
-        ensures made { IfOk result (λ end. IsPassMade roster.now.orders ceilings.now stamp
-            self.old.present end self.new) }
-        ensures picked { IfOk result (λ end.
-            (told picker.new ≡ told picker.old ++ schools_of end.pass.falls)
-            × AreChosen (boarding self.old.present roster.now.orders ceilings.now)
-            (choice picker.old) (told picker.old) ceilings.now end.pass.falls) }
+        ensures made { IfOk result (IsKeptOf (kept_end plan.entry.keeps_falls)
+            (IsPassPicked roster.now.orders plan.entry.ceilings.now stamp self.old.present
+            (choice picker.old) (told picker.old) (told picker.new) self.new)) }
         ensures early { OnErr result (TellsMore (told picker.old) (told picker.new)) }
         ensures choice { choice picker.new ≡ choice picker.old }
         ensures dossier { self.new.present.dossier ≡ self.old.present.dossier }
@@ -95,7 +92,15 @@ impl Running<'_> {
         let is_answered = self.is_answered;
         self.is_answered = false;
         self.is_alike = false;
-        let pass = pass_along(alloc, &mut self.present, roster, ceilings, stamp, picker)?;
+        let pass = pass_keeping(
+            alloc,
+            &mut self.present,
+            roster,
+            plan.ceilings,
+            stamp,
+            picker,
+            plan.keeps_falls,
+        )?;
         let offers = pass.offers.as_slice();
         ask_beside(&mut self.beside, &self.present, offers, is_answered)?;
         let asked = self.beside.as_slice();

@@ -85,7 +85,7 @@ impl<'a> Makes<WishRow, Option<Since>> for Places<'a> {
 
     ghost made = { λ c. date_of_wish c.tables.now };
 
-    fn make(&self, row: &WishRow) -> Option<Since> {
+    fn make(&self, row: &WishRow, _number: usize) -> Option<Since> {
         match state_row_of(self.tables, self.keys, row) {
             Some(row) => row.since,
             None => None,

@@ -9,6 +9,7 @@ ghost use Rattle.dossier_check.specs.Keys.{AreKeysOf};
 use crate::index::Index;
 use crate::made::{Makes, made_of};
 use crate::noted::{row_of, row_with};
+use crate::placed::place_near;
 use crate::row_ids::RowIds;
 use admit_core::{
     Answer, AnswerKind, AnswerRow, CeilingChange, CeilingRow, OutOfMemory, Programme, ProgrammeRow,
@@ -26,6 +27,8 @@ pub(crate) struct Keys {
     pub(crate) boarding: IndexSet<(u32, u32), Keyed>,
     pub(crate) wishes: RowIds,
     pub(crate) state: RowIds,
+    /// For each wish where its programme is looked for first: at the place that the tests found.
+    pub(crate) near: Vec<usize>,
 }
 
 // Not derived: so keys are dropped in one step where they are held, and not by each list.
@@ -38,6 +41,7 @@ impl Drop for Keys {
             boarding,
             wishes: _,
             state,
+            near: _,
         } = self;
         give_back(groups, programmes, boarding, state);
     }
@@ -64,6 +68,7 @@ impl Keys {
             boarding,
             wishes,
             state,
+            near: _,
         } = self;
         give_back(groups, programmes, boarding, state);
         Index { wishes, schools }
@@ -135,7 +140,7 @@ impl<'a> Makes<ProgrammeRow, Programme> for Places<'a> {
 
     ghost made = { λ c. programme_of_row c.tables.now };
 
-    fn make(&self, row: &ProgrammeRow) -> Programme {
+    fn make(&self, row: &ProgrammeRow, _number: usize) -> Programme {
         Programme {
             id: row.id,
             group: place_in(&self.keys.groups, row.group),
@@ -150,7 +155,7 @@ impl<'a> Makes<SchoolRow, School> for Places<'a> {
 
     ghost made = { λ c. school_of_row };
 
-    fn make(&self, row: &SchoolRow) -> School {
+    fn make(&self, row: &SchoolRow, _number: usize) -> School {
         School {
             id: row.id,
             beds: row.beds,
@@ -164,11 +169,12 @@ impl<'a> Makes<WishRow, Wish> for Places<'a> {
 
     ghost made = { λ c. wish_of_row c.tables.now };
 
-    fn make(&self, row: &WishRow) -> Wish {
+    fn make(&self, row: &WishRow, number: usize) -> Wish {
+        let mut near = self.keys.near.get(number).copied().unwrap_or(0);
         Wish {
             id: row.id,
             candidate: row.candidate,
-            programme: place_in(&self.keys.programmes, row.programme),
+            programme: place_near(&self.keys.programmes, row.programme, &mut near),
             school: place_in_any(&self.keys.schools, row.school),
             board_rank: board_rank_of(self.tables, self.keys, row.candidate, row.school),
             preference: row.preference,
@@ -181,7 +187,7 @@ impl<'a> Makes<CeilingRow, CeilingChange> for Places<'a> {
 
     ghost made = { λ c. ceiling_of_row c.tables.now };
 
-    fn make(&self, row: &CeilingRow) -> CeilingChange {
+    fn make(&self, row: &CeilingRow, _number: usize) -> CeilingChange {
         CeilingChange {
             day: row.day,
             school: place_in(&self.keys.schools, row.school),
@@ -195,7 +201,7 @@ impl<'a> Makes<AnswerRow, Answer> for Places<'a> {
 
     ghost made = { λ c. answer_of_row c.tables.now };
 
-    fn make(&self, row: &AnswerRow) -> Answer {
+    fn make(&self, row: &AnswerRow, _number: usize) -> Answer {
         Answer {
             day: row.day,
             kind: row.kind,

@@ -10,7 +10,8 @@ pub(crate) trait Makes<R, T> {
 
     ghost made: { Self → R → T };
 
-    fn make(&self, row: &R) -> T
+    /// The item of a row. Nothing depends on the row's number, from 0, but how long that takes.
+    fn make(&self, row: &R, number: usize) -> T
         requires { can_make self.now }
         ensures { result ≡ made self.now row.now };
 }
@@ -25,8 +26,8 @@ pub(crate) fn made_of<R, T: Copy + Drop, M: Makes<R, T>>(
     ensures { IfOk result (λ items. items.items ≡ map (M.made maker.now) rows.now) }
 {
     let mut items = Vec::with_capacity(alloc, rows.len())?;
-    for row in rows {
-        items.push(maker.make(row))?;
+    for (number, row) in rows.iter().enumerate() {
+        items.push(maker.make(row, number))?;
     }
     Ok(items)
 }

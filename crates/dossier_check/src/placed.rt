@@ -1,4 +1,4 @@
-//! The places of the groups of rankings, each found once.
+//! The places of what rows name, each found once.
 ghost use Rattle.std.specs.Prelude.{◌≡◌, ◌<◌, ◌^◌, All, IfOk, length, true};
 ghost use Rattle.admit_core.specs.Standing.{place_of};
 ghost use Rattle.dossier_check.specs.Dealt.{places_in};
@@ -7,13 +7,13 @@ use crate::row_ids::RowIds;
 use admit_core::{OutOfMemory, RankRow};
 use std::alloc::Global;
 
-/// The place of a group, and the number of groups where it is none of them. It's looked for first
-/// where `near` says, which becomes its place.
-fn place_near(groups: &RowIds, group: u32, near: &mut usize) -> u32
-    requires { length groups.now.keys < 2 ^ 32 }
-    ensures { result ≡ place_of groups.now.keys group }
+/// The place of an id, and the number of ids where it is none of them. It's looked for first where
+/// `near` says, which becomes its place.
+pub(crate) fn place_near(ids: &RowIds, id: u32, near: &mut usize) -> u32
+    requires { length ids.now.keys < 2 ^ 32 }
+    ensures { result ≡ place_of ids.now.keys id }
 {
-    groups.find_near(group, near).unwrap_or(groups.len()) as u32
+    ids.find_near(id, near).unwrap_or(ids.len()) as u32
 }
 
 /// The places of the groups of rows, row by row. The rows of a group mostly stand together.

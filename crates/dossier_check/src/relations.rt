@@ -27,7 +27,7 @@ use crate::slots::{check_boarding, check_ceilings, check_ids, check_programmes};
 use crate::state::check_state;
 use crate::statuses::statuses_of;
 use crate::who_is_ranked::WhoIsRanked;
-use crate::wishes::check_wishes;
+use crate::wishes::{WishKeys, check_wishes};
 use admit_core::{
     Answer, CeilingChange, Dossier, InFault, OutOfMemory, RankGroup, Sequence, Slot, Status,
     Tables, Wish,
@@ -50,11 +50,11 @@ fn check_wishes_on<'a>(
     alloc: Global,
     tables: &'a Tables,
     known: Known<'a>,
-) -> Result<(RowIds, RowIds), InFault>
+) -> Result<(WishKeys, RowIds), InFault>
     requires known { IsKnown tables.now known }
     requires ranges { AreTables tables.now }
     ensures fault { AnswersFault result (first_from_wishes tables.now) }
-    ensures wishes { IfOk result (λ keys. keys.0.keys ≡ wish_ids tables.now) }
+    ensures wishes { IfOk result (λ keys. keys.0.ids.keys ≡ wish_ids tables.now) }
     ensures state { IfOk result (λ keys. keys.1.keys ≡ map (λ s. s.wish) tables.now.state) }
 {
     let keyed = known.keyed;
@@ -63,7 +63,7 @@ fn check_wishes_on<'a>(
     let state = check_state(alloc, keyed, tables, &wishes.ids)?;
     check_ceilings(alloc, keyed, tables, schools)?;
     check_answers(tables, &wishes.ids, &wishes.firsts)?;
-    Ok((wishes.into_ids(), state))
+    Ok((wishes, state))
 }
 
 /// The ids of the groups, the programmes and the schools.
@@ -88,14 +88,20 @@ impl Named {
     ghost use Rattle.dossier_check.specs.declared.items.Keys.{Keys};
 
     /// The keys of all slots.
-    fn into_keys(self, boarding: IndexSet<(u32, u32), Keyed>, wishes: RowIds, state: RowIds) -> Keys
+    fn into_keys(
+        self,
+        boarding: IndexSet<(u32, u32), Keyed>,
+        wishes: WishKeys,
+        state: RowIds,
+    ) -> Keys
         ensures { result ≡ record {
           groups = self.groups;
           programmes = self.programmes;
           schools = self.schools;
           boarding = boarding;
-          wishes = wishes;
+          wishes = wishes.ids;
           state = state;
+          near = wishes.programmes;
         } }
     {
         let Named {
@@ -103,6 +109,7 @@ impl Named {
             programmes,
             schools,
         } = self;
+        let (wishes, near) = wishes.into_parts();
         Keys {
             groups,
             programmes,
@@ -110,6 +117,7 @@ impl Named {
             boarding,
             wishes,
             state,
+            near,
         }
     }
 }

@@ -81,6 +81,8 @@ pub(crate) struct Near {
     pub(crate) groups: Vec<usize>,
     /// For each group the place after the candidate found last, by the groups' places.
     pub(crate) candidates: Vec<usize>,
+    /// The place of each wish's programme, by the wishes' places.
+    pub(crate) programmes: Vec<usize>,
 }
 
 /// Who is ranked in each group, by the groups' places.

@@ -16,7 +16,7 @@ impl Makes<WishRow, (u32, u32, u32)> for Wished {
 
     ghost made = { λ c. wished };
 
-    fn make(&self, row: &WishRow) -> (u32, u32, u32) {
+    fn make(&self, row: &WishRow, _number: usize) -> (u32, u32, u32) {
         (row.candidate, row.programme, row.school.unwrap_or(0))
     }
 }

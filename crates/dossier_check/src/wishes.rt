@@ -45,7 +45,7 @@ impl<'a> RowTest<WishRow> for Unranked<'a> {
     ghost has_seen = { λ c before. (c.programmes.now.keys ≡ programme_ids c.tables.now)
         × SaysWhoIsRanked c.tables.now c.ranked };
 
-    ghost takes_memory = { ⊥ };
+    ghost takes_memory = { Unit {0} };
 
     fn stands(&mut self, row: &WishRow, _number: u64) -> Result<Option<Reason>, OutOfMemory> {
         let programmes = self.tables.programmes.as_slice();
@@ -58,6 +58,7 @@ impl<'a> RowTest<WishRow> for Unranked<'a> {
                 .ranked
                 .has(programme.group, row.candidate, &mut self.near, place)
             {
+                self.near.programmes.push(place)?;
                 return Ok(None);
             }
         }
@@ -226,22 +227,33 @@ impl RowTest<WishRow> for PreferenceTaken {
 pub(crate) struct WishKeys {
     pub(crate) ids: RowIds,
     pub(crate) firsts: IndexMap<u32, FirstWish, Keyed>,
+    /// The place of each wish's programme. Nothing depends on it but how long a look takes.
+    pub(crate) programmes: Vec<usize>,
 }
 
 // Not derived, as above.
 impl Drop for WishKeys {
     fn drop(self) {
-        let WishKeys { ids: _, firsts: _ } = self;
+        let WishKeys {
+            ids: _,
+            firsts: _,
+            programmes: _,
+        } = self;
     }
 }
 
 impl WishKeys {
-    /// The ids alone.
-    pub(crate) fn into_ids(self) -> RowIds
-        ensures { result ≡ self.ids }
+    /// The ids, and the places of the programmes.
+    pub(crate) fn into_parts(self) -> (RowIds, Vec<usize>)
+        ensures ids { result.0 ≡ self.ids }
+        ensures programmes { result.1 ≡ self.programmes }
     {
-        let WishKeys { ids, firsts: _ } = self;
-        ids
+        let WishKeys {
+            ids,
+            firsts: _,
+            programmes,
+        } = self;
+        (ids, programmes)
     }
 }
 
@@ -276,6 +288,7 @@ fn wish_rooms(
     let near = Near {
         groups: vec![in alloc; 0; programmes]?,
         candidates: vec![in alloc; 0; groups]?,
+        programmes: Vec::with_capacity(alloc, wishes)?,
     };
     Ok((RowIds::with_room(alloc, wishes)?, near))
 }
@@ -333,7 +346,10 @@ fn keys_in(tests: WishTests<'_>) -> WishKeys
     let Then { first: _, rest } = rest;
     let Then { first: _, rest } = rest;
     let Then { first: _, rest } = rest;
-    let Then { first: _, rest } = rest;
+    let Then {
+        first: unranked,
+        rest,
+    } = rest;
     let Then {
         first: _,
         rest: preferences,
@@ -341,6 +357,7 @@ fn keys_in(tests: WishTests<'_>) -> WishKeys
     WishKeys {
         ids: own.ids,
         firsts: firsts_in(preferences),
+        programmes: unranked.near.programmes,
     }
 }
 

@@ -159,6 +159,8 @@ impl Falling for LinkedRound<'_, '_> {
 
     ghost offers = { λ r. proposed r.state r.orders };
 
+    ghost lends = { λ r. Unit {0} };
+
     ghost lawful = { λ r. boarding_is_lawful r.state r.orders r.ceilings };
 
     ghost one_bar_each = { λ r. length-bar_each r.ceilings r.bars };

@@ -4,16 +4,16 @@
 //! `parcours replay --days 3 --picker last`
 #![tactic(auto)]
 
-mod start;
-mod words;
+mod program;
 
-use crate::start::{Ended, started};
+use crate::program::Parcours;
+use replay_cli::{Ended, started};
 use slot_io::{DirShelf, StdSink};
 use std::env;
 
 /// Runs the program, with what it was given, over the real devices.
 fn main(rt: HostRuntime) -> Ended {
-    started(
+    started::<Parcours, _, _>(
         rt.alloc(),
         env::args(&rt),
         &mut DirShelf::new(rt),

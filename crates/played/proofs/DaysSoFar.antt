@@ -5,7 +5,6 @@ use Rattle.std.proofs.lemmas.List.{append-nil, length-append}
 use Rattle.admit_core.specs.CallOrder.{AreCallOrders}
 use Rattle.admit_core.specs.Days.{ceilings_of, unfit_on}
 use Rattle.admit_core.specs.DossierRows.{DossierRows}
-use Rattle.admit_core.specs.declared.ranking.CallOrder.{CallOrder}
 use Rattle.admit_core.specs.declared.records.DayRecord.{DayRecord}
 use Rattle.admit_core.specs.declared.records.Terms.{Terms}
 use Rattle.admit_core.specs.declared.refusal.Refusal.{Refusal}
@@ -229,16 +228,6 @@ module _ (d : DossierRows) (number : ℕ) (plan : Plan) (old new : DeskStates) (
     ends = rw is plays.stops;
     told = plays.told;
   }
-
--- days that were played along a roster, by the orders that it was made of
-pub by_orders : (one other : List CallOrder) (terms : Option Terms) (who : PickerChoice) (number : ℕ) (old : DeskStates)
-    (before : Lent) (days : List DayRecord) (result : Result (Unit {0}) DayRefusal) (new : DeskStates) (after : Lent)
-    → one ≡ other
-    → PlaysDays (record { orders = one; terms = terms; who = who }) number old before days result new after
-    → PlaysDays (record { orders = other; terms = terms; who = who }) number old before days result new after
-by_orders one other terms who number old before days result new after same plays =
-    subst (λ (orders : List CallOrder).
-    PlaysDays (record { orders = orders; terms = terms; who = who }) number old before days result new after) same plays
 
 -- a run of which no day is asked for
 pub none_played : {A E : Type 0} (shown : A → Played) (d : DossierRows) (terms : Option Terms) (number : ℕ)

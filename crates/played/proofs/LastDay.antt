@@ -1,21 +1,27 @@
 -- The desk after the days that were played.
-use Rattle.std.proofs.Common.{◌≡◌, ◌∙◌, ℕ, suc, ◌+◌, ◌-◌, List, [], ◌∷◌, Some, Result, Ok, Err, ap, arith, length, refl}
-use Rattle.std.proofs.Common.{subst, sym, Option}
+use Rattle.std.proofs.Common.{◌≡◌, ◌∙◌, ℕ, suc, ◌+◌, ◌-◌, Bool, List, [], ◌∷◌, None, Some, Result, Ok, Err, ap, arith}
+use Rattle.std.proofs.Common.{length, map, option_map, refl, subst, sym, Option}
 use Rattle.std.specs.Prelude.{slice_get}
 use Rattle.std.specs.Result.{ForOk}
+use Rattle.std.proofs.lemmas.List.{length-map}
+use Rattle.std.proofs.lemmas.Option.{slice_get-map}
 use Rattle.admit_core.specs.CallOrder.{AreCallOrders}
 use Rattle.admit_core.specs.Days.{ceilings_of}
 use Rattle.admit_core.specs.DossierRows.{DossierRows}
 use Rattle.admit_core.specs.EveningLaws.{last_bars}
+use Rattle.admit_core.specs.Explanations.{LastPass}
 use Rattle.admit_core.specs.declared.ranking.CallOrder.{CallOrder}
 use Rattle.admit_core.specs.declared.records.DayRecord.{DayRecord}
+use Rattle.admit_core.specs.declared.records.PassEnd.{PassEnd}
 use Rattle.admit_core.specs.declared.records.Terms.{Terms}
 use Rattle.admit_core.specs.declared.refusal.Refusal.{Refusal}
 use Rattle.desk_day.specs.DeskStates.{DeskStates}
-use Rattle.desk_day.specs.LastPasses.{IsLastPass}
+use Rattle.desk_day.specs.KeptDays.{kept_day, kept_end}
+use Rattle.desk_day.specs.LastPasses.{IsLastPass, last_pass}
 use Rattle.desk_day.proofs.LastBars.{length-ceilings_of}
 use Rattle.desk_day.proofs.PassEnds.{desk_ends_so}
 use Rattle.request.specs.declared.pickers.PickerChoice.{PickerChoice}
+use Rattle.round.specs.KeptFalls.{IsKeptOf}
 use Rattle.played.specs.LastDays.{IsDeskAfter, IsLastOf, pass_on}
 use Rattle.played.specs.Lent.{Lent}
 use Rattle.played.specs.PlayedDays.{DaysEndAfter, IsNext, IsPlayed, Lead, Plan, Played, first_desk, lent_after}
@@ -85,3 +91,38 @@ desk_played rows terms number who before played after plays =
     desk_at rows played.orders terms number played.days plays.last played.end plays.ends
     (desk_after (plan_of terms who played) 1 rows (first_desk rows) before played.days plays.last plays.called refl
     plays.days)
+
+-- of what is kept of days, where falls may be left out: the last one is kept of the last one
+found_whole : (keeps : Bool) (found : Option DayRecord) (day : DayRecord)
+    → option_map (kept_day keeps) found ≡ Some day → IsKeptOf (kept_day keeps) (λ whole. found ≡ Some whole) day
+found_whole keeps None day is = absurd (cc)
+found_whole keeps (Some whole) day is = (whole, refl, cc)
+
+pub last_whole : (keeps : Bool) (days : List DayRecord) (day : DayRecord) → IsLastOf (map (kept_day keeps) days) day
+    → IsKeptOf (kept_day keeps) (IsLastOf days) day
+last_whole keeps days day is =
+    found_whole keeps (slice_get days (length days - 1)) day
+    (sym (slice_get-map (kept_day keeps) days (length days - 1))
+    ∙ ap (λ (n : ℕ). slice_get (map (kept_day keeps) days) (n - 1)) (sym (length-map days (kept_day keeps))) ∙ is)
+
+-- its last pass is that of the day
+bars_kept : (keeps : Bool) (ends : List PassEnd) → last_bars (map (kept_end keeps) ends) ≡ last_bars ends
+bars_kept keeps [] = refl
+bars_kept keeps (end ∷ []) = refl
+bars_kept keeps (end ∷ next ∷ ends) = bars_kept keeps (next ∷ ends)
+
+pub pass_kept : (keeps : Bool) (d : DossierRows) (orders : List CallOrder) (kept day : DayRecord) (desk : DeskStates)
+    → kept ≡ kept_day keeps day → pass_on d orders kept desk ≡ pass_on d orders day desk
+pass_kept keeps d orders kept day desk same =
+    ap (λ (x : DayRecord). pass_on d orders x desk) same
+    ∙ ap (λ (bars : List ℕ). last_pass desk.opening orders (ceilings_of d day.day) bars) (bars_kept keeps day.passes)
+
+pub desk_after_kept : (keeps : Bool) (d : DossierRows) (orders : List CallOrder) (days : List DayRecord)
+    (desk : DeskStates) → IsDeskAfter d orders days desk → IsDeskAfter d orders (map (kept_day keeps) days) desk
+desk_after_kept keeps d orders days desk is = record {
+  dossier = is.dossier;
+  last = λ day last.
+      let whole = last_whole keeps days day last in
+      subst (λ (pass : LastPass). IsLastPass pass desk.present)
+      (sym (pass_kept keeps d orders day whole.0 desk whole.2)) (is.last whole.0 whole.1);
+}

@@ -2,3 +2,4 @@ mod DaysSoFar
 mod NextDay
 pub mod LastDay
 pub mod Naming
+pub mod KeptDays

@@ -3,3 +3,4 @@ pub mod LastDesks
 pub mod Lent
 pub mod OneDay
 pub mod PlayedDays
+pub mod KeptDays

@@ -2,16 +2,19 @@
 ghost use Rattle.std.specs.Prelude.{◌≡◌, IsSome, option_copied};
 ghost use Rattle.admit_core.specs.Lapses.{AreTermsFor};
 ghost use Rattle.admit_core.specs.Ranges.{IsDay as IsDayNumber};
+ghost use Rattle.desk_day.specs.KeptDays.{kept_result};
 ghost use Rattle.played.specs.Lent.{AreThere, choice_in, lent, told_in};
 ghost use Rattle.played.specs.OneDay.{DayEndsWith};
 ghost use Rattle.played.specs.PlayedDays.{EndsNext};
+ghost use Rattle.round.specs.KeptFalls.{IsKeptOf};
 
 use crate::pickers::Pickers;
+use crate::wanted::Wanted;
 use admit_core::{DayRecord, Terms};
 use bar_fixpoint::Picker;
-use desk_day::{DayRefusal, Desk, ceilings_on, run_day_along};
+use desk_day::{DayPlan, DayRefusal, Desk, ceilings_on, run_day_by};
 use linked_demand::Roster;
-use request::{PickerChoice, PickerName, picker_on};
+use request::{PickerName, picker_on};
 use std::alloc::Global;
 
 /// Runs a day under its own ceilings, with this picker.
@@ -21,18 +24,26 @@ fn run_with(
     roster: &Roster<'_, '_>,
     terms: Option<&Terms>,
     day: u32,
+    keeps_falls: bool,
     picker: &mut dyn Picker,
 ) -> Result<DayRecord, DayRefusal>
     requires roster { roster.now.dossier ≡ desk.old.present.dossier }
     requires terms { AreTermsFor desk.old.present.dossier (option_copied terms) }
     requires day { IsDayNumber day }
 
-    ensures { DayEndsWith roster.now.orders (option_copied terms.entry) day
+    ensures { IsKeptOf (kept_result keeps_falls)
+        (DayEndsWith roster.now.orders (option_copied terms.entry) day
         (record { desk = desk.old; told = told picker.old; choice = choice picker.old })
-        (record { desk = desk.new; told = told picker.new; choice = choice picker.new }) result }
+        (record { desk = desk.new; told = told picker.new; choice = choice picker.new })) result }
 {
     let ceilings = ceilings_on(alloc, desk.now().dossier(), day)?;
-    run_day_along(alloc, desk, roster, &ceilings, terms, day, picker)
+    let plan = DayPlan {
+        ceilings: &ceilings,
+        terms,
+        day,
+        keeps_falls,
+    };
+    run_day_by(alloc, desk, roster, plan, picker)
 }
 
 /// Runs a day with the picker of this place, which is there again afterwards.
@@ -42,6 +53,7 @@ fn run_lent(
     roster: &Roster<'_, '_>,
     terms: Option<&Terms>,
     day: u32,
+    keeps_falls: bool,
     place: &mut Option<Box<dyn Picker>>,
 ) -> Result<DayRecord, DayRefusal>
     requires roster { roster.now.dossier ≡ desk.old.present.dossier }
@@ -50,7 +62,8 @@ fn run_lent(
     requires there { IsSome place.old }
 
     ensures there { IsSome place.new }
-    ensures ends { DayEndsWith roster.now.orders (option_copied terms.entry) day
+    ensures ends { IsKeptOf (kept_result keeps_falls)
+        (DayEndsWith roster.now.orders (option_copied terms.entry) day
         (record {
           desk = desk.old;
           told = told_in (λ p. told p) place.old;
@@ -60,12 +73,12 @@ fn run_lent(
           desk = desk.new;
           told = told_in (λ p. told p) place.new;
           choice = choice_in (λ p. choice p) place.new;
-        }) result }
+        })) result }
 {
     let Some(mut picker) = place.take() else {
         unreachable!()
     };
-    let done = run_with(alloc, desk, roster, terms, day, &mut *picker);
+    let done = run_with(alloc, desk, roster, terms, day, keeps_falls, &mut *picker);
     *place = Some(picker);
     done
 }
@@ -76,7 +89,7 @@ pub(crate) fn next_day(
     desk: &mut Desk<'_>,
     roster: &Roster<'_, '_>,
     terms: Option<&Terms>,
-    who: PickerChoice,
+    wanted: Wanted,
     day: u32,
     pickers: &mut Pickers,
 ) -> Result<DayRecord, DayRefusal>
@@ -86,14 +99,19 @@ pub(crate) fn next_day(
     requires there { AreThere pickers.old }
 
     ensures there { AreThere pickers.new }
-    ensures ends { EndsNext
-        (record { orders = roster.now.orders; terms = option_copied terms.entry; who = who }) day
-        desk.old (lent (λ p. told p) (λ p. choice p) pickers.old) result
-        desk.new (lent (λ p. told p) (λ p. choice p) pickers.new) }
+    ensures ends { IsKeptOf (kept_result wanted.keeps_falls) (λ whole. EndsNext
+        (record {
+          orders = roster.now.orders;
+          terms = option_copied terms.entry;
+          who = wanted.who;
+        }) day
+        desk.old (lent (λ p. told p) (λ p. choice p) pickers.old) whole
+        desk.new (lent (λ p. told p) (λ p. choice p) pickers.new)) result }
 {
-    match picker_on(who, day) {
-        PickerName::First => run_lent(alloc, desk, roster, terms, day, &mut pickers.first),
-        PickerName::Last => run_lent(alloc, desk, roster, terms, day, &mut pickers.last),
-        PickerName::Turn => run_lent(alloc, desk, roster, terms, day, &mut pickers.turn),
+    let keeps = wanted.keeps_falls;
+    match picker_on(wanted.who, day) {
+        PickerName::First => run_lent(alloc, desk, roster, terms, day, keeps, &mut pickers.first),
+        PickerName::Last => run_lent(alloc, desk, roster, terms, day, keeps, &mut pickers.last),
+        PickerName::Turn => run_lent(alloc, desk, roster, terms, day, keeps, &mut pickers.turn),
     }
 }

@@ -2,12 +2,14 @@
 ghost use Rattle.std.specs.Prelude.{◌≡◌, ◌≤◌, [], ◌∷◌, ◌++◌, IfOk, Ok, OnOk, option_copied};
 ghost use Rattle.admit_core.specs.CallOrder.{AreCallOrders};
 ghost use Rattle.admit_core.specs.Lapses.{AreTermsFor};
+ghost use Rattle.played.specs.KeptDays.{IsPlayedKept, PlaysDaysKept};
 ghost use Rattle.played.specs.Lent.{AreBack, AreThere, Untold, lent};
-ghost use Rattle.played.specs.PlayedDays.{IsPlayed, PlaysDays, first_desk};
+ghost use Rattle.played.specs.PlayedDays.{IsPlayed, first_desk};
 
 use crate::day::next_day;
 use crate::last::LastDesk;
 use crate::pickers::Pickers;
+use crate::wanted::Wanted;
 use admit_core::{CallOrders, DayRecord, Dossier, OutOfMemory, Refusal, Terms};
 use call_order::call_orders;
 use desk_day::{DayRefusal, Desk};
@@ -33,13 +35,6 @@ fn keep(days: &mut Vec<DayRecord>, day: DayRecord) -> Result<(), OutOfMemory>
     Ok(())
 }
 
-/// How many days are asked for, and with which picker each.
-#[derive(Clone, Copy)]
-struct Wanted {
-    number: u32,
-    who: PickerChoice,
-}
-
 /// Runs so many days, and keeps the records of those that come about.
 fn play_days(
     alloc: Global,
@@ -57,7 +52,7 @@ fn play_days(
     requires none { days.old.items ≡ [] }
 
     ensures there { AreThere pickers.new }
-    ensures plays { PlaysDays
+    ensures plays { PlaysDaysKept wanted.keeps_falls
         (record {
           orders = roster.now.orders;
           terms = option_copied terms.entry;
@@ -67,7 +62,7 @@ fn play_days(
         desk.new (lent (λ p. told p) (λ p. choice p) pickers.new) }
 {
     for played in 0..wanted.number {
-        let day = next_day(alloc, desk, roster, terms, wanted.who, played + 1, pickers)?;
+        let day = next_day(alloc, desk, roster, terms, wanted, played + 1, pickers)?;
         keep(days, day)?;
     }
     Ok(())
@@ -117,8 +112,8 @@ fn play_some<'d>(
     ensures there { AreThere pickers.new }
     ensures back { AreBack (lent (λ p. told p) (λ p. choice p) pickers.old)
         (lent (λ p. told p) (λ p. choice p) pickers.new) }
-    ensures played { IfOk result (λ p. IsPlayed dossier.now (option_copied terms.entry)
-        wanted.number wanted.who
+    ensures played { IfOk result (λ p. IsPlayedKept wanted.keeps_falls
+        dossier.now (option_copied terms.entry) wanted.number wanted.who
         (lent (λ p. told p) (λ p. choice p) pickers.old)
         (record { orders = p.orders.orders; days = p.days.items; end = p.end })
         (lent (λ p. told p) (λ p. choice p) pickers.new)) }
@@ -160,8 +155,40 @@ pub fn play<'d>(
         (record { orders = p.orders.orders; days = p.days.items; end = p.end })
         (lent (λ p. told p) (λ p. choice p) pickers.new)) }
 {
-    if number == 0 {
+    let wanted = Wanted {
+        number,
+        who,
+        keeps_falls: true,
+    };
+    play_wanted(alloc, dossier, terms, wanted, pickers)
+}
+
+/// Runs days as [`play`] does. Where their falls are not kept, the records have none, and the days
+/// take no memory for them.
+pub fn play_wanted<'d>(
+    alloc: Global,
+    dossier: &'d Dossier,
+    terms: Option<&Terms>,
+    wanted: Wanted,
+    pickers: &mut Pickers,
+) -> Result<Played<'d>, OutOfMemory>
+    requires terms { AreTermsFor dossier.now (option_copied terms) }
+    requires number { wanted.number ≤ 366 }
+    requires there { AreThere pickers.old }
+
+    ensures there { AreThere pickers.new }
+    ensures back { AreBack (lent (λ p. told p) (λ p. choice p) pickers.old)
+        (lent (λ p. told p) (λ p. choice p) pickers.new) }
+    ensures idle { wanted.number ≡ 0 → Untold (lent (λ p. told p) (λ p. choice p) pickers.old)
+        (lent (λ p. told p) (λ p. choice p) pickers.new) }
+    ensures played { IfOk result (λ p. IsPlayedKept wanted.keeps_falls
+        dossier.now (option_copied terms.entry) wanted.number wanted.who
+        (lent (λ p. told p) (λ p. choice p) pickers.old)
+        (record { orders = p.orders.orders; days = p.days.items; end = p.end })
+        (lent (λ p. told p) (λ p. choice p) pickers.new)) }
+{
+    if wanted.number == 0 {
         return unplayed(alloc, dossier);
     }
-    play_some(alloc, dossier, terms, Wanted { number, who }, pickers)
+    play_some(alloc, dossier, terms, wanted, pickers)
 }

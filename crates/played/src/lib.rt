@@ -8,7 +8,9 @@ mod day;
 mod days;
 mod last;
 mod pickers;
+mod wanted;
 
-pub use days::{Played, play};
+pub use days::{Played, play, play_wanted};
 pub use last::LastDesk;
 pub use pickers::Pickers;
+pub use wanted::Wanted;

@@ -1,3 +1,5 @@
+mod FirstWord
+mod NewPickers
 pub mod Played
 mod Replying
 mod Taking

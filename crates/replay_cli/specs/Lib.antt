@@ -2,3 +2,5 @@ pub mod Answering
 pub mod Delivering
 pub mod Outcome
 pub mod Run
+pub mod Start
+pub mod Words

@@ -25,7 +25,7 @@ fn exit_after(refusal: Option<IoRefusal>, exit: Exit) -> Exit
 }
 
 /// Writes the text of a reply, and ends with the reply's exit where it was written whole.
-fn deliver<K: Sink>(reply: Result<Reply, OutOfMemory>, sink: &mut K) -> Exit
+pub fn deliver<K: Sink>(reply: Result<Reply, OutOfMemory>, sink: &mut K) -> Exit
     ensures delivers { Delivers reply (at_sink K.held K.faults sink.old)
         (at_sink K.held K.faults sink.new) result }
     ensures counts { K.faults sink.old ≤ K.faults sink.new }

@@ -8,3 +8,4 @@ pub mod PassClauses
 pub mod SeatLaw
 pub mod EarlyEnds
 pub mod Found
+pub mod KeptFalls

@@ -1,2 +1,3 @@
+pub mod KeptFalls
 pub mod PassLaws
 pub mod Picks

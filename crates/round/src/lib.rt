@@ -10,4 +10,4 @@ mod one_pass;
 
 pub use bars::bars_of;
 pub use laws::laws_of_passes;
-pub use one_pass::{pass, pass_along};
+pub use one_pass::{pass, pass_along, pass_keeping};

@@ -1,14 +1,17 @@
 //! One pass.
-ghost use Rattle.std.specs.Prelude.{◌≡◌, ◌<◌, length, IfOk, OnErr};
+ghost use Rattle.std.specs.Prelude.{◌≡◌, ◌<◌, length, IfOk, OnOk, OnErr};
 ghost use Rattle.admit_core.specs.Boarding.{boarding};
 ghost use Rattle.admit_core.specs.CallOrder.{AreCallOrders};
 ghost use Rattle.admit_core.specs.Days.{IsPass, offered};
+ghost use Rattle.admit_core.specs.Falls.{IsGreatest};
+ghost use Rattle.bar_fixpoint.specs.Chosen.{EndsEarly, TellsOfFalls};
+ghost use Rattle.round.specs.KeptFalls.{AreKeptOfRun, IsKeptOf, IsPassBy, IsPassOffered, kept_pass};
 ghost use Rattle.round.specs.PassLaws.{KeepsPassLaws};
 ghost use Rattle.round.specs.Picks.{PicksFalls};
 
 use crate::bars::bars_of;
-use admit_core::{CallOrders, OutOfMemory, PassRecord, Sequence, Stamp, Steps};
-use bar_fixpoint::{Picker, greatest};
+use admit_core::{CallOrders, Fall, OutOfMemory, PassRecord, Sequence, Stamp, Steps};
+use bar_fixpoint::{Falling, Picker, greatest, settle};
 use day_state::DayState;
 use linked_demand::Roster;
 use std::alloc::Global;
@@ -66,10 +69,36 @@ pub fn pass_along(
     // Memory ran out: nothing was offered, but the picker may have told of schools by then.
     ensures refused { OnErr result (state.new ≡ state.old) }
 {
+    pass_keeping(alloc, state, roster, ceilings, stamp, picker, true)
+}
+
+/// Makes a pass as [`pass_along`] does. Where its falls are not kept, nobody whom they name is
+/// listed, and it takes no memory for them: the record has no falls then.
+pub fn pass_keeping(
+    alloc: Global,
+    state: &mut DayState<'_>,
+    roster: &Roster<'_, '_>,
+    ceilings: &[u32],
+    stamp: Stamp,
+    picker: &mut dyn Picker,
+    keeps_falls: bool,
+) -> Result<PassRecord, OutOfMemory>
+    requires same { roster.now.dossier ≡ state.old.dossier }
+    requires ceilings { length ceilings.now ≡ length state.old.dossier.schools }
+
+    ensures pass { IfOk result (IsKeptOf (kept_pass keeps_falls)
+        (IsPassOffered state.old state.new roster.now.orders ceilings.now stamp
+        (choice picker.old) (told picker.old) (told picker.new))) }
+    ensures early { OnErr result (TellsOfFalls (boarding state.old roster.now.orders ceilings.now)
+        (choice picker.old) (told picker.old) (told picker.new)) }
+    ensures refused { OnErr result (state.new ≡ state.old) }
+    ensures choice { choice picker.new ≡ choice picker.old }
+{
     let dossier = state.dossier();
     let _ = &dossier.wishes; // learns that the dossier is valid
     let _ = roster.orders(); // these are the dossier's
-    let found = find::<Brand>(alloc, Blank::new(1), state, roster, ceilings, picker)?;
+    let blank = Blank::new(1);
+    let found = find::<Brand>(alloc, blank, state, roster, ceilings, picker, keeps_falls)?;
     state.offer_all(found.offers.as_slice(), stamp);
     Ok(found)
 }
@@ -82,6 +111,7 @@ fn find<L: Ledger>(
     roster: &Roster<'_, '_>,
     ceilings: &[u32],
     picker: &mut dyn Picker,
+    keeps_falls: bool,
 ) -> Result<PassRecord, OutOfMemory>
     requires name { blank.name ≡ L.name }
     requires parts { blank.parts ≡ L.parts }
@@ -89,13 +119,16 @@ fn find<L: Ledger>(
     requires same { roster.now.dossier ≡ state.now.dossier }
     requires ceilings { length ceilings.now ≡ length state.now.dossier.schools }
 
-    ensures pass { IfOk result (IsPass state.now roster.now.orders ceilings.now) }
-    ensures picks { PicksFalls (boarding state.now roster.now.orders ceilings.now)
-        (choice picker.old) (choice picker.new) (told picker.old) (told picker.new) result }
+    ensures pass { IfOk result (IsKeptOf (kept_pass keeps_falls)
+        (IsPassBy state.now roster.now.orders ceilings.now
+        (choice picker.old) (told picker.old) (told picker.new))) }
+    ensures early { OnErr result (TellsOfFalls (boarding state.now roster.now.orders ceilings.now)
+        (choice picker.old) (told picker.old) (told picker.new)) }
+    ensures choice { choice picker.new ≡ choice picker.old }
 {
     let mut steps: Steps<L> = Steps::new(blank);
     let mut round = roster.begin_round(alloc, state, ceilings)?;
-    let falls = greatest(alloc, &mut round, picker, &mut steps)?;
+    let falls = lower(alloc, &mut round, picker, &mut steps, keeps_falls)?;
     let bars = bars_of(alloc, &round)?;
     let offers = round.proposed(alloc)?;
     Ok(PassRecord {
@@ -103,4 +136,30 @@ fn find<L: Ledger>(
         falls: Sequence::from_vec(falls),
         offers: Sequence::from_vec(offers),
     })
+}
+
+/// Lowers the bars of a system to the greatest, and answers the falls where they are kept.
+fn lower<F: Falling, L: Ledger>(
+    alloc: Global,
+    system: &mut F,
+    picker: &mut dyn Picker,
+    steps: &mut Steps<L>,
+    keeps_falls: bool,
+) -> Result<Vec<Fall>, OutOfMemory>
+    requires { F.bars system.old ≡ (F.system system.old).ceilings }
+
+    ensures greatest { OnOk result (IsGreatest (F.system system.old) (F.bars system.new)) }
+    ensures run { IfOk result (λ falls. AreKeptOfRun keeps_falls (F.system system.old)
+        (choice picker.old) (told picker.old) (told picker.new) (F.bars system.new) falls.items) }
+    ensures early { OnErr result (EndsEarly (F.system system.old) (choice picker.old)
+        (told picker.old) (told picker.new) (F.bars system.new)) }
+    ensures same { F.system system.new ≡ F.system system.old }
+    ensures offers { F.offers system.new ≡ F.offers system.old }
+    ensures choice { choice picker.new ≡ choice picker.old }
+{
+    if keeps_falls {
+        return greatest(alloc, system, picker, steps);
+    }
+    settle(alloc, system, picker, steps)?;
+    Ok(Vec::new(alloc))
 }

@@ -1,5 +1,6 @@
 use Rattle.std.proofs.Common.{◌∙◌, refl, inl}
 use Rattle.admit_core.proofs.Plain.{on_err}
+use Rattle.bar_fixpoint.proofs.Idle.{answered, none_fell}
 use Rattle.bar_fixpoint.proofs.SoFar.{under_now, above_now, greatest_now, more_now, smaller_now, early_so_far}
 use Rattle.bar_fixpoint.proofs.engine.greatest.Goals as goal
 
@@ -32,6 +33,8 @@ loop-falls-preserved g c =
     let fell = rw c.in-Some.is at c.in_ok-fall.ensures.fall in
     record {
       same = c.fall_once.ensures.same ∙ c.loop-falls.invariant.same;
+      idle = λ none. absurd (none_fell f.system f.bars g.met.F.Falling.lawful c.args.system.now c.loop-falls.system
+          c.loop-falls.invariant.idle _ _ _ _ _ fell none);
       offers = c.fall_once.ensures.offers ∙ c.loop-falls.invariant.offers;
       choice = c.fall_once.ensures.choice ∙ c.loop-falls.invariant.choice;
       so_far =
@@ -71,3 +74,16 @@ returns-clause-greatest g c =
     greatest_now (f.system c.args.system.now) (g.met.F.Falling.lawful c.args.system.now) _ _
     (f.system c.loop-falls.system) c.loop-falls.invariant.same
     _ _ _ _ c.loop-falls.invariant.so_far rest.0 settled
+
+pub returns-in_err-fall-clause-always : goal.returns-in_err-fall-clause-always
+returns-in_err-fall-clause-always g c =
+    let f = g.F.Falling in
+    λ lent none. absurd (answered f.system f.bars g.met.F.Falling.lawful c.args.system.now c.loop-falls.system
+    c.loop-falls.invariant.idle f.lends c.in_err-fall.ensures.always lent none)
+
+pub returns-in_err-push-clause-always : goal.returns-in_err-push-clause-always
+returns-in_err-push-clause-always g c =
+    let f = g.F.Falling in
+    let fell = rw c.in-Some.is at c.in_ok-fall.ensures.fall in
+    λ lent none. absurd (none_fell f.system f.bars g.met.F.Falling.lawful c.args.system.now c.loop-falls.system
+    c.loop-falls.invariant.idle _ _ _ _ _ fell none)

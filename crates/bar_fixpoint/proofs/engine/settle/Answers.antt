@@ -1,6 +1,7 @@
 use Rattle.std.proofs.Common.{◌∙◌, refl, ◌∷◌, ◌++◌, []}
 use Rattle.admit_core.specs.Falls.{fall_of}
 use Rattle.admit_core.proofs.Plain.{on_err}
+use Rattle.bar_fixpoint.proofs.Idle.{answered, none_fell}
 use Rattle.bar_fixpoint.proofs.SoFar.{under_now, above_now, greatest_now, more_now, run_now, smaller_now}
 use Rattle.bar_fixpoint.proofs.engine.settle.Goals as goal
 
@@ -38,6 +39,8 @@ loop-school-preserved g c =
     let fall = fall_of (f.system c.loop-school.system) (f.bars c.loop-school.system) c.in-Some._school in
     record {
       same = c.sink_once.ensures.same ∙ now.same;
+      idle = λ none. absurd (none_fell f.system f.bars g.met.F.Falling.lawful c.args.system.now c.loop-school.system
+          now.idle _ _ _ _ _ fell none);
       offers = c.sink_once.ensures.offers ∙ now.offers;
       choice = c.sink_once.ensures.choice ∙ now.choice;
       so_far = (
@@ -67,3 +70,9 @@ returns-clause-run g c =
     run_now (f.system c.args.system.now) (g.met.F.Falling.lawful c.args.system.now) _ _
     (f.system c.loop-school.system) now.same
     _ _ _ _ _ now.so_far.1 rest.0 rest.1 settled
+
+pub returns-in_err-_school-clause-always : goal.returns-in_err-_school-clause-always
+returns-in_err-_school-clause-always g c =
+    let f = g.F.Falling in
+    λ lent none. absurd (answered f.system f.bars g.met.F.Falling.lawful c.args.system.now c.loop-school.system
+    c.loop-school.invariant.idle f.lends c.in_err-_school.ensures.always lent none)

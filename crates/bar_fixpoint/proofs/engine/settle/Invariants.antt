@@ -1,6 +1,7 @@
-use Rattle.std.proofs.Common.{◌≡◌, List}
+use Rattle.std.proofs.Common.{◌≡◌, List, []}
 use Rattle.std.specs.Prelude.{sum}
 use Rattle.admit_core.specs.declared.records.Fall.{Fall}
+use Rattle.bar_fixpoint.specs.Overfilled.{all_overfilled}
 use Rattle.bar_fixpoint.proofs.SoFar.{SoFar}
 use Rattle.bar_fixpoint.proofs.engine.settle.Given as goal
 
@@ -12,6 +13,7 @@ invariant-loop-school g l =
     let now = goal.Picker-dyn g l.picker.now in
     record {
       same : f.system l.system ≡ f.system l.fn.system;
+      idle : all_overfilled (f.system l.fn.system) (f.bars l.fn.system) ≡ [] → l.system ≡ l.fn.system;
       offers : f.offers l.system ≡ f.offers l.fn.system;
       choice : now.choice l.picker.now.1 ≡ first.choice l.fn.picker.now.1;
       so_far : (falls : List Fall) × SoFar (f.system l.fn.system) (first.choice l.fn.picker.now.1)

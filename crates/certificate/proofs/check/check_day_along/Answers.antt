@@ -1,40 +1,48 @@
-use Rattle.std.proofs.Common.{◌≡◌, ◌∙◌, None, ap, length, subst, sym}
+use Rattle.std.proofs.Common.{◌≡◌, ◌∙◌, None, Some, length, subst, sym}
+use Rattle.admit_core.specs.ChainLaws.{passes_told}
+use Rattle.admit_core.specs.Chains.{IsDayChain, day_fault}
+use Rattle.admit_core.specs.Days.{Passes}
 use Rattle.admit_core.specs.State.{State}
-use Rattle.admit_core.specs.Chains.{day_fault}
-use Rattle.certificate.specs.Checked.{Stops, state_after}
-use Rattle.certificate.specs.Verdicts.{KeepsSchool}
-use Rattle.certificate.specs.declared.check.Verdict.TheVariants as verdict
-use Rattle.certificate.specs.declared.stop.Stop.{Stop}
-use Rattle.certificate.proofs.Ending.{is_valid}
-use Rattle.certificate.proofs.Schools.{rejects_school}
+use Rattle.certificate.specs.Checked.{Stops}
+use Rattle.certificate.specs.Verdicts.{KeepsSchool, StopsAt}
+use Rattle.certificate.specs.declared.stop.CheckStop.{CheckStop}
 use Rattle.certificate.proofs.check.check_day_along.Goals as goal
+
+pub returns-in-Ok-clause-exact : goal.returns-in-Ok-clause-exact
+returns-in-Ok-clause-exact c =
+    subst (λ (s : State). day_fault c.args.grounds.now.orders c.args.ceilings.now c.args.day s c.args.chain.now ≡ None)
+    (c.begin-desk.ensures ∙ c.in_ok-state.ensures) c.in-Ok.ensures.found
 
 pub returns-in-Ok-clause-valid : goal.returns-in-Ok-clause-valid
 returns-in-Ok-clause-valid c =
     let orders = c.args.grounds.now.orders in
-    let ceilings = c.args.ceilings.now in
-    let chain = c.args.chain.now in
-    let none : day_fault orders ceilings c.args.day c.args.morning.now chain ≡ None =
-    ap (λ (t : State). day_fault orders ceilings c.args.day t chain)
-    (sym c.in_ok-evening.ensures) ∙ c.in-Ok.ensures.found in
-    is_valid c.laws_of_chains.ensures.no_fault orders ceilings c.args.day c.args.morning.now chain
-    c.check_passes.new.state none
-    (c.in-Ok.ensures.state
-    ∙ ap (λ (t : State). state_after orders ceilings c.args.day 1 t chain.passes) c.in_ok-evening.ensures)
+    subst (λ (e : State). IsDayChain orders c.args.ceilings.now c.args.day c.args.morning.now c.args.chain.now e)
+    (sym c.into_now.ensures)
+    (subst (λ (s : State). IsDayChain orders c.args.ceilings.now c.args.day s c.args.chain.now c.check_day.new.self)
+    (c.begin-desk.ensures ∙ c.in_ok-state.ensures) c.in-Ok.ensures.valid)
 
 pub returns-in-Ok-clause-greatest : goal.returns-in-Ok-clause-greatest
 returns-in-Ok-clause-greatest c =
-    c.laws_of_chains.ensures.tells c.args.grounds.now.orders c.args.ceilings.now c.args.day c.args.morning.now
-    c.args.chain.now c.check_passes.new.state (returns-in-Ok-clause-valid c)
+    let orders = c.args.grounds.now.orders in
+    let ceilings = c.args.ceilings.now in
+    let day = c.args.day in
+    let told = λ (s : State). passes_told orders ceilings day 1 s c.args.chain.now.passes in
+    subst (λ (e : State). Passes orders ceilings day 1 c.args.morning.now (told c.args.morning.now) e)
+    (sym c.into_now.ensures)
+    (subst (λ (s : State). Passes orders ceilings day 1 s (told s) c.check_day.new.self)
+    (c.begin-desk.ensures ∙ c.in_ok-state.ensures) c.in-Ok.ensures.greatest)
+
+pub returns-in-Err-Rejected-clause-exact : goal.returns-in-Err-Rejected-clause-exact
+returns-in-Err-Rejected-clause-exact c =
+    let fault = λ (s : State). day_fault c.args.grounds.now.orders c.args.ceilings.now c.args.day s c.args.chain.now in
+    subst (λ (s : State). fault s ≡ Some (c.in-Err-Rejected.row, c.in-Err-Rejected.reason))
+    (c.begin-desk.ensures ∙ c.in_ok-state.ensures)
+    (subst (λ (x : CheckStop). Stops x (fault c.begin-desk.result)) c.in-Err-Rejected.field-0-is
+    c.in-Err-Rejected.ensures.found)
 
 pub returns-in-Err-Rejected-clause-school : goal.returns-in-Err-Rejected-clause-school
 returns-in-Err-Rejected-clause-school c =
-    let orders = c.args.grounds.now.orders in
-    let ceilings = c.args.ceilings.now in
-    let chain = c.args.chain.now in
-    subst (KeepsSchool (length c.args.morning.now.dossier.schools)) (sym c.in-Err-Rejected.reason-is)
-    (rejects_school orders ceilings c.args.day c.args.morning.now chain
-    (verdict.Rejected c.in-Err-Rejected.row c.in-Err-Rejected.reason) c.requires.ceilings
-    (ap (λ (t : State). day_fault orders ceilings c.args.day t chain) (sym c.in_ok-evening.ensures)
-    ∙ subst (λ (x : Stop). Stops x (day_fault orders ceilings c.args.day c.in_ok-evening.evening
-    chain)) c.in-Err-Rejected.field-0-is c.in-Err-Rejected.ensures.found))
+    subst (λ (s : State). KeepsSchool (length s.dossier.schools) c.in-Err-Rejected.reason)
+    (c.begin-desk.ensures ∙ c.in_ok-state.ensures)
+    (subst (StopsAt (length c.begin-desk.result.dossier.schools)) c.in-Err-Rejected.field-0-is
+    c.in-Err-Rejected.ensures.school)

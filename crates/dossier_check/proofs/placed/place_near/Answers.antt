@@ -4,8 +4,8 @@ use Rattle.dossier_check.proofs.placed.place_near.Goals as goal
 
 pub returns : goal.returns
 returns c =
-    let ids = c.args.groups.now.keys in
+    let ids = c.args.ids.now.keys in
     c.unwrap_or.ensures
     ∙ ap (λ o. unwrap_or o c.len.result) c.find_near.ensures.index
-    ∙ ap (unwrap_or (position (nat_eq c.args.group) ids)) c.len.ensures.len
-    ∙ unwrap_or-position (nat_eq c.args.group) ids
+    ∙ ap (unwrap_or (position (nat_eq c.args.id) ids)) c.len.ensures.len
+    ∙ unwrap_or-position (nat_eq c.args.id) ids

@@ -5,14 +5,15 @@ use Rattle.played.proofs.day.next_day.Goals as goal
 
 pub returns-in-First-clause-ends : goal.returns-in-First-clause-ends
 returns-in-First-clause-ends g c =
-    ends_next _ _ _ _ _ _ First c.run_lent.result c.in-First.ensures (only_first _ _ _ _ _ _) c.run_lent.ensures.ends
+    let is = c.run_lent.ensures.ends in
+    (is.0, ends_next _ _ _ _ _ _ First is.0 c.in-First.ensures (only_first _ _ _ _ _ _) is.1, is.2)
 
 pub returns-in-Last-clause-ends : goal.returns-in-Last-clause-ends
 returns-in-Last-clause-ends g c =
-    ends_next _ _ _ _ _ _ Last c.run_lent-in-Last.result c.in-Last.ensures (only_last _ _ _ _ _ _)
-    c.run_lent-in-Last.ensures.ends
+    let is = c.run_lent-in-Last.ensures.ends in
+    (is.0, ends_next _ _ _ _ _ _ Last is.0 c.in-Last.ensures (only_last _ _ _ _ _ _) is.1, is.2)
 
 pub returns-in-Turn-clause-ends : goal.returns-in-Turn-clause-ends
 returns-in-Turn-clause-ends g c =
-    ends_next _ _ _ _ _ _ Turn c.run_lent-in-Turn.result c.in-Turn.ensures (only_turn _ _ _ _ _ _)
-    c.run_lent-in-Turn.ensures.ends
+    let is = c.run_lent-in-Turn.ensures.ends in
+    (is.0, ends_next _ _ _ _ _ _ Turn is.0 c.in-Turn.ensures (only_turn _ _ _ _ _ _) is.1, is.2)

@@ -1,4 +1,7 @@
+use Rattle.std.proofs.Common.{map}
 use Rattle.std.specs.Option.{option_copied}
+use Rattle.desk_day.specs.KeptDays.{kept_day}
+use Rattle.round.specs.KeptFalls.{IsKeptOf}
 use Rattle.played.specs.Lent.{AreThere, lent}
 use Rattle.played.proofs.DaysSoFar.{SoFar}
 use Rattle.played.proofs.days.play_days.Given as goal
@@ -10,10 +13,11 @@ pub record Invariant (SoFar There : Type 0) : Type 0 where
 abbrev pub invariant-loop-played : goal.invariant-loop-played
 invariant-loop-played g l =
     Invariant
-    (SoFar (record { orders = l.roster.orders; terms = option_copied l.terms; who = l.wanted.who }) l.fn.desk
+    (IsKeptOf (map (kept_day l.wanted.keeps_falls))
+    (λ days. SoFar (record { orders = l.roster.orders; terms = option_copied l.terms; who = l.wanted.who }) l.fn.desk
     (lent (λ p. (goal.Picker-dyn g (p.vtable, p.value)).told p.value)
     (λ p. (goal.Picker-dyn g (p.vtable, p.value)).choice p.value) l.fn.pickers) l.played
-    l.days.items l.desk
+    days l.desk
     (lent (λ p. (goal.Picker-dyn g (p.vtable, p.value)).told p.value)
-    (λ p. (goal.Picker-dyn g (p.vtable, p.value)).choice p.value) l.pickers))
+    (λ p. (goal.Picker-dyn g (p.vtable, p.value)).choice p.value) l.pickers)) l.days.items)
     (AreThere l.pickers)

@@ -2,55 +2,59 @@ use Rattle.std.proofs.Common.{ℕ, ◌<◌, ◌≡◌, ◌∙◌, ◌++◌, ap, 
 use Rattle.std.proofs.lemmas.Bool.{false≢true}
 use Rattle.std.proofs.lemmas.List.Elements.{All-nil}
 use Rattle.std.proofs.lemmas.Result.{IfOk-from_err}
+use Rattle.admit_core.proofs.Plain.{on_err}
 use Rattle.admit_core.specs.AutoAnswer.{auto_all}
-use Rattle.admit_core.specs.Boarding.{boarding}
 use Rattle.admit_core.specs.declared.records.PassEnd.{PassEnd}
+use Rattle.admit_core.specs.declared.records.PassRecord.{PassRecord}
 use Rattle.admit_core.specs.declared.state.Mark.{Mark}
 use Rattle.admit_core.specs.DossierRows.{DossierRows}
 use Rattle.admit_core.specs.State.{State}
-use Rattle.bar_fixpoint.specs.Chosen.{AreChosen}
 use Rattle.desk_day.specs.DayPasses.{IsAnswered, offered_along}
 use Rattle.desk_day.specs.DayPlaces.{AreWishesOf}
-use Rattle.desk_day.specs.Running.{IsPassMade, RunningStates, opening_after}
+use Rattle.desk_day.specs.KeptDays.{IsPassPicked}
+use Rattle.desk_day.specs.Running.{RunningStates, opening_after}
 use Rattle.desk_day.proofs.DayEnds.{tells_on}
+use Rattle.desk_day.proofs.KeptPasses.{offers_kept}
 use Rattle.desk_day.proofs.LaterPasses.{answered_all, answered_along, answered_but, closing_answered, offers_within}
 use Rattle.desk_day.proofs.LaterPasses.{same_but, steps_taken}
 use Rattle.desk_day.proofs.OnceEach.{names_along, names_there, others_stay}
 use Rattle.desk_day.proofs.OnePass.{closed, closed_dossier, pass_ended, fewer_open, closed_long, next_dossier}
+use Rattle.desk_day.proofs.PassesSoFar.{tells_of_falls}
 use Rattle.desk_day.proofs.running.Running.make_pass.Goals as goal
 
-pub pass_along-requires : goal.pass_along-requires
-pass_along-requires g c = record {
+pub pass_keeping-requires : goal.pass_keeping-requires
+pass_keeping-requires g c = record {
   same = subst (λ (r : RunningStates). c.args.roster.now.dossier ≡ r.present.dossier)
       (sym c.self.view_is) c.requires.roster;
-  ceilings = subst (λ (r : RunningStates). length c.args.ceilings.now ≡ length r.present.dossier.schools)
+  ceilings = subst (λ (r : RunningStates). length c.args.plan.ceilings.now ≡ length r.present.dossier.schools)
       (sym c.self.view_is) c.requires.ceilings;
 }
 
 pub ask_beside-requires : goal.ask_beside-requires
 ask_beside-requires g c =
-    let made = c.in_ok-pass.ensures.state in
+    let made = c.in_ok-pass.ensures.pass.1.offers in
     let there = ap (λ (t : State). t.dossier) made in
     record {
       places = subst (λ (d : DossierRows). AreWishesOf d c.self.inside.beside.items)
           (sym there) c.self.invariant.within;
-      offers = offers_within c.self.inside.present c.pass_along.new.state c.args.roster.now.orders
-          c.in_ok-pass.pass.bars
-          c.as_slice-offers.result.now there (c.as_slice-offers.ensures ∙ c.in_ok-pass.ensures.pass.offers);
+      offers = offers_within c.self.inside.present c.pass_keeping.new.state c.args.roster.now.orders
+          c.in_ok-pass.ensures.pass.0.bars
+          c.as_slice-offers.result.now there (c.as_slice-offers.ensures
+          ∙ offers_kept _ _ _ _ _ _ _ _ _ _ c.in_ok-pass.ensures.pass);
     }
 
 pub answer_after-freed-requires : goal.answer_after-freed-requires
 answer_after-freed-requires g c =
     let s = c.self.inside.present in
     let orders = c.args.roster.now.orders in
-    let bars = c.in_ok-pass.pass.bars in
+    let bars = c.in_ok-pass.ensures.pass.0.bars in
     let beside = c.self.inside.beside.items in
     let offers = c.as_slice-offers.result.now in
-    let off = c.pass_along.new.state in
+    let off = c.pass_keeping.new.state in
     let long : length s.marks ≡ length s.dossier.wishes = ap (λ (ms : List Mark). length ms) (sym c.marks.ensures.marks)
     ∙ c.marks.ensures.one_each in
-    let are = c.as_slice-offers.ensures ∙ c.in_ok-pass.ensures.pass.offers in
-    let made = c.in_ok-pass.ensures.state in
+    let are = c.as_slice-offers.ensures ∙ offers_kept _ _ _ _ _ _ _ _ _ _ c.in_ok-pass.ensures.pass in
+    let made = c.in_ok-pass.ensures.pass.1.offers in
     let names = names_there off.dossier off.dossier (beside ++ offers) _ c.as_slice-asked.result.now refl
     c.as_slice-asked.ensures.value c.in_ok-ask_beside.ensures.names in
     record {
@@ -64,7 +68,7 @@ pub changes_after-requires : goal.changes_after-requires
 changes_after-requires g c =
     let s = c.self.inside.present in
     let orders = c.args.roster.now.orders in
-    let bars = c.in_ok-pass.pass.bars in
+    let bars = c.in_ok-pass.ensures.pass.0.bars in
     let stamp = c.args.stamp in
     let beside = c.self.inside.beside.items in
     let offers = c.as_slice-offers.result.now in
@@ -73,12 +77,12 @@ changes_after-requires g c =
     subst (λ (r : RunningStates). r.opening ≡ r.present) (sym c.self.view_is) c.requires.opened in
     let long : length s.marks ≡ length s.dossier.wishes = ap (λ (ms : List Mark). length ms) (sym c.marks.ensures.marks)
     ∙ c.marks.ensures.one_each in
-    let are = c.as_slice-offers.ensures ∙ c.in_ok-pass.ensures.pass.offers in
-    let made = c.in_ok-pass.ensures.state in
+    let are = c.as_slice-offers.ensures ∙ offers_kept _ _ _ _ _ _ _ _ _ _ c.in_ok-pass.ensures.pass in
+    let made = c.in_ok-pass.ensures.pass.1.offers in
     let close = c.answer_after-freed.ensures.state in
     let opens = ap (λ (t : State). t.dossier) opened in
     let same = ap (λ (t : State). t.dossier) made ∙ sym opens in
-    let names = names_there c.pass_along.new.state.dossier opening.dossier
+    let names = names_there c.pass_keeping.new.state.dossier opening.dossier
     (beside ++ offers) _ c.as_slice-asked.result.now
     same c.as_slice-asked.ensures.value c.in_ok-ask_beside.ensures.names in
     record {
@@ -86,7 +90,7 @@ changes_after-requires g c =
       asked = names.within;
       others = λ known. others_stay opening c.answer_after-freed.new.state
           (beside ++ offers) c.as_slice-asked.result.now names
-          (same_but s c.pass_along.new.state c.answer_after-freed.new.state opening orders bars beside offers
+          (same_but s c.pass_keeping.new.state c.answer_after-freed.new.state opening orders bars beside offers
           (beside ++ offers)
           stamp long made close opened are refl (c.self.invariant.answered known stamp));
     }
@@ -95,7 +99,7 @@ pub follow-requires : goal.follow-requires
 follow-requires g c =
     let s = c.self.inside.present in
     let orders = c.args.roster.now.orders in
-    let bars = c.in_ok-pass.pass.bars in
+    let bars = c.in_ok-pass.ensures.pass.0.bars in
     let stamp = c.args.stamp in
     let beside = c.self.inside.beside.items in
     let offers = c.as_slice-offers.result.now in
@@ -106,12 +110,12 @@ follow-requires g c =
     subst (λ (r : RunningStates). r.opening ≡ r.present) (sym c.self.view_is) c.requires.opened in
     let long : length s.marks ≡ length s.dossier.wishes = ap (λ (ms : List Mark). length ms) (sym c.marks.ensures.marks)
     ∙ c.marks.ensures.one_each in
-    let are = c.as_slice-offers.ensures ∙ c.in_ok-pass.ensures.pass.offers in
-    let made = c.in_ok-pass.ensures.state in
-    let end = closed s c.pass_along.new.state close orders bars stamp made c.answer_after-freed.ensures.state in
+    let are = c.as_slice-offers.ensures ∙ offers_kept _ _ _ _ _ _ _ _ _ _ c.in_ok-pass.ensures.pass in
+    let made = c.in_ok-pass.ensures.pass.1.offers in
+    let end = closed s c.pass_keeping.new.state close orders bars stamp made c.answer_after-freed.ensures.state in
     let opens = ap (λ (t : State). t.dossier) opened in
     let same = ap (λ (t : State). t.dossier) made ∙ sym opens in
-    let names = names_there c.pass_along.new.state.dossier opening.dossier (beside ++ offers) _ asked same
+    let names = names_there c.pass_keeping.new.state.dossier opening.dossier (beside ++ offers) _ asked same
     c.as_slice-asked.ensures.value c.in_ok-ask_beside.ensures.names in
     let along = offered_along offers stamp opening in
     record {
@@ -137,7 +141,7 @@ invariant_of-self g c =
 
 pub invariant_of-self-in_err-ask_beside : goal.invariant_of-self-in_err-ask_beside
 invariant_of-self-in_err-ask_beside g c = record {
-  dossier = c.self.invariant.dossier ∙ sym (ap (λ (t : State). t.dossier) c.in_ok-pass.ensures.state);
+  dossier = c.self.invariant.dossier ∙ sym (ap (λ (t : State). t.dossier) c.in_ok-pass.ensures.pass.1.offers);
   within = c.ask_beside.ensures.within;
   answered = λ known. absurd (false≢true known);
   alike = λ known. absurd (false≢true known);
@@ -146,9 +150,10 @@ invariant_of-self-in_err-ask_beside g c = record {
 pub invariant_of-self-in_err-autos : goal.invariant_of-self-in_err-autos
 invariant_of-self-in_err-autos g c =
     let close = c.answer_after-freed.new.state in
-    let end = closed_dossier c.self.inside.present c.pass_along.new.state close c.args.roster.now.orders
-    c.in_ok-pass.pass.bars c.args.stamp c.in_ok-pass.ensures.state c.answer_after-freed.ensures.state in
-    let made = ap (λ (t : State). t.dossier) c.in_ok-pass.ensures.state in
+    let end = closed_dossier c.self.inside.present c.pass_keeping.new.state close c.args.roster.now.orders
+    c.in_ok-pass.ensures.pass.0.bars c.args.stamp c.in_ok-pass.ensures.pass.1.offers
+    c.answer_after-freed.ensures.state in
+    let made = ap (λ (t : State). t.dossier) c.in_ok-pass.ensures.pass.1.offers in
     record {
       dossier = c.self.invariant.dossier ∙ sym end;
       within = subst (λ (d : DossierRows). AreWishesOf d c.ask_beside.new.places.items)
@@ -161,14 +166,14 @@ pub invariant_of-self-2 : goal.invariant_of-self-2
 invariant_of-self-2 g c =
     let s = c.self.inside.present in
     let orders = c.args.roster.now.orders in
-    let bars = c.in_ok-pass.pass.bars in
+    let bars = c.in_ok-pass.ensures.pass.0.bars in
     let stamp = c.args.stamp in
     let close = c.answer_after-freed.new.state in
     let opened : c.self.inside.opening ≡ s =
     subst (λ (r : RunningStates). r.opening ≡ r.present) (sym c.self.view_is) c.requires.opened in
     let long : length s.marks ≡ length s.dossier.wishes = ap (λ (ms : List Mark). length ms) (sym c.marks.ensures.marks)
     ∙ c.marks.ensures.one_each in
-    let end = closed s c.pass_along.new.state close orders bars stamp c.in_ok-pass.ensures.state
+    let end = closed s c.pass_keeping.new.state close orders bars stamp c.in_ok-pass.ensures.pass.1.offers
     c.answer_after-freed.ensures.state in
     record {
       dossier = next_dossier c.answer_after-freed.result c.self.inside.opening close c.follow.new.opening
@@ -184,61 +189,66 @@ pub returns-clause-made : goal.returns-clause-made
 returns-clause-made g c =
     let s = c.self.inside.present in
     let orders = c.args.roster.now.orders in
-    let bars = c.in_ok-pass.pass.bars in
+    let bars = c.in_ok-pass.ensures.pass.0.bars in
     let stamp = c.args.stamp in
-    let off = c.pass_along.new.state in
+    let off = c.pass_keeping.new.state in
     let close = c.answer_after-freed.new.state in
     let opened : c.self.inside.opening ≡ s =
     subst (λ (r : RunningStates). r.opening ≡ r.present) (sym c.self.view_is) c.requires.opened in
     let long : length s.marks ≡ length s.dossier.wishes = ap (λ (ms : List Mark). length ms) (sym c.marks.ensures.marks)
     ∙ c.marks.ensures.one_each in
-    let made = c.in_ok-pass.ensures.state in
+    let made = c.in_ok-pass.ensures.pass.1.offers in
     let answered = c.answer_after-freed.ensures.state in
     let freed = c.answer_after-freed.ensures.freed in
     let end = closed s off close orders bars stamp made answered in
     let all = c.answer_after-freed.result in
-    let pass_end : PassEnd = record { pass = c.in_ok-pass.pass; autos = c.from_vec.result; freed = all } in
-    let after : RunningStates = record { present = close; opening = c.follow.new.opening } in
-    subst (λ (r : RunningStates). IsPassMade orders c.args.ceilings.now stamp r.present pass_end after) c.self.view_is
-    (record {
-      ended = pass_ended s off close c.self.inside.opening orders c.args.ceilings.now stamp c.in_ok-pass.pass
-          c.from_vec.result
-          all c.in_ok-pass.ensures.pass made answered freed opened (c.from_vec.ensures ∙ c.in_ok-autos.ensures);
-      present = end;
-      opening = c.follow.ensures ∙ ap (λ (t : State). opening_after all t close) opened;
-      fewer = λ some. fewer_open s off close orders bars stamp all long made answered freed some;
-      marks = closed_long s close orders bars stamp long end;
-    })
-
-pub returns-clause-picked : goal.returns-clause-picked
-returns-clause-picked g c =
     let first = goal.Picker-dyn g c.args.picker.now in
-    let picks = c.in_ok-pass.ensures.picks in (
-      picks.told,
-      subst (λ (r : RunningStates). AreChosen (boarding r.present c.args.roster.now.orders c.args.ceilings.now)
-          (first.choice c.args.picker.now.1) (first.told c.args.picker.now.1) c.args.ceilings.now
-          c.in_ok-pass.pass.falls)
-          c.self.view_is picks.chosen,
+    let is = c.in_ok-pass.ensures.pass.1 in
+    let after : RunningStates = record { present = close; opening = c.follow.new.opening } in
+    let with_pass : PassRecord → PassEnd = λ pass. record { pass = pass; autos = c.from_vec.result; freed = all } in
+    let pass_end = with_pass c.in_ok-pass.ensures.pass.0 in (
+      pass_end,
+      subst
+          (λ (r : RunningStates). IsPassPicked orders c.args.plan.ceilings.now stamp r.present
+          (first.choice c.args.picker.now.1) (first.told c.args.picker.now.1)
+          ((goal.Picker-dyn g (c.args.picker.now.0, c.pass_keeping.new.picker)).told c.pass_keeping.new.picker)
+          after pass_end) c.self.view_is
+          (record {
+            made = record {
+              ended = pass_ended s off close c.self.inside.opening orders c.args.plan.ceilings.now stamp
+                  c.in_ok-pass.ensures.pass.0 c.from_vec.result
+                  all is.by.is_pass made answered freed opened (c.from_vec.ensures ∙ c.in_ok-autos.ensures);
+              present = end;
+              opening = c.follow.ensures ∙ ap (λ (t : State). opening_after all t close) opened;
+              fewer = λ some. fewer_open s off close orders bars stamp all long made answered freed some;
+              marks = closed_long s close orders bars stamp long end;
+            };
+            told_of = is.by.told_of;
+            chosen = is.by.chosen;
+          }),
+      ap with_pass c.in_ok-pass.ensures.pass.2,
     )
 
 pub returns-clause-choice : goal.returns-clause-choice
-returns-clause-choice g c = c.pass_along.ensures.picks.choice
+returns-clause-choice g c = c.pass_keeping.ensures.choice
 
 pub returns-clause-dossier : goal.returns-clause-dossier
 returns-clause-dossier g c =
-    closed_dossier c.self.inside.present c.pass_along.new.state c.answer_after-freed.new.state c.args.roster.now.orders
-    c.in_ok-pass.pass.bars c.args.stamp c.in_ok-pass.ensures.state c.answer_after-freed.ensures.state
+    closed_dossier c.self.inside.present c.pass_keeping.new.state c.answer_after-freed.new.state
+    c.args.roster.now.orders
+    c.in_ok-pass.ensures.pass.0.bars c.args.stamp c.in_ok-pass.ensures.pass.1.offers c.answer_after-freed.ensures.state
     ∙ ap (λ (r : RunningStates). r.present.dossier) c.self.view_is
 
 pub returns-in_err-autos-clause-dossier : goal.returns-in_err-autos-clause-dossier
 returns-in_err-autos-clause-dossier g c =
-    closed_dossier c.self.inside.present c.pass_along.new.state c.answer_after-freed.new.state c.args.roster.now.orders
-    c.in_ok-pass.pass.bars c.args.stamp c.in_ok-pass.ensures.state c.answer_after-freed.ensures.state
+    closed_dossier c.self.inside.present c.pass_keeping.new.state c.answer_after-freed.new.state
+    c.args.roster.now.orders
+    c.in_ok-pass.ensures.pass.0.bars c.args.stamp c.in_ok-pass.ensures.pass.1.offers c.answer_after-freed.ensures.state
     ∙ ap (λ (r : RunningStates). r.present.dossier) c.self.view_is
 
 pub returns-in_err-ask_beside-clause-dossier : goal.returns-in_err-ask_beside-clause-dossier
 returns-in_err-ask_beside-clause-dossier g c =
-    ap (λ (t : State). t.dossier) c.in_ok-pass.ensures.state
+    ap (λ (t : State). t.dossier) c.in_ok-pass.ensures.pass.1.offers
     ∙ ap (λ (r : RunningStates). r.present.dossier) c.self.view_is
 
 pub returns-in_err-pass-clause-dossier : goal.returns-in_err-pass-clause-dossier
@@ -248,20 +258,17 @@ returns-in_err-pass-clause-dossier g c =
 
 pub returns-in_err-ask_beside-clause-early : goal.returns-in_err-ask_beside-clause-early
 returns-in_err-ask_beside-clause-early g c =
-    tells_on c.from_residual-in_err-ask_beside.result _ _ _ c.in_ok-pass.ensures.picks.told
+    tells_on c.from_residual-in_err-ask_beside.result _ _ _ c.in_ok-pass.ensures.pass.1.by.told_of
 
 pub returns-in_err-autos-clause-early : goal.returns-in_err-autos-clause-early
 returns-in_err-autos-clause-early g c =
-    tells_on c.from_residual-in_err-autos.result _ _ _ c.in_ok-pass.ensures.picks.told
+    tells_on c.from_residual-in_err-autos.result _ _ _ c.in_ok-pass.ensures.pass.1.by.told_of
 
 pub returns-in_err-ask_beside-clause-made : goal.returns-in_err-ask_beside-clause-made
 returns-in_err-ask_beside-clause-made g c = IfOk-from_err _ _ c.from_residual-in_err-ask_beside.ensures.0
 
-pub returns-in_err-ask_beside-clause-picked : goal.returns-in_err-ask_beside-clause-picked
-returns-in_err-ask_beside-clause-picked g c = IfOk-from_err _ _ c.from_residual-in_err-ask_beside.ensures.0
-
 pub returns-in_err-autos-clause-made : goal.returns-in_err-autos-clause-made
 returns-in_err-autos-clause-made g c = IfOk-from_err _ _ c.from_residual-in_err-autos.ensures.0
 
-pub returns-in_err-autos-clause-picked : goal.returns-in_err-autos-clause-picked
-returns-in_err-autos-clause-picked g c = IfOk-from_err _ _ c.from_residual-in_err-autos.ensures.0
+pub returns-in_err-pass-clause-early : goal.returns-in_err-pass-clause-early
+returns-in_err-pass-clause-early g c = on_err _ (tells_of_falls _ _ _ _ c.in_err-pass.ensures.early)

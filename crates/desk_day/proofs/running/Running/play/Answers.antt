@@ -1,6 +1,7 @@
-use Rattle.std.proofs.Common.{◌∙◌, ◌≤◌, ◌+◌, ap, length, refl, subst, sym}
+use Rattle.std.proofs.Common.{List, ◌∙◌, ◌≤◌, ◌+◌, ap, length, refl, subst, sym}
 use Rattle.std.proofs.lemmas.Result.{IfOk-from_err}
 use Rattle.std.specs.Option.{option_copied}
+use Rattle.admit_core.specs.declared.records.PassEnd.{PassEnd}
 use Rattle.admit_core.specs.CallOrder.{AreCallOrders}
 use Rattle.admit_core.specs.Days.{IsDay, Passes}
 use Rattle.admit_core.specs.DossierRows.{DossierRows}
@@ -8,7 +9,7 @@ use Rattle.admit_core.specs.State.{State}
 use Rattle.admit_core.specs.Validity.{IsValid}
 use Rattle.desk_day.specs.DayPasses.{AreChosenPasses, last_opening}
 use Rattle.desk_day.specs.RunDay.{recorded}
-use Rattle.desk_day.proofs.DayEnds.{done_so, not_begun, ran_out}
+use Rattle.desk_day.proofs.DayEnds.{not_begun, ran_out}
 use Rattle.desk_day.proofs.DayLaws.{laws_kept}
 use Rattle.desk_day.proofs.DayPlaces.{day_in}
 use Rattle.desk_day.proofs.Stamps.{stamps_kept}
@@ -41,7 +42,7 @@ returns-in_err-done-clause-done g c = IfOk-from_err _ _ c.from_residual-in_err-d
 
 pub returns-in_err-done-clause-undone : goal.returns-in_err-done-clause-undone
 returns-in_err-done-clause-undone g c = ran_out _ _ c.from_residual-in_err-done.ensures.1
-    (record { unfit = tt; unopened = tt; untold = (_, c.in_ok-passes.ensures.told) })
+    (record { unfit = tt; unopened = tt; untold = (_, c.in_ok-passes.ensures.made.1.told_of) })
 
 pub returns-in_err-done-clause-dossier : goal.returns-in_err-done-clause-dossier
 returns-in_err-done-clause-dossier g c = c.make_passes.ensures.dossier ∙ c.begin_day.ensures.dossier
@@ -52,15 +53,17 @@ returns-clause-dossier g c = c.make_passes.ensures.dossier ∙ c.begin_day.ensur
 pub returns-clause-done : goal.returns-clause-done
 returns-clause-done g c =
     let s = c.args.self.now.present in
-    let terms = option_copied c.args.terms in
+    let terms = option_copied c.args.plan.terms in
     let orders = c.args.roster.now.orders in
-    let ceilings = c.args.ceilings.now in
-    let day = c.args.day in
+    let ceilings = c.args.plan.ceilings.now in
+    let day = c.args.plan.day in
     let evening = c.make_passes.new.self.present in
-    let passes = c.in_ok-passes.passes.items in
-    let done = recorded day passes c.in_ok-lapsed.lapsed.items evening in
+    let passes = c.in_ok-passes.ensures.made.0 in
+    let picked = c.in_ok-passes.ensures.made.1 in
+    let lapsed = c.in_ok-lapsed.lapsed.items in
+    let done = recorded day passes lapsed evening in
     let morning = c.in_ok-lapsed.ensures.present in
-    let made = c.in_ok-passes.ensures.made in
+    let made = picked.made in
     let valid : IsValid s.dossier = subst IsValid
     (c.behind-state.view_is ∙ c.dossier.ensures ∙ ap (λ (t : State). t.dossier) c.now-state.ensures)
     c.behind-state.invariant in
@@ -73,21 +76,25 @@ returns-clause-done g c =
       passes = subst (λ (m : State). Passes orders ceilings day 1 m passes evening) morning made.passes;
       left = refl;
       free = refl;
-    } in
-    done_so _ _ _ _ _ _ _ done (c.in_ok-done.ensures
-    ∙ ap (λ (t : State). recorded day passes c.in_ok-lapsed.lapsed.items t) c.now.ensures) (record {
-      rule = record {
-        number = refl;
-        is_day = is;
-        opening = made.opening ∙ ap (λ (m : State). last_opening orders day 1 m passes) morning;
-        told = c.in_ok-passes.ensures.told;
-        chosen = subst (λ (m : State). AreChosenPasses orders ceilings day 1 m (first.choice c.args.picker.now.1)
-            (first.told c.args.picker.now.1) passes) morning c.in_ok-passes.ensures.chosen;
-      };
-      follows = record {
-        laws = laws_kept terms orders ceilings s done evening valid called c.requires.ceilings is;
-        few = subst (λ (d : DossierRows). length passes ≤ length d.wishes + 1) c.begin_day.ensures.dossier made.few;
-        places = day_in terms orders ceilings s done evening c.requires.before c.requires.ceilings is;
-        stamps = stamps_kept terms orders ceilings s done evening is;
-      };
-    })
+    } in (
+      done,
+      record {
+        rule = record {
+          number = refl;
+          is_day = is;
+          opening = made.opening ∙ ap (λ (m : State). last_opening orders day 1 m passes) morning;
+          told = picked.told_of;
+          chosen = subst (λ (m : State). AreChosenPasses orders ceilings day 1 m (first.choice c.args.picker.now.1)
+              (first.told c.args.picker.now.1) passes) morning picked.chosen;
+        };
+        follows = record {
+          laws = laws_kept terms orders ceilings s done evening valid called c.requires.ceilings is;
+          few = subst (λ (d : DossierRows). length passes ≤ length d.wishes + 1) c.begin_day.ensures.dossier made.few;
+          places = day_in terms orders ceilings s done evening c.requires.before c.requires.ceilings is;
+          stamps = stamps_kept terms orders ceilings s done evening is;
+        };
+      },
+      c.in_ok-done.ensures
+          ∙ ap (λ (t : State). recorded day c.in_ok-passes.passes.items lapsed t) c.now.ensures
+          ∙ ap (λ (ends : List PassEnd). recorded day ends lapsed evening) c.in_ok-passes.ensures.made.2,
+    )

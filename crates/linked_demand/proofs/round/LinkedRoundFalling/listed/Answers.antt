@@ -2,8 +2,8 @@ use Rattle.std.proofs.Common.{◌∙◌}
 use Rattle.linked_demand.proofs.Rounding.{overfilled_seen}
 use Rattle.linked_demand.proofs.round.LinkedRoundFalling.listed.Goals as goal
 
-pub returns : goal.returns
-returns c =
+pub returns-clause-places : goal.returns-clause-places
+returns-clause-places c =
     let r = c.self.inside in
     c.places.ensures
     ∙ overfilled_seen r.links r.ceilings.items r.bars.items r.free.items r.rows.items r.overfilled r.marked

@@ -1,0 +1,64 @@
+-- Days whose falls are kept or left out.
+use Rattle.std.proofs.Common.{◌≡◌, Bool, true, List, [], ◌∷◌, map, Result, Ok, Err, length, nat_eq, refl, sym, ◌∙◌, ap}
+use Rattle.std.proofs.Common.{subst, ◌&&◌}
+use Rattle.std.specs.List.{list_all}
+use Rattle.admit_core.specs.declared.records.DayRecord.{DayRecord}
+use Rattle.admit_core.specs.declared.records.PassEnd.{PassEnd}
+use Rattle.admit_core.specs.Days.{answers_of}
+use Rattle.admit_core.specs.DossierRows.{DossierRows}
+use Rattle.round.specs.KeptFalls.{IsKeptOf}
+use Rattle.desk_day.specs.Idle.{is_idle, offers_nothing}
+use Rattle.desk_day.specs.KeptDays.{kept_day, kept_end, kept_result}
+use Rattle.desk_day.specs.declared.refusal.DayRefusal.{DayRefusal}
+
+-- where falls are kept, all is
+ends_whole : (ends : List PassEnd) → map (kept_end true) ends ≡ ends
+ends_whole [] = refl
+ends_whole (end ∷ ends) = ap (λ (es : List PassEnd). end ∷ es) (ends_whole ends)
+
+pub day_whole : (day : DayRecord) → kept_day true day ≡ day
+day_whole day = ap (λ (es : List PassEnd). record day { passes = es }) (ends_whole day.passes)
+
+result_whole : (result : Result DayRecord DayRefusal) → kept_result true result ≡ result
+result_whole (Ok day) = ap Ok (day_whole day)
+result_whole (Err refusal) = refl
+
+pub ends_whole_day : (Holds : Result DayRecord DayRefusal → Type 0) (result : Result DayRecord DayRefusal)
+    → IsKeptOf (kept_result true) Holds result → Holds result
+ends_whole_day Holds result is = subst Holds (sym (result_whole is.0) ∙ sym is.2) is.1
+
+-- nothing happened on a day where nothing happened by what is kept of it
+offers_kept : (keeps : Bool) (ends : List PassEnd)
+    → list_all offers_nothing (map (kept_end keeps) ends) ≡ list_all offers_nothing ends
+offers_kept keeps [] = refl
+offers_kept keeps (end ∷ ends) = ap (λ (rest : Bool). offers_nothing end && rest) (offers_kept keeps ends)
+
+pub idle_kept : (keeps : Bool) (d : DossierRows) (kept day : DayRecord) → kept ≡ kept_day keeps day
+    → is_idle d kept ≡ true → is_idle d day ≡ true
+idle_kept keeps d kept day same idle =
+    ap (λ (none : Bool). nat_eq (length day.lapsed) 0 && (nat_eq (length (answers_of d day.day)) 0 && none))
+    (sym (offers_kept keeps day.passes))
+    ∙ ap (λ (done : DayRecord). is_idle d done) (sym same) ∙ idle
+
+-- what is kept of a day that came about is kept of a day that did
+module _ (keeps : Bool) (Holds : Result DayRecord DayRefusal → Type 0) where
+  came_about : (kept : DayRecord) (whole : Result DayRecord DayRefusal) → Holds whole
+      → Ok kept ≡ kept_result keeps whole
+      → IsKeptOf (kept_day keeps) (λ day. Holds (Ok day)) kept
+  came_about kept (Ok day) holds same = (day, holds, cc)
+  came_about kept (Err refusal) holds same = absurd (cc)
+
+  pub day_kept : (kept : DayRecord) → IsKeptOf (kept_result keeps) Holds (Ok kept)
+      → IsKeptOf (kept_day keeps) (λ day. Holds (Ok day)) kept
+  day_kept kept is = came_about kept is.0 is.1 is.2
+
+  -- and of one that did not nothing else is kept
+  refused_so : (refusal : DayRefusal) (whole : Result DayRecord DayRefusal) → Holds whole
+      → Err refusal ≡ kept_result keeps whole → Holds (Err refusal)
+  refused_so refusal (Ok day) holds same = absurd (cc)
+  refused_so refusal (Err other) holds same =
+      let here : refusal ≡ other = cc in
+      subst (λ (r : DayRefusal). Holds (Err r)) (sym here) holds
+
+  pub refusal_kept : (refusal : DayRefusal) → IsKeptOf (kept_result keeps) Holds (Err refusal) → Holds (Err refusal)
+  refusal_kept refusal is = refused_so refusal is.0 is.1 is.2

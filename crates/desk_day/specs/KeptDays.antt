@@ -1,0 +1,59 @@
+-- Days that keep the falls of their passes, and days that keep none.
+use Rattle.std.specs.Prelude.{◌≡◌, ℕ, ◌++◌, Bool, List, map, Option, Result, Ok, Err}
+use Rattle.admit_core.specs.declared.ranking.CallOrder.{CallOrder}
+use Rattle.admit_core.specs.declared.records.DayRecord.{DayRecord}
+use Rattle.admit_core.specs.declared.records.PassEnd.{PassEnd}
+use Rattle.admit_core.specs.declared.records.Terms.{Terms}
+use Rattle.admit_core.specs.declared.state.Stamp.{Stamp}
+use Rattle.admit_core.specs.Boarding.{boarding}
+use Rattle.admit_core.specs.State.{State}
+use Rattle.bar_fixpoint.specs.Chosen.{AreChosen}
+use Rattle.bar_fixpoint.specs.Runs.{schools_of}
+use Rattle.round.specs.KeptFalls.{IsKeptOf, kept_pass}
+use Rattle.desk_day.specs.DayPasses.{AreChosenPasses, schools_of_passes}
+use Rattle.desk_day.specs.RunDay.{EndsDay, Moment}
+use Rattle.desk_day.specs.Running.{ArePassesMade, IsPassMade, RunningStates}
+use Rattle.desk_day.specs.declared.refusal.DayRefusal.{DayRefusal}
+
+-- a pass with all its falls where they are kept, and with none elsewhere
+abbrev pub kept_end : Bool → PassEnd → PassEnd
+kept_end keeps end =
+    record { pass = kept_pass keeps end.pass; autos = end.autos; freed = end.freed }
+
+-- the same of a day
+abbrev pub kept_day : Bool → DayRecord → DayRecord
+kept_day keeps day =
+    record {
+      day = day.day;
+      passes = map (kept_end keeps) day.passes;
+      left = day.left;
+      free = day.free;
+      lapsed = day.lapsed;
+    }
+
+-- and of a day that may not come about
+abbrev pub kept_result : Bool → Result DayRecord DayRefusal → Result DayRecord DayRefusal
+kept_result keeps (Ok day) = Ok (kept_day keeps day)
+kept_result keeps (Err refusal) = Err refusal
+
+-- a pass that has been made, whose schools a picker chose and told of
+pub record IsPassPicked (orders : List CallOrder) (ceilings : List ℕ) (stamp : Stamp) (s : State)
+    (choice : List ℕ → List ℕ → ℕ) (told told_after : List ℕ) (after : RunningStates)
+    (end : PassEnd) : Type 0 where
+  pub made : IsPassMade orders ceilings stamp s end after
+  pub told_of : told_after ≡ told ++ schools_of end.pass.falls
+  pub chosen : AreChosen (boarding s orders ceilings) choice told ceilings end.pass.falls
+
+-- the passes of a day from its morning on, whose schools a picker chose and told of
+pub record ArePassesPicked (orders : List CallOrder) (ceilings : List ℕ) (day : ℕ) (morning : State)
+    (choice : List ℕ → List ℕ → ℕ) (told told_after : List ℕ) (after : RunningStates)
+    (ends : List PassEnd) : Type 0 where
+  pub made : ArePassesMade orders ceilings day morning ends after
+  pub told_of : told_after ≡ told ++ schools_of_passes ends
+  pub chosen : AreChosenPasses orders ceilings day 1 morning choice told ends
+
+-- how a day ends on a desk of which the falls are kept or left out
+abbrev pub EndsDayKept : Bool → Option Terms → List CallOrder → List ℕ → ℕ → Moment → Moment
+    → Result DayRecord DayRefusal → Type 0
+EndsDayKept keeps terms orders ceilings day before after =
+    IsKeptOf (kept_result keeps) (EndsDay terms orders ceilings day before after)

@@ -1,0 +1,16 @@
+//! How a day is run.
+
+use admit_core::Terms;
+
+/// How a day is run, and what is kept of it.
+#[derive(Clone, Copy)]
+pub struct DayPlan<'a> {
+    /// The ceilings of that day, by school.
+    pub ceilings: &'a [u32],
+    /// The terms of the offers, where these lapse.
+    pub terms: Option<&'a Terms>,
+    /// The day's number, from 1.
+    pub day: u32,
+    /// Whether the record has the falls of its passes, each with the wishes that it names.
+    pub keeps_falls: bool,
+}

@@ -1,2 +1,0 @@
-pub mod FirstWord
-pub mod NewPickers

@@ -1,2 +1,0 @@
-pub mod NewRun
-pub mod Start

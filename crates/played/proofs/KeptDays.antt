@@ -1,0 +1,211 @@
+-- Days that were played, of which the falls are kept or left out.
+use Rattle.std.proofs.Common.{◌≡◌, ◌∙◌, ℕ, ◌+◌, ◌<◌, Bool, true, List, [], ◌∷◌, ◌++◌, Option, Result, Ok, Err, IfOk}
+use Rattle.std.proofs.Common.{IsErrAnd, ap, map, refl, subst, sym}
+use Rattle.std.proofs.lemmas.List.{append-nil}
+use Rattle.std.proofs.lemmas.Result.{IfOk-weaker}
+use Rattle.admit_core.specs.CallOrder.{AreCallOrders}
+use Rattle.admit_core.specs.Days.{ceilings_of}
+use Rattle.admit_core.specs.DossierRows.{DossierRows}
+use Rattle.admit_core.specs.declared.ranking.CallOrder.{CallOrder}
+use Rattle.admit_core.specs.declared.records.DayRecord.{DayRecord}
+use Rattle.admit_core.specs.declared.records.Terms.{Terms}
+use Rattle.admit_core.specs.declared.refusal.Refusal.{Refusal}
+use Rattle.desk_day.proofs.KeptDays.{day_kept, day_whole, refusal_kept}
+use Rattle.desk_day.proofs.KeptPasses.{kept_more}
+use Rattle.desk_day.specs.DeskStates.{DeskStates}
+use Rattle.desk_day.specs.KeptDays.{EndsDayKept, kept_day, kept_result}
+use Rattle.desk_day.specs.RunDay.{EndsDay, IsDayDone, Moment}
+use Rattle.desk_day.specs.declared.refusal.DayRefusal.{DayRefusal}
+use Rattle.desk_day.specs.declared.refusal.DayRefusal.TheVariants as refusals
+use Rattle.request.specs.declared.pickers.PickerChoice.{PickerChoice}
+use Rattle.round.specs.KeptFalls.{IsKeptOf}
+use Rattle.played.specs.KeptDays.{IsPlayedKept, PlaysDaysKept, kept_played}
+use Rattle.played.specs.Lent.{Lent}
+use Rattle.played.specs.OneDay.{DayEndsWith}
+use Rattle.played.specs.PlayedDays.{EndsNext, IsPlayed, OnFit, Plan, Played, first_desk}
+use Rattle.played.proofs.DaysSoFar.{SoFar, all_played, cut_short, none_played, nothing_played, played_on, plays_all}
+use Rattle.played.proofs.DaysSoFar.{plays_out, plays_some}
+
+-- one day with one picker
+ok_so : {A E P : Type 0} (r : Result A E) → P → IfOk r (λ x. P)
+ok_so (Ok x) p = p
+ok_so (Err e) p = tt
+
+ends_with : (terms : Option Terms) (orders : List CallOrder) (ceilings : List ℕ) (d : ℕ) (before after : Moment)
+    (r : Result DayRecord DayRefusal) → ceilings ≡ ceilings_of before.desk.present.dossier d
+    → EndsDay terms orders ceilings d before after r → DayEndsWith orders terms d before after r
+ends_with terms orders ceilings d before after r same ends = record {
+  done = subst (λ (cs : List ℕ). IfOk r (λ day. IsDayDone terms orders cs d before day after)) same ends.done;
+  evening = ok_so r ends.evening;
+  dossier = ok_so r ends.dossier;
+  unfit = ends.unfit;
+  untold = ends.untold;
+  choice = ends.choice;
+}
+
+pub ends_with_kept : (keeps : Bool) (terms : Option Terms) (orders : List CallOrder) (ceilings : List ℕ) (d : ℕ)
+    (before after : Moment) (r : Result DayRecord DayRefusal) → ceilings ≡ ceilings_of before.desk.present.dossier d
+    → EndsDayKept keeps terms orders ceilings d before after r
+    → IsKeptOf (kept_result keeps) (DayEndsWith orders terms d before after) r
+ends_with_kept keeps terms orders ceilings d before after r same ends =
+    (ends.0, ends_with terms orders ceilings d before after ends.0 same ends.1, ends.2)
+
+-- memory ran out before the day
+pub ends_early : (keeps : Bool) (terms : Option Terms) (orders : List CallOrder) (d : ℕ) (before : Moment)
+    (r : Result DayRecord DayRefusal) → IsErrAnd r (λ e. e ≡ refusals.OutOfMemory)
+    → IsKeptOf (kept_result keeps) (DayEndsWith orders terms d before before) r
+ends_early keeps terms orders d before (Ok day) is = absurd is
+ends_early keeps terms orders d before (Err e) is = (
+  Err refusals.OutOfMemory,
+  record {
+    done = tt;
+    evening = tt;
+    dossier = tt;
+    unfit = tt;
+    untold = ([], sym (append-nil before.told));
+    choice = refl;
+  },
+  ap Err is,
+)
+
+-- what is said of days that fit, and of none other
+fit_so : {Fact : Type 0} (r : Result (Unit {0}) DayRefusal) → Fact → OnFit r Fact
+fit_so (Ok done) fact = fact
+fit_so (Err (refusals.Unfit refusal)) fact = fact
+fit_so (Err refusals.OutOfMemory) fact = tt
+
+out_so : (Fact : Type 0) (r : Result (Unit {0}) DayRefusal) → IsErrAnd r (λ x. x ≡ refusals.OutOfMemory)
+    → OnFit r Fact
+out_so Fact (Ok done) is = absurd is
+out_so Fact (Err e) is = subst (λ (x : DayRefusal). OnFit (Err x) Fact) (sym is) tt
+
+-- the days so far
+pub none_kept : (keeps : Bool) (plan : Plan) (begun : DeskStates) (before : Lent) (kept : List DayRecord) → kept ≡ []
+    → IsKeptOf (map (kept_day keeps)) (λ days. SoFar plan begun before 0 days begun before) kept
+none_kept keeps plan begun before kept none = ([], nothing_played plan begun before [] refl, none)
+
+module _ (keeps : Bool) (plan : Plan) (old : DeskStates) (before : Lent) (played : ℕ) (kept : List DayRecord)
+    (mid : DeskStates) (between : Lent)
+    (so_far : IsKeptOf (map (kept_day keeps)) (λ days. SoFar plan old before played days mid between) kept) where
+  abbrev Next : DeskStates → Lent → Result DayRecord DayRefusal → Type 0
+  Next new after = IsKeptOf (kept_result keeps) (λ r. EndsNext plan (played + 1) mid between r new after)
+
+  -- one more day
+  pub kept_on : (day : DayRecord) (more : List DayRecord) (new : DeskStates) (after : Lent) → Next new after (Ok day)
+      → more ≡ kept ++ day ∷ []
+      → IsKeptOf (map (kept_day keeps)) (λ days. SoFar plan old before (played + 1) days new after) more
+  kept_on day more new after ends more_is =
+      let next = day_kept keeps (λ r. EndsNext plan (played + 1) mid between r new after) day ends in (
+        so_far.0 ++ next.0 ∷ [],
+        played_on plan old before played so_far.0 mid between so_far.1 next.0 (so_far.0 ++ next.0 ∷ []) new after
+            next.1 refl,
+        kept_more (kept_day keeps) so_far.0 next.0 kept more day so_far.2 next.2 more_is,
+      )
+
+  -- the next day does not come about
+  pub kept_some : (number : ℕ) (refusal : DayRefusal) (new : DeskStates) (after : Lent)
+      (r : Result (Unit {0}) DayRefusal) → IsErrAnd r (λ x. x ≡ refusal) → played < number
+      → Next new after (Err refusal) → PlaysDaysKept keeps plan number old before kept r new after
+  kept_some number refusal new after r from fewer ends = record {
+    days = so_far.0;
+    plays = plays_some plan old before played so_far.0 mid between so_far.1 number refusal new after r from fewer
+        (refusal_kept keeps (λ r. EndsNext plan (played + 1) mid between r new after) refusal ends);
+    keeps_so = fit_so r so_far.2;
+  }
+
+  -- memory runs out after the next day
+  pub kept_out : (number : ℕ) (day : DayRecord) (found : List DayRecord) (new : DeskStates) (after : Lent)
+      (r : Result (Unit {0}) DayRefusal) → IsErrAnd r (λ x. x ≡ refusals.OutOfMemory) → played < number
+      → Next new after (Ok day) → PlaysDaysKept keeps plan number old before found r new after
+  kept_out number day found new after r from fewer ends =
+      let next = day_kept keeps (λ r. EndsNext plan (played + 1) mid between r new after) day ends in
+      record {
+        days = found;
+        plays = plays_out plan old before played so_far.0 mid between so_far.1 number next.0 found new after r from
+            fewer next.1;
+        keeps_so = out_so _ r from;
+      }
+
+  pub kept_all : (number : ℕ) → played ≡ number → PlaysDaysKept keeps plan number old before kept (Ok tt) mid between
+  kept_all number all = record {
+    days = so_far.0;
+    plays = plays_all plan old before played so_far.0 mid between so_far.1 number all;
+    keeps_so = so_far.2;
+  }
+
+-- what became of the days that were asked for
+module _ (keeps : Bool) (d : DossierRows) (number : ℕ) (plan : Plan) (old new : DeskStates) (before after : Lent)
+    (kept : List DayRecord) (end : Result DeskStates Refusal)
+    (called : AreCallOrders d.groups plan.orders) (begun : old ≡ first_desk d) where
+  abbrev with_days : List DayRecord → Played
+  with_days days = record { orders = plan.orders; days = days; end = end }
+
+  abbrev IsAll : Type 0
+  IsAll = IsPlayedKept keeps d plan.terms number plan.who before (with_days kept) after
+
+  pub all_kept : PlaysDaysKept keeps plan number old before kept (Ok tt) new after → end ≡ Ok new → IsAll
+  all_kept plays is = (
+    with_days plays.days,
+    all_played d number plan old new before after plays.days end called begun plays.plays is,
+    ap with_days plays.keeps_so,
+  )
+
+  pub cut_kept : (refusal : Refusal)
+      → PlaysDaysKept keeps plan number old before kept (Err (refusals.Unfit refusal)) new after → end ≡ Err refusal
+      → IsAll
+  cut_kept refusal plays is = (
+    with_days plays.days,
+    cut_short d number plan old new before after plays.days end called begun refusal plays.plays is,
+    ap with_days plays.keeps_so,
+  )
+
+-- along a roster, by the orders that it was made of
+pub kept_by_orders : (keeps : Bool) (one other : List CallOrder) (terms : Option Terms) (who : PickerChoice)
+    (number : ℕ)
+    (old : DeskStates) (before : Lent) (kept : List DayRecord) (result : Result (Unit {0}) DayRefusal)
+    (new : DeskStates) (after : Lent) → one ≡ other
+    → PlaysDaysKept keeps (record { orders = one; terms = terms; who = who }) number old before kept result new after
+    → PlaysDaysKept keeps (record { orders = other; terms = terms; who = who }) number old before kept result new after
+kept_by_orders keeps one other terms who number old before kept result new after same plays =
+    subst (λ (orders : List CallOrder).
+    PlaysDaysKept keeps (record { orders = orders; terms = terms; who = who }) number old before kept result new after)
+    same plays
+
+-- a run of which no day is asked for
+kept_none : (keeps : Bool) (played : Played) → played.days ≡ [] → played ≡ kept_played keeps played
+kept_none keeps played none =
+    ap (λ (days : List DayRecord). record { orders = played.orders; days = days; end = played.end })
+    (none ∙ ap (map (kept_day keeps)) (sym none))
+
+pub none_played_kept : {A E : Type 0} (shown : A → Played) (keeps : Bool) (d : DossierRows) (terms : Option Terms)
+    (number : ℕ) (who : PickerChoice) (before : Lent) (r : Result A E)
+    → IfOk r (λ p. AreCallOrders d.groups (shown p).orders) → IfOk r (λ p. (shown p).days ≡ [])
+    → IfOk r (λ p. (shown p).end ≡ Ok (first_desk d)) → number ≡ 0
+    → IfOk r (λ p. IsPlayedKept keeps d terms number who before (shown p) before)
+none_played_kept {E = E} shown keeps d terms number who before (Err e) called days end none = tt
+none_played_kept {E = E} shown keeps d terms number who before (Ok p) called days end none = (
+  shown p,
+  none_played {E = E} shown d terms number who before (Ok p) called days end none,
+  kept_none keeps (shown p) days,
+)
+
+-- a run whose falls are all kept
+days_whole : (days : List DayRecord) → map (kept_day true) days ≡ days
+days_whole [] = refl
+days_whole (day ∷ days) =
+    ap (λ (first : DayRecord). first ∷ map (kept_day true) days) (day_whole day)
+    ∙ ap (λ (rest : List DayRecord). day ∷ rest) (days_whole days)
+
+pub played_whole : (played : Played) → kept_played true played ≡ played
+played_whole played =
+    ap (λ (days : List DayRecord). record { orders = played.orders; days = days; end = played.end })
+    (days_whole played.days)
+
+pub all_whole : {A E : Type 0} (shown : A → Played) (d : DossierRows) (terms : Option Terms) (number : ℕ)
+    (who : PickerChoice) (before after : Lent) (r : Result A E)
+    → IfOk r (λ p. IsPlayedKept true d terms number who before (shown p) after)
+    → IfOk r (λ p. IsPlayed d terms number who before (shown p) after)
+all_whole shown d terms number who before after r =
+    IfOk-weaker r _ _
+    (λ p is. subst (λ (played : Played). IsPlayed d terms number who before played after)
+    (sym (played_whole is.0) ∙ sym is.2) is.1)

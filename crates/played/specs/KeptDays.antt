@@ -1,0 +1,31 @@
+-- What was played, of whose days the falls are kept or left out.
+use Rattle.std.specs.Prelude.{◌≡◌, ℕ, Bool, List, map, Option, Result}
+use Rattle.admit_core.specs.DossierRows.{DossierRows}
+use Rattle.admit_core.specs.declared.records.DayRecord.{DayRecord}
+use Rattle.admit_core.specs.declared.records.Terms.{Terms}
+use Rattle.desk_day.specs.DeskStates.{DeskStates}
+use Rattle.desk_day.specs.KeptDays.{kept_day}
+use Rattle.desk_day.specs.declared.refusal.DayRefusal.{DayRefusal}
+use Rattle.request.specs.declared.pickers.PickerChoice.{PickerChoice}
+use Rattle.round.specs.KeptFalls.{IsKeptOf}
+use Rattle.played.specs.Lent.{Lent}
+use Rattle.played.specs.PlayedDays.{IsPlayed, OnFit, Plan, Played, PlaysDays}
+
+-- what was played, with all falls where they are kept, and with none elsewhere
+abbrev pub kept_played : Bool → Played → Played
+kept_played keeps played =
+    record { orders = played.orders; days = map (kept_day keeps) played.days; end = played.end }
+
+-- days from day 1 on, of which so many are asked for, and what is kept of those that came about
+pub record PlaysDaysKept (keeps : Bool) (plan : Plan) (number : ℕ) (old : DeskStates)
+    (before : Lent) (kept : List DayRecord) (result : Result (Unit {0}) DayRefusal)
+    (new : DeskStates) (after : Lent) : Type 0 where
+  pub days : List DayRecord
+  pub plays : PlaysDays plan number old before days result new after
+  pub keeps_so : OnFit result (kept ≡ map (kept_day keeps) days)
+
+-- what became of the days of a dossier, by what is kept of them
+abbrev pub IsPlayedKept : Bool → DossierRows → Option Terms → ℕ → PickerChoice → Lent → Played
+    → Lent → Type 0
+IsPlayedKept keeps d terms number who before kept after =
+    IsKeptOf (kept_played keeps) (λ whole. IsPlayed d terms number who before whole after) kept

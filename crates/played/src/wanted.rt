@@ -1,0 +1,13 @@
+//! Which days are asked for.
+
+use request::PickerChoice;
+
+/// How many days are asked for, with which picker each, and what is kept of them.
+#[derive(Clone, Copy)]
+pub struct Wanted {
+    /// At most 366.
+    pub number: u32,
+    pub who: PickerChoice,
+    /// Whether the records have the falls of their passes, each with the wishes that it names.
+    pub keeps_falls: bool,
+}
