@@ -3,8 +3,10 @@
 //! `fall S FROM TO W W ..` and, at the end, `end`. One space stands between two words.
 //!
 //! `let verdict = check_day(alloc, &index, &orders, &morning, ceilings, day, chain)?;`, or for many
-//! days `let grounds = Grounds::build(alloc, &index, &orders, &morning)?;` and then, day by day,
-//! `check_day_along(alloc, &grounds, &morning, ceilings, day, chain)?`.
+//! days `let grounds = Grounds::build(alloc, &index, &orders, &first)?;` and
+//! `let mut desk = CheckDesk::begin(alloc, first);`, and then, day by day,
+//! `desk.make_morning(alloc, terms, day)?;` and
+//! `desk.check_day(alloc, &grounds, ceilings, day, chain)?;`.
 #![tactic(auto)]
 
 mod check;

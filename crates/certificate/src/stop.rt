@@ -2,10 +2,12 @@
 use admit_core::{CheckReason, OutOfMemory};
 use std::alloc::AllocError;
 
-/// Why a check ends early. A rejection tells the row, and for a fall or a pass why it is not valid.
+/// Why a check ends early.
 #[derive(Clone, Copy)]
 pub enum CheckStop {
+    /// The row of the first fault, and its reason.
     Rejected(u64, CheckReason),
+    /// There was no memory.
     OutOfMemory,
 }
 

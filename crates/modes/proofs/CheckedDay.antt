@@ -1,27 +1,29 @@
 -- A day whose chain is tested.
-use Rattle.std.proofs.Common.{◌≡◌, ◌∙◌, ℕ, ◌+◌, List, [], ◌∷◌, Option, Some, None, Result, IsSomeAnd, IfSome, All, ap}
+use Rattle.std.proofs.Common.{◌≡◌, ◌∙◌, ℕ, ◌+◌, List, [], ◌∷◌, Option, Some, None, Result, IfSome, All, ap}
 use Rattle.std.proofs.Common.{length, map, refl, subst, sym}
 use Rattle.std.specs.Prelude.{option_map}
 use Rattle.std.specs.List.{range_with_len}
 use Rattle.std.specs.Option.{option_or}
 use Rattle.admit_core.proofs.ChainLaws.{chains_tell_the_day, no_fault_where_valid}
 use Rattle.admit_core.specs.ChainLaws.{passes_told}
-use Rattle.admit_core.specs.Chains.{IsDayChain, day_fault}
+use Rattle.admit_core.specs.Chains.{IsDayChain, closing_by, day_fault}
 use Rattle.admit_core.specs.Days.{IsDay, ceilings_of, first_evening, lapsed_on, morning, unfit_on}
 use Rattle.admit_core.specs.DossierRows.{DossierRows}
 use Rattle.admit_core.specs.State.{State, free_beds, seats_left}
 use Rattle.admit_core.specs.declared.chain.CheckReason.{CheckReason}
 use Rattle.admit_core.specs.declared.chain.DayChain.{DayChain}
+use Rattle.admit_core.specs.declared.chain.PassChain.{PassChain}
 use Rattle.admit_core.specs.declared.ranking.CallOrder.{CallOrder}
 use Rattle.admit_core.specs.declared.records.DayRecord.{DayRecord}
 use Rattle.admit_core.specs.declared.records.Terms.{Terms}
 use Rattle.admit_core.specs.declared.state.Status.{Status}
 use Rattle.certificate.proofs.Ending.{evening_is}
 use Rattle.certificate.specs.ChainText.{HasPassesOf}
+use Rattle.certificate.specs.Checked.{state_after}
 use Rattle.certificate.specs.ProvedDays.{AreProvedDays, evening_after, evening_by}
-use Rattle.desk_day.proofs.SameDossier.{evening_dossier}
+use Rattle.desk_day.proofs.SameDossier.{morning_dossier}
 use Rattle.desk_day.proofs.Stamps.{stamps_kept}
-use Rattle.desk_day.specs.AnswersOn.{unfit_refusal}
+use Rattle.desk_day.specs.AnswersOn.{IsUnfitOf, unfit_refusal}
 use Rattle.desk_day.specs.RunDay.{IsStampedBy, KeepsStamps}
 use Rattle.desk_day.specs.declared.refusal.DayRefusal.{DayRefusal}
 use Rattle.desk_day.specs.declared.refusal.DayRefusal.TheVariants as refusals
@@ -38,12 +40,33 @@ use Rattle.modes.specs.declared.unproved.Unproved.TheVariants.{Unfit, Rejected, 
 
 -- an answer that does not fit
 pub unfit_stops : (d : DossierRows) (day : ℕ) (unfit : Option (ℕ × Status)) (fault : Option Unproved)
-    (refusal : DayRefusal) (why : Unproved) → why ≡ why_of refusal
-    → IsSomeAnd unfit (λ x. refusal ≡ refusals.Unfit (unfit_refusal d day x))
+    (refusal : DayRefusal) (why : Unproved) → why ≡ why_of refusal → IsUnfitOf d day unfit refusal
     → StopsBy why (option_or (option_map (λ x. Unfit (unfit_refusal d day x)) unfit) fault)
-unfit_stops d day None fault refusal why is some = absurd some
-unfit_stops d day (Some x) fault refusal why is some =
-    subst (λ (y : Unproved). StopsBy y (Some (Unfit (unfit_refusal d day x)))) (sym (is ∙ ap why_of some)) refl
+unfit_stops d day None fault (refusals.Unfit refusal) why is some = absurd some
+unfit_stops d day (Some x) fault (refusals.Unfit refusal) why is some =
+    subst (λ (y : Unproved). StopsBy y (Some (Unfit (unfit_refusal d day x)))) (sym (is ∙ ap Unfit some)) refl
+unfit_stops d day unfit fault refusals.OutOfMemory why is some = subst
+    (λ (y : Unproved). StopsBy y (option_or (option_map (λ x. Unfit (unfit_refusal d day x)) unfit) fault)) (sym is) tt
+
+-- a day keeps the dossier, and so do many
+passes_stay : (orders : List CallOrder) (ceilings : List ℕ) (day k : ℕ) (s : State) (passes : List PassChain)
+    → (state_after orders ceilings day k s passes).dossier ≡ s.dossier
+passes_stay orders ceilings day k s [] = refl
+passes_stay orders ceilings day k s (pass ∷ rest) =
+    passes_stay orders ceilings day (k + 1) (closing_by s orders ceilings (record { day = day; pass = k }) pass) rest
+
+pub evening_stays : (terms : Option Terms) (orders : List CallOrder) (day : ℕ) (old : State) (chain : DayChain)
+    → (evening_by terms orders day old chain).dossier ≡ old.dossier
+evening_stays terms orders day old chain =
+    passes_stay orders (ceilings_of old.dossier day) day 1 (morning terms day old) chain.passes
+    ∙ morning_dossier terms day old
+
+pub days_stay : (terms : Option Terms) (orders : List CallOrder) (day : ℕ) (old : State) (chains : List DayChain)
+    → (evening_after terms orders day old chains).dossier ≡ old.dossier
+days_stay terms orders day old [] = refl
+days_stay terms orders day old (chain ∷ chains) =
+    days_stay terms orders (day + 1) (evening_by terms orders day old chain) chains
+    ∙ evening_stays terms orders day old chain
 
 -- where all answers fit, the chain's first fault tells why
 module _ (terms : Option Terms) (orders : List CallOrder) (day : ℕ) (old dawn : State) (ceilings : List ℕ)
@@ -95,9 +118,6 @@ module _ (terms : Option Terms) (orders : List CallOrder) (day : ℕ) (old dawn 
       left = refl;
       free = refl;
     }
-
-    pub keeps_dossier : evening.dossier ≡ old.dossier
-    keeps_dossier = evening_dossier terms orders (ceilings_of old.dossier day) old told evening is_day
 
     pub keeps_stamps : KeepsStamps day old evening
     unfolding told

@@ -21,92 +21,89 @@ use crate::reply::Reply;
 use crate::unproved::Unproved;
 use admit_core::{CallOrders, DayChain, Dossier, OutOfMemory, Terms};
 use certificate::{
-    ChainRefusal, Grounds, Verdict, chain_fault_text, check_day_along, read_chain, verdict_text,
+    ChainRefusal, CheckDesk, CheckStop, Grounds, chain_fault_text, read_chain, verdict_text,
 };
 use day_state::DayState;
-use desk_day::{ceilings_on, make_morning};
+use desk_day::ceilings_on;
 use intake::{DatedTerms, Input};
 use report::refusal_text;
 use std::alloc::Global;
 
 /// Tests the chain of a day in its morning, and leaves the evening of the day.
-fn check_morning<'d>(
+fn check_morning(
     alloc: Global,
-    grounds: &Grounds<'_>,
+    grounds: &Grounds<'_, '_>,
     ceilings: &[u32],
-    state: &mut DayState<'d>,
+    desk: &mut CheckDesk<'_>,
     day: u32,
     chain: &DayChain,
 ) -> Result<(), Unproved>
-    requires same { grounds.now.dossier ≡ state.old.dossier }
-    requires ceilings { length ceilings.now ≡ length state.old.dossier.schools }
+    requires same { grounds.now.dossier ≡ desk.old.dossier }
+    requires ceilings { length ceilings.now ≡ length desk.old.dossier.schools }
     requires passes { length chain.now.passes < 2 ^ 32 }
 
     ensures found { TellsWhy result (option_map (λ x. whys.Rejected x.0 x.1)
-        (day_fault grounds.now.orders ceilings.now day state.old chain.now)) }
-    ensures valid { OnOk result (IsDayChain grounds.now.orders ceilings.now day state.old
-        chain.now state.new) }
-    ensures school { IfErr result (KeepsIn (length state.old.dossier.schools)) }
+        (day_fault grounds.now.orders ceilings.now day desk.old chain.now)) }
+    ensures valid { OnOk result (IsDayChain grounds.now.orders ceilings.now day desk.old
+        chain.now desk.new) }
+    ensures school { IfErr result (KeepsIn (length desk.old.dossier.schools)) }
 {
-    match check_day_along(alloc, grounds, state, ceilings, day, chain)? {
-        Verdict::Proved { evening } => {
-            *state = evening;
-            Ok(())
-        }
-        Verdict::Rejected { row, reason } => Err(Unproved::Rejected(row, reason)),
+    match desk.check_day(alloc, grounds, ceilings, day, chain) {
+        Ok(()) => Ok(()),
+        Err(CheckStop::Rejected(row, reason)) => Err(Unproved::Rejected(row, reason)),
+        Err(CheckStop::OutOfMemory) => Err(Unproved::OutOfMemory),
     }
 }
 
 /// Tests the chain of a day from the evening before, and leaves the evening of the day.
 fn check_next(
     alloc: Global,
-    grounds: &Grounds<'_>,
+    grounds: &Grounds<'_, '_>,
     terms: Option<&Terms>,
-    state: &mut DayState<'_>,
+    desk: &mut CheckDesk<'_>,
     day: u32,
     chain: &DayChain,
 ) -> Result<(), Unproved>
-    requires same { grounds.now.dossier ≡ state.old.dossier }
-    requires terms { AreTermsFor state.old.dossier (option_copied terms) }
+    requires same { grounds.now.dossier ≡ desk.old.dossier }
+    requires terms { AreTermsFor desk.old.dossier (option_copied terms) }
+    requires day { IsDayNumber day }
     requires passes { length chain.now.passes < 2 ^ 32 }
 
     ensures found { TellsWhy result (why_not (option_copied terms.entry) grounds.now.orders day
-        state.old chain.now) }
-    ensures evening { OnOk result (state.new ≡ evening_by (option_copied terms.entry)
-        grounds.now.orders day state.old chain.now) }
-    ensures dossier { OnOk result (state.new.dossier ≡ state.old.dossier) }
-    ensures stamps { OnOk result (KeepsStamps day state.old state.new) }
-    ensures school { IfErr result (KeepsIn (length state.old.dossier.schools)) }
+        desk.old chain.now) }
+    ensures evening { OnOk result (desk.new ≡ evening_by (option_copied terms.entry)
+        grounds.now.orders day desk.old chain.now) }
+    ensures stamps { OnOk result (KeepsStamps day desk.old desk.new) }
+    ensures school { IfErr result (KeepsIn (length desk.old.dossier.schools)) }
 {
-    let ceilings = ceilings_on(alloc, state.dossier(), day)?;
-    make_morning(state, terms, day)?;
-    check_morning(alloc, grounds, &ceilings, state, day, chain)
+    let ceilings = ceilings_on(alloc, desk.now().dossier(), day)?;
+    desk.make_morning(alloc, terms, day)?;
+    check_morning(alloc, grounds, &ceilings, desk, day, chain)
 }
 
 /// Tests the days of a chain from day 1 on, and leaves the evening of the last.
 fn check_days(
     alloc: Global,
-    grounds: &Grounds<'_>,
+    grounds: &Grounds<'_, '_>,
     terms: Option<&Terms>,
-    state: &mut DayState<'_>,
+    desk: &mut CheckDesk<'_>,
     days: &[DayChain],
 ) -> Result<(), Unproved>
-    requires same { grounds.now.dossier ≡ state.old.dossier }
-    requires terms { AreTermsFor state.old.dossier (option_copied terms) }
+    requires same { grounds.now.dossier ≡ desk.old.dossier }
+    requires terms { AreTermsFor desk.old.dossier (option_copied terms) }
     requires days { length days.now ≤ 366 }
     requires passes { All (λ day. length day.passes < 2 ^ 32) days.now }
 
     ensures found { TellsWhy result (why_none (option_copied terms.entry) grounds.now.orders 1
-        state.old days.now) }
-    ensures evening { OnOk result (state.new ≡ evening_after (option_copied terms.entry)
-        grounds.now.orders 1 state.old days.now) }
-    ensures dossier { OnOk result (state.new.dossier ≡ state.old.dossier) }
-    ensures stamps { OnOk result (All (IsStampedBy 366) state.old.marks → All (IsStampedBy 366)
-        state.new.marks) }
-    ensures school { IfErr result (KeepsIn (length state.old.dossier.schools)) }
+        desk.old days.now) }
+    ensures evening { OnOk result (desk.new ≡ evening_after (option_copied terms.entry)
+        grounds.now.orders 1 desk.old days.now) }
+    ensures stamps { OnOk result (All (IsStampedBy 366) desk.old.marks → All (IsStampedBy 366)
+        desk.new.marks) }
+    ensures school { IfErr result (KeepsIn (length desk.old.dossier.schools)) }
 {
     for (place, chain) in days.iter().enumerate() {
-        check_next(alloc, grounds, terms, state, place as u32 + 1, chain)?;
+        check_next(alloc, grounds, terms, desk, place as u32 + 1, chain)?;
     }
     Ok(())
 }
@@ -156,13 +153,13 @@ fn check_chain(
     input: &Input,
     dated: Option<&DatedTerms>,
     orders: &CallOrders,
-    first: &DayState<'_>,
+    first: DayState<'_>,
     days: &[DayChain],
 ) -> Result<Reply, OutOfMemory>
     requires index { input.now.index ≡ ids_in input.now.dossier }
     requires dated { IfSome (option_copied dated) (AreDatedFor input.now.dossier) }
     requires orders { AreCallOrders input.now.dossier.groups orders.now.orders }
-    requires first { first.now ≡ first_evening input.now.dossier }
+    requires first { first ≡ first_evening input.now.dossier }
     requires days { length days.now ≤ 366 }
     requires passes { All (λ day. length day.passes < 2 ^ 32) days.now }
 
@@ -175,10 +172,13 @@ fn check_chain(
         (option_copied dated.entry))
         reply.exit reply.text.items) }
 {
-    let grounds = Grounds::build(alloc, &input.index, orders, first)?;
-    let mut state = first.copy(alloc)?;
-    match check_days(alloc, &grounds, terms_in(dated), &mut state, days) {
-        Ok(()) => Ok(reply(Exit::Done, proved_text(alloc, days.len(), &state, dated)?)),
+    let grounds = Grounds::build(alloc, &input.index, orders, &first)?;
+    let mut desk = CheckDesk::begin(alloc, first);
+    match check_days(alloc, &grounds, terms_in(dated), &mut desk, days) {
+        Ok(()) => Ok(reply(
+            Exit::Done,
+            proved_text(alloc, days.len(), desk.now(), dated)?,
+        )),
         Err(why) => unproved(alloc, &input.dossier, why),
     }
 }
@@ -190,12 +190,12 @@ pub(crate) fn checked(
     input: &Input,
     dated: Option<&DatedTerms>,
     orders: &CallOrders,
-    first: &DayState<'_>,
+    first: DayState<'_>,
 ) -> Result<Reply, OutOfMemory>
     requires index { input.now.index ≡ ids_in input.now.dossier }
     requires dated { IfSome (option_copied dated) (AreDatedFor input.now.dossier) }
     requires orders { AreCallOrders input.now.dossier.groups orders.now.orders }
-    requires first { first.now ≡ first_evening input.now.dossier }
+    requires first { first ≡ first_evening input.now.dossier }
 
     ensures { IfOk result (λ reply. IsChecked
         input.now.dossier input.now.chain (option_copied dated.entry) orders.now.orders

@@ -121,7 +121,7 @@ fn tested(
 {
     let (orders, _, desk) = led.into_parts();
     let first = desk.into_now(alloc)?;
-    checked(alloc, input, dated, &orders, &first)
+    checked(alloc, input, dated, &orders, first)
 }
 
 /// How the mode `explain` ends, which needs the opening of the last pass too.

@@ -12,7 +12,8 @@ use Rattle.intake.specs.Dated.{terms_in}
 use Rattle.intake.proofs.DatedOffers.{terms_known}
 use Rattle.modes.specs.CheckedDays.{KeepsIn, StopsBy}
 use Rattle.modes.specs.Checking.{proved_text, why_none}
-use Rattle.modes.proofs.CheckedDay.{evening_alike, evening_dated, proof_ends, stop_ends, why_alike}
+use Rattle.modes.specs.Replay.{CanBeDated}
+use Rattle.modes.proofs.CheckedDay.{days_stay, evening_alike, evening_dated, proof_ends, stop_ends, why_alike}
 use Rattle.modes.proofs.checked.check_chain.Goals as goal
 
 pub build-requires-clause-index : goal.build-requires-clause-index
@@ -26,26 +27,30 @@ build-requires-clause-orders c =
 pub check_days-requires-clause-same : goal.check_days-requires-clause-same
 check_days-requires-clause-same c =
     ap (λ (g : Ground). g.dossier) c.in_ok-grounds.ensures
-    ∙ ap (λ (s : State). s.dossier) (sym c.in_ok-state.ensures)
+    ∙ ap (λ (s : State). s.dossier) (sym c.begin-desk.ensures)
 
 pub check_days-requires-clause-terms : goal.check_days-requires-clause-terms
 check_days-requires-clause-terms c =
     let dated = option_copied c.args.dated in
-    subst (AreTermsFor c.in_ok-state.state.dossier)
+    subst (AreTermsFor c.begin-desk.result.dossier)
     (sym c.terms_in.ensures)
     (subst (λ (s : State). AreTermsFor s.dossier (terms_in dated))
-    (sym (c.in_ok-state.ensures ∙ c.requires.first))
+    (sym (c.begin-desk.ensures ∙ c.requires.first))
     (terms_known c.args.input.now.dossier dated c.requires.dated))
 
 pub unproved-requires : goal.unproved-requires
 unproved-requires c =
     subst (λ (s : State). KeepsIn (length s.dossier.schools) c.in-Err.why)
-    (c.in_ok-state.ensures ∙ c.requires.first) c.in-Err.ensures.school
+    (c.begin-desk.ensures ∙ c.requires.first) c.in-Err.ensures.school
 
 pub proved_text-requires : goal.proved_text-requires
 proved_text-requires c =
-    evening_dated c.args.input.now.dossier (option_copied c.args.dated) c.in_ok-state.state c.check_days.new.state
-    (c.in_ok-state.ensures ∙ c.requires.first) c.in-Ok.ensures.dossier c.in-Ok.ensures.stamps c.requires.dated
+    let dated = option_copied c.args.dated in
+    let stays = ap (λ (t : State). t.dossier) c.in-Ok.ensures.evening
+    ∙ days_stay (option_copied c.terms_in.result) c.in_ok-grounds.grounds.orders 1 c.begin-desk.result c.args.days.now in
+    subst (CanBeDated dated) (sym c.now.ensures)
+    (evening_dated c.args.input.now.dossier dated c.begin-desk.result c.check_days.new.desk
+    (c.begin-desk.ensures ∙ c.requires.first) stays c.in-Ok.ensures.stamps c.requires.dated)
 
 pub returns-in-Ok : goal.returns-in-Ok
 returns-in-Ok c =
@@ -54,16 +59,16 @@ returns-in-Ok c =
     let orders = c.args.orders.now.orders in
     let days = c.args.days.now in
     let lent = ap (λ (g : Ground). g.orders) c.in_ok-grounds.ensures in
-    let begun : c.in_ok-state.state ≡ first_evening d = c.in_ok-state.ensures ∙ c.requires.first in
+    let begun : c.begin-desk.result ≡ first_evening d = c.begin-desk.ensures ∙ c.requires.first in
     let none : why_none (terms_in dated) orders 1 (first_evening d) days ≡ None =
     sym (why_alike days c.terms_in.ensures lent begun) ∙ c.in-Ok.ensures.found in
-    let evening : c.check_days.new.state ≡ evening_after (terms_in dated) orders 1 (first_evening d) days =
+    let evening : c.check_days.new.desk ≡ evening_after (terms_in dated) orders 1 (first_evening d) days =
     c.in-Ok.ensures.evening ∙ evening_alike days c.terms_in.ensures lent begun in
     proof_ends d _ (proved_text (length days)
     (evening_after (terms_in dated) orders 1 (first_evening d) days) dated) _ _ none (
       c.reply.ensures.0,
       c.reply.ensures.1 ∙ c.in_ok-proved_text-in-Ok.ensures
-          ∙ ap (λ (s : State). proved_text (length days) s dated) evening,
+          ∙ ap (λ (s : State). proved_text (length days) s dated) (c.now.ensures ∙ evening),
     )
 
 pub returns : goal.returns
@@ -73,7 +78,7 @@ returns c =
     let orders = c.args.orders.now.orders in
     let days = c.args.days.now in
     let lent = ap (λ (g : Ground). g.orders) c.in_ok-grounds.ensures in
-    let begun : c.in_ok-state.state ≡ first_evening d = c.in_ok-state.ensures ∙ c.requires.first in
+    let begun : c.begin-desk.result ≡ first_evening d = c.begin-desk.ensures ∙ c.requires.first in
     let stops = subst (StopsBy c.in-Err.why) (why_alike days c.terms_in.ensures lent begun) c.in-Err.ensures.found in
     IfOk-weaker c.unproved.result _ _ (λ reply is. stop_ends d c.in-Err.why
     (why_none (terms_in dated) orders 1 (first_evening d) days)

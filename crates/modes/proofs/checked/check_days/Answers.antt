@@ -2,10 +2,11 @@ use Rattle.std.proofs.Common.{◌∙◌, ◌+◌, ◌≤◌, ap, arith, drop, su
 use Rattle.std.specs.Option.{option_copied}
 use Rattle.admit_core.specs.DossierRows.{DossierRows}
 use Rattle.admit_core.specs.Lapses.{AreTermsFor}
+use Rattle.admit_core.specs.State.{State}
 use Rattle.certificate.proofs.Lowering.{drop_item}
 use Rattle.certificate.specs.ProvedDays.{evening_after}
 use Rattle.modes.specs.Checking.{why_none}
-use Rattle.modes.proofs.CheckedDay.{days_go_on, evening_goes_on}
+use Rattle.modes.proofs.CheckedDay.{days_go_on, evening_goes_on, evening_stays}
 use Rattle.modes.proofs.checked.check_days.Goals as goal
 
 pub check_next-requires-clause-same : goal.check_next-requires-clause-same
@@ -22,8 +23,8 @@ loop-place-preserved c =
     let orders = c.args.grounds.now.orders in
     let days = c.args.days.now in
     let i = c.loop-place.place in
-    let s = c.loop-place.state in
-    let next = c.check_next.new.state in
+    let s = c.loop-place.desk in
+    let next = c.check_next.new.desk in
     let chain = c.index-days-place.result in
     let rest = drop (i + 1) days in
     let inv = c.loop-place.invariant in
@@ -35,6 +36,12 @@ loop-place-preserved c =
           (inv.why ∙ ap (why_none terms orders (i + 1) s) here) after.found after.evening;
       evening = evening_goes_on terms orders (i + 1) s next chain rest _
           (inv.evening ∙ ap (evening_after terms orders (i + 1) s) here) after.evening;
-      dossier = after.dossier ∙ inv.dossier;
+      dossier = ap (λ (t : State). t.dossier) after.evening
+          ∙ evening_stays terms orders (i + 1) s chain ∙ inv.dossier;
       stamped = λ all. after.stamps 366 within (inv.stamped all);
     }
+
+pub check_next-requires-clause-day : goal.check_next-requires-clause-day
+check_next-requires-clause-day c =
+    let within = c.loop-place-test.true in
+    record { from_one = omega arith; at_most = omega (arith, c.requires.days) }

@@ -11,8 +11,8 @@ invariant-loop-place l =
     let orders = l.grounds.orders in
     let rest = drop l.place l.days in
     record {
-      why : why_none terms orders 1 l.fn.state l.days ≡ why_none terms orders (l.place + 1) l.state rest;
-      evening : evening_after terms orders 1 l.fn.state l.days ≡ evening_after terms orders (l.place + 1) l.state rest;
-      dossier : l.state.dossier ≡ l.fn.state.dossier;
-      stamped : All (IsStampedBy 366) l.fn.state.marks → All (IsStampedBy 366) l.state.marks;
+      why : why_none terms orders 1 l.fn.desk l.days ≡ why_none terms orders (l.place + 1) l.desk rest;
+      evening : evening_after terms orders 1 l.fn.desk l.days ≡ evening_after terms orders (l.place + 1) l.desk rest;
+      dossier : l.desk.dossier ≡ l.fn.desk.dossier;
+      stamped : All (IsStampedBy 366) l.fn.desk.marks → All (IsStampedBy 366) l.desk.marks;
     }

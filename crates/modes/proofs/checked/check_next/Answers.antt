@@ -3,8 +3,9 @@ use Rattle.std.specs.Option.{option_copied}
 use Rattle.std.proofs.lemmas.Result.{on_ok_weaker}
 use Rattle.admit_core.specs.Days.{ceilings_of}
 use Rattle.admit_core.specs.DossierRows.{DossierRows}
+use Rattle.admit_core.specs.State.{State}
 use Rattle.modes.specs.CheckedDays.{KeepsIn}
-use Rattle.modes.proofs.CheckedDay.{chain_tells, keeps_dossier, keeps_stamps, leads}
+use Rattle.modes.proofs.CheckedDay.{chain_tells, keeps_stamps, leads}
 use Rattle.modes.proofs.checked.check_next.Goals as goal
 
 pub check_morning-requires-clause-same : goal.check_morning-requires-clause-same
@@ -13,14 +14,15 @@ check_morning-requires-clause-same c = c.requires.same ∙ sym c.make_morning.en
 pub check_morning-requires-clause-ceilings : goal.check_morning-requires-clause-ceilings
 check_morning-requires-clause-ceilings c =
     ap length c.deref.ensures.value ∙ c.in_ok-ceilings.ensures.one_each
-    ∙ ap (λ (d : DossierRows). length d.schools) (c.dossier.ensures ∙ sym c.make_morning.ensures.dossier)
+    ∙ ap (λ (d : DossierRows). length d.schools) (c.dossier.ensures ∙ ap (λ (t : State). t.dossier) c.now.ensures ∙ sym c.make_morning.ensures.dossier)
 
 pub returns-clause-found : goal.returns-clause-found
 returns-clause-found c =
     let under = c.deref.ensures.value ∙ c.in_ok-ceilings.ensures.ceilings
-    ∙ ap (λ (d : DossierRows). ceilings_of d c.args.day) c.dossier.ensures in
-    chain_tells (option_copied c.args.terms) c.args.grounds.now.orders c.args.day c.args.state.now
-    c.make_morning.new.state
+    ∙ ap (λ (d : DossierRows). ceilings_of d c.args.day)
+    (c.dossier.ensures ∙ ap (λ (t : State). t.dossier) c.now.ensures) in
+    chain_tells (option_copied c.args.terms) c.args.grounds.now.orders c.args.day c.args.desk.now
+    c.make_morning.new.self
     c.deref.result.now c.args.chain.now
     c.in_ok-make_morning.ensures.fits c.in_ok-make_morning.ensures.morning under c.check_morning.result
     c.check_morning.ensures.found
@@ -34,31 +36,22 @@ returns-clause-school c =
 pub returns-clause-evening : goal.returns-clause-evening
 returns-clause-evening c =
     let under = c.deref.ensures.value ∙ c.in_ok-ceilings.ensures.ceilings
-    ∙ ap (λ (d : DossierRows). ceilings_of d c.args.day) c.dossier.ensures in
+    ∙ ap (λ (d : DossierRows). ceilings_of d c.args.day)
+    (c.dossier.ensures ∙ ap (λ (t : State). t.dossier) c.now.ensures) in
     on_ok_weaker c.check_morning.result
-    (leads (option_copied c.args.terms) c.args.grounds.now.orders c.args.day c.args.state.now c.make_morning.new.state
+    (leads (option_copied c.args.terms) c.args.grounds.now.orders c.args.day c.args.desk.now c.make_morning.new.self
     c.deref.result.now c.args.chain.now
-    c.in_ok-make_morning.ensures.fits c.in_ok-make_morning.ensures.morning under c.check_morning.new.state)
-    c.check_morning.ensures.valid
-
-pub returns-clause-dossier : goal.returns-clause-dossier
-returns-clause-dossier c =
-    let under = c.deref.ensures.value ∙ c.in_ok-ceilings.ensures.ceilings
-    ∙ ap (λ (d : DossierRows). ceilings_of d c.args.day) c.dossier.ensures in
-    on_ok_weaker c.check_morning.result
-    (keeps_dossier (option_copied c.args.terms) c.args.grounds.now.orders c.args.day c.args.state.now
-    c.make_morning.new.state
-    c.deref.result.now c.args.chain.now
-    c.in_ok-make_morning.ensures.fits c.in_ok-make_morning.ensures.morning under c.check_morning.new.state)
+    c.in_ok-make_morning.ensures.fits c.in_ok-make_morning.ensures.morning under c.check_morning.new.desk)
     c.check_morning.ensures.valid
 
 pub returns-clause-stamps : goal.returns-clause-stamps
 returns-clause-stamps c =
     let under = c.deref.ensures.value ∙ c.in_ok-ceilings.ensures.ceilings
-    ∙ ap (λ (d : DossierRows). ceilings_of d c.args.day) c.dossier.ensures in
+    ∙ ap (λ (d : DossierRows). ceilings_of d c.args.day)
+    (c.dossier.ensures ∙ ap (λ (t : State). t.dossier) c.now.ensures) in
     on_ok_weaker c.check_morning.result
-    (keeps_stamps (option_copied c.args.terms) c.args.grounds.now.orders c.args.day c.args.state.now
-    c.make_morning.new.state
+    (keeps_stamps (option_copied c.args.terms) c.args.grounds.now.orders c.args.day c.args.desk.now
+    c.make_morning.new.self
     c.deref.result.now c.args.chain.now
-    c.in_ok-make_morning.ensures.fits c.in_ok-make_morning.ensures.morning under c.check_morning.new.state)
+    c.in_ok-make_morning.ensures.fits c.in_ok-make_morning.ensures.morning under c.check_morning.new.desk)
     c.check_morning.ensures.valid
