@@ -35,16 +35,12 @@ abbrev pub asked_with : Slot → Option Request → Option Asked
 asked_with slot None = None
 asked_with slot (Some request) = after_mode slot request request.mode
 
--- the first word names the slot, and the others are those of a run of the program `parcours`
-abbrev pub asked_in : List (List ℕ) → Option Asked
-asked_in [] = None
-asked_in (word ∷ others) =
-    option_and_then (λ slot. asked_with slot (request_of others)) (slot_named word)
-
--- the same behind the program's name
+-- the first word after the program's name names the slot, and the others are those of a run of
+-- `parcours`
 abbrev pub asked_of : List (List ℕ) → Option Asked
 asked_of [] = None
-asked_of (name ∷ words) = asked_in words
+asked_of (word ∷ others) =
+    option_and_then (λ slot. asked_with slot (request_of others)) (slot_named word)
 
 -- a reading answers what is asked for, or that the words are bad; nothing is said of running out of
 -- memory

@@ -45,8 +45,9 @@ WritesOutcome words before after exit =
     → Writes before after (IsSlotOutcome words slots before.pickers after.pickers exit)
 
 -- a run with these words, from what stood around it before to what stands after it: it came to a
--- reply, and this was written
+-- reply, this was written, and where the shelf tells its bytes it is the outcome
 pub record IsSlotRun (words : List (List ℕ)) (before after : Around) (exit : Exit) : Type 0 where
   pub reply : Result Reply OutOfMemory
   pub replies : RepliesSlot words before.shelf after.shelf before.pickers after.pickers reply
   pub delivers : Delivers reply before.sink after.sink exit
+  pub outcome : WritesOutcome words before after exit

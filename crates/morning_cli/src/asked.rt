@@ -2,7 +2,7 @@
 ghost use Rattle.std.specs.Prelude.{◌≡◌, IfOk, IfSome, IsTrue, Some, map, string_bytes};
 ghost use Rattle.request.specs.Request.{IsRequest};
 ghost use Rattle.morning_cli.specs.Asked as Words;
-ghost use Rattle.morning_cli.specs.Asked.{IsAsked, ReadsAsked, asked_in, asked_of, asked_with, is_daily};
+ghost use Rattle.morning_cli.specs.Asked.{IsAsked, ReadsAsked, asked_of, asked_with, is_daily};
 
 use admit_core::Slot;
 use request::{Mode, Request, WordsRefusal, read_request};
@@ -42,10 +42,10 @@ fn asked_with(slot: Slot, request: Request) -> Result<Asked, WordsRefusal>
     }
 }
 
-/// What the words behind the program's name ask for: the first names the slot, and the others are
+/// What the words after the program's name ask for: the first names the slot, and the others are
 /// those of a run.
-fn read_words(alloc: Global, words: &[String]) -> Result<Asked, WordsRefusal>
-    ensures value { ReadsAsked result (asked_in (map string_bytes words.now)) }
+pub(crate) fn read_asked(alloc: Global, words: &[String]) -> Result<Asked, WordsRefusal>
+    ensures value { ReadsAsked result (asked_of (map string_bytes words.now)) }
     ensures known { IfOk result IsAsked }
 {
     let Some((word, others)) = words.split_first() else {
@@ -57,16 +57,5 @@ fn read_words(alloc: Global, words: &[String]) -> Result<Asked, WordsRefusal>
     match read_request(alloc, others) {
         Ok(request) => asked_with(slot, request),
         Err(refusal) => Err(refusal),
-    }
-}
-
-/// What the words ask for, the first of which is the program's name.
-pub(crate) fn read_asked(alloc: Global, words: &[String]) -> Result<Asked, WordsRefusal>
-    ensures value { ReadsAsked result (asked_of (map string_bytes words.now)) }
-    ensures known { IfOk result IsAsked }
-{
-    match words.split_first() {
-        Some((_, words)) => read_words(alloc, words),
-        None => Err(WordsRefusal::Bad),
     }
 }

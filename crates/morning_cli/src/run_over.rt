@@ -2,39 +2,15 @@
 ghost use Rattle.std.specs.Prelude.{◌≡◌, map, string_bytes};
 ghost use Rattle.intake.specs.Shelves.{on_shelf};
 ghost use Rattle.played.specs.Lent.{AreThere, standing};
-ghost use Rattle.replay_cli.specs.Delivering as Delivering;
-ghost use Rattle.replay_cli.specs.Delivering.{Delivers};
 ghost use Rattle.replay_cli.specs.Run.{at_sink};
-ghost use Rattle.morning_cli.specs.Run.{IsSlotRun, WritesOutcome};
+ghost use Rattle.morning_cli.specs.Run.{IsSlotRun};
 
 use crate::answer::answer;
-use admit_core::OutOfMemory;
-use modes::{Exit, Reply};
+use modes::Exit;
 use played::Pickers;
-use slot_io::{IoRefusal, Shelf, Sink, write_all};
+use replay_cli::deliver;
+use slot_io::{Shelf, Sink};
 use std::alloc::Global;
-
-/// How a run ends, by why its text was not written whole and by the exit of its reply.
-fn exit_after(refusal: Option<IoRefusal>, exit: Exit) -> Exit
-    ensures { result ≡ Delivering.exit_after refusal exit }
-{
-    match refusal {
-        None => exit,
-        Some(IoRefusal::Failed) => Exit::WriteFault,
-        Some(IoRefusal::OutOfMemory) => Exit::NoMemory,
-    }
-}
-
-/// Writes the text of a reply, and ends with the reply's exit where it was written whole.
-fn deliver<K: Sink>(reply: Result<Reply, OutOfMemory>, sink: &mut K) -> Exit
-    ensures { Delivers reply (at_sink K.held K.faults sink.old)
-        (at_sink K.held K.faults sink.new) result }
-{
-    let Ok(reply) = reply else {
-        return Exit::NoMemory;
-    };
-    exit_after(write_all(sink, &reply.text).err(), reply.exit)
-}
 
 /// Runs the program: reads the words and the slots, runs the days that are asked for, each with its
 /// picker, and then writes the slot of the morning after them, or what a run of `replay` ends with
@@ -49,18 +25,6 @@ pub fn run<S: Shelf, K: Sink>(
     requires { AreThere pickers.old }
     ensures there { AreThere pickers.new }
     ensures is_run { IsSlotRun (map string_bytes words.now)
-        (record {
-          shelf = on_shelf S.left S.taken S.faults shelf.old;
-          sink = at_sink K.held K.faults sink.old;
-          pickers = standing (λ p. told p) (λ p. choice p) pickers.old;
-        })
-        (record {
-          shelf = on_shelf S.left S.taken S.faults shelf.new;
-          sink = at_sink K.held K.faults sink.new;
-          pickers = standing (λ p. told p) (λ p. choice p) pickers.new;
-        })
-        result }
-    ensures outcome { WritesOutcome (map string_bytes words.now)
         (record {
           shelf = on_shelf S.left S.taken S.faults shelf.old;
           sink = at_sink K.held K.faults sink.old;

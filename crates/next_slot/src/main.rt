@@ -6,16 +6,16 @@
 //! `next_slot state replay --days 3 --picker last`
 #![tactic(auto)]
 
-mod start;
+mod program;
 
-use crate::start::started;
+use crate::program::NextSlot;
+use replay_cli::{Ended, started};
 use slot_io::{DirShelf, StdSink};
 use std::env;
-use std::process::ExitCode;
 
 /// Runs the program, with what it was given, over the real devices.
-fn main(rt: HostRuntime) -> ExitCode {
-    started(
+fn main(rt: HostRuntime) -> Ended {
+    started::<NextSlot, _, _>(
         rt.alloc(),
         env::args(&rt),
         &mut DirShelf::new(rt),
