@@ -1,5 +1,5 @@
 -- Lines of words.
-use Rattle.std.specs.Prelude.{◌≡◌, ℕ, List, [], ◌∷◌, ◌++◌, Option, Some}
+use Rattle.std.specs.Prelude.{ℕ, List, [], ◌∷◌, ◌++◌}
 
 -- the further words of a line, each after the byte that parts them, and the line feed
 abbrev pub further : ℕ → List (List ℕ) → List ℕ
@@ -18,7 +18,3 @@ line words = parted_by 32 words
 -- a row of a slot: fields, parted by commas
 abbrev pub row : List (List ℕ) → List ℕ
 row fields = parted_by 44 fields
-
--- each value is printed as its word
-abbrev pub IsPrintedAs : {X : Type 0} → (X → Option (List ℕ)) → (X → List ℕ) → Type 0
-IsPrintedAs {X} printed word = (x : X) → printed x ≡ Some (word x)

@@ -19,6 +19,7 @@ fn push_status(
         ++ further 32 (word.now ∷ status_word status ∷ stamp_words stamp)) }
 {
     let Stamp { day, pass } = stamp;
+    let status = status.word();
     writeln!(text, " {word} {status} day {day} pass {pass}")?;
     Ok(())
 }

@@ -9,6 +9,8 @@ use std::alloc::Global;
 pub fn refusal_text(alloc: Global, refusal: Refusal) -> Result<Vec<u8>, OutOfMemory>
     ensures { IfOk result (λ text. text.items ≡ refusal_line refusal) }
 {
-    let text = format!(in alloc; "{refusal}\n")?;
+    let mut text = String::new(alloc);
+    refusal.push_onto(&mut text)?;
+    text.push_str("\n")?;
     Ok(text.into_bytes())
 }

@@ -1,20 +1,21 @@
 //! Words of a line.
-ghost use Rattle.std.specs.Prelude.{◌≡◌, ◌++◌, List, ℕ, OnOk, map, string_bytes};
+ghost use Rattle.std.specs.Prelude.{◌≡◌, ◌++◌, OnOk, map, string_bytes};
 ghost use Rattle.std.specs.Fmt.{decimal};
-ghost use Rattle.report.specs.Words.{IsPrintedAs, further};
+ghost use Rattle.admit_core.specs.Lines.{bound_letter};
+ghost use Rattle.report.specs.Words.{further};
 
 use crate::number::push_after;
+use admit_core::Bound;
 use std::alloc::AllocError;
-use std::fmt::Display;
 
-/// Adds each word after a space, and ends the line.
-pub(crate) fn push_words<D: Display>(text: &mut String, words: &[D]) -> Result<(), AllocError>
-    ensures { (word : D → List ℕ) → IsPrintedAs D.output word
-        → OnOk result (string_bytes text.new ≡ string_bytes text.old
-        ++ further 32 (map word words.now)) }
+/// Adds the letter of each bound after a space, and ends the line.
+pub(crate) fn push_letters(text: &mut String, bounds: &[Bound]) -> Result<(), AllocError>
+    ensures { OnOk result (string_bytes text.new
+        ≡ string_bytes text.old ++ further 32 (map bound_letter bounds.now)) }
 {
-    for word in words {
-        write!(text, " {word}")?;
+    for bound in bounds {
+        text.push_str(" ")?;
+        text.push_str(bound.letter())?;
     }
     text.push_str("\n")?;
     Ok(())
