@@ -23,7 +23,7 @@ use Rattle.admit_core.specs.AutoAnswer.{auto_all}
 use Rattle.admit_core.specs.Days.{Days, after_lapse, answers_of, ceilings_of, closing, morning, offered}
 use Rattle.admit_core.specs.DossierRows.{DossierRows}
 use Rattle.admit_core.specs.Lapses.{AreTermsFor, lapse}
-use Rattle.admit_core.specs.Proposals.{ahead, before, has_open_wish, is_barred, is_behind_bar, is_open, is_open_in}
+use Rattle.admit_core.specs.Proposals.{ahead, has_open_wish, is_barred, is_behind_bar, is_open, is_open_in}
 use Rattle.admit_core.specs.Proposals.{order_of, wants_seat}
 use Rattle.admit_core.specs.State.{State, entries, has_school, holds_bed, holds_seat, is_live, is_waiting}
 use Rattle.admit_core.specs.State.{is_waiting_status}

@@ -1,19 +1,17 @@
 -- After automatic days every stable matching is no worse for any candidate.
-use Rattle.std.proofs.Common.{ℕ, ◌+◌, ◌<◌, ◌≤◌, ◌≡◌, ◌⊎◌, Bool, true, false, not, ◌&&◌, ◌||◌, filter, List, [], ◌∷◌}
-use Rattle.std.proofs.Common.{◌++◌, length, map, get_or, Option, Some, None, inl, inr, refl, sym, ◌∙◌, ap, subst, arith}
+use Rattle.std.proofs.Common.{ℕ, ◌+◌, ◌<◌, ◌≤◌, ◌≡◌, ◌⊎◌, true, false, not, ◌&&◌, ◌||◌, filter, List, [], ◌∷◌, ◌++◌}
+use Rattle.std.proofs.Common.{length, map, get_or, Option, Some, None, inl, inr, refl, sym, ◌∙◌, ap, subst, arith}
 use Rattle.std.proofs.Common.{nat_eq, nat_lt, zip}
 use Rattle.std.specs.Prelude.{◌==◌, if◌then◌else◌, nat_le}
 use Rattle.std.specs.List.{AllByRecursion, before_first, list_any}
-use Rattle.std.proofs.lemmas.Bool.{and_from, and_parts, and_cases, both_ways, cases_Bool, cases_order, eq-eqb, eqb-true}
-use Rattle.std.proofs.lemmas.Bool.{false≢true, false_from_ne_true, leb-true, le-leb, lt-ltb, ltb-false, ltb-true}
-use Rattle.std.proofs.lemmas.Bool.{not_from_false, or_cases, or_left, or_right, or_parts}
+use Rattle.std.proofs.lemmas.Bool.{and_from, and_parts, both_ways, cases_Bool, eq-eqb, eqb-true, false≢true, leb-true}
+use Rattle.std.proofs.lemmas.Bool.{le-leb, lt-ltb, ltb-true, not_from_false, or_cases, or_left, or_right}
 use Rattle.std.proofs.lemmas.Cmp.{nat_eq_equiv}
 use Rattle.std.proofs.lemmas.List.{get_or_default, length-append, length-map}
 use Rattle.std.proofs.lemmas.List.Elements.{All-from_recursion, All-map, All-same, recursion_from_All}
 use Rattle.std.proofs.lemmas.List.Folds.{Any-from_list_any, list_any-append, list_any_at}
 use Rattle.std.proofs.lemmas.List.Sums.{length-filter}
 use Rattle.std.proofs.lemmas.Map.Made.{length-le_from_is_member}
-use Rattle.std.proofs.lemmas.Slice.Zip.{get_or-zip}
 use Rattle.admit_core.specs.declared.dossier.Answer.{Answer}
 use Rattle.admit_core.specs.declared.dossier.Programme.{Programme}
 use Rattle.admit_core.specs.declared.dossier.Wish.{Wish}
@@ -25,8 +23,6 @@ use Rattle.admit_core.specs.declared.state.Stamp.{Stamp}
 use Rattle.admit_core.specs.declared.state.Status.{Status}
 use Rattle.admit_core.specs.declared.state.Status.TheVariants.{Offered}
 use Rattle.admit_core.specs.AutoAnswer.{auto_all, auto_mark, best_live}
-use Rattle.admit_core.specs.Blocking.{behind, envied, has_better, has_envy, is_blocking, is_missed, lacks_school}
-use Rattle.admit_core.specs.Blocking.{wants_more}
 use Rattle.admit_core.specs.CallOrder.{AreCallOrders}
 use Rattle.admit_core.specs.Days.{Days, answers_of, first_evening, first_mark, offered}
 use Rattle.admit_core.specs.DossierRows.{DossierRows, candidates_of, group_of, limit_of, ranking_of, seats_of}
@@ -43,130 +39,21 @@ use Rattle.admit_core.proofs.Plain.{any-filter, waits_open}
 use Rattle.admit_core.proofs.Remaining.{least_passes}
 use Rattle.admit_core.proofs.FilledSeats.{auto_live}
 use Rattle.admit_core.proofs.Statuses.{changed_status, status_of_auto}
-use Rattle.admit_core.proofs.Tests.{any_implied}
 use Rattle.day_state.proofs.Along.{length-with_marks}
 use Rattle.round.proofs.Members.{among_filtered, distinct_once}
-use Rattle.campaign_laws.specs.AutomaticDay.{IsAllAutomatic, IsStable, NotBothLive, StableMatchingsAreNoWorse}
-use Rattle.campaign_laws.specs.AutomaticDay.{has_as_good}
+use Rattle.campaign_laws.specs.AutomaticDay.{IsAllAutomatic, IsStable, StableMatchingsAreNoWorse, has_as_good}
 use Rattle.campaign_laws.specs.Moments.{moments, openings}
 use Rattle.campaign_laws.proofs.GoneStays.{live_waits_not}
 use Rattle.campaign_laws.proofs.Kept.{least_within, ranked_live}
 use Rattle.campaign_laws.proofs.OneMark.{proposed_open, waiting_not_gone}
 use Rattle.campaign_laws.proofs.Walks.{Nothing, Steps, all_of, both, campaign_steps, throughout}
-use Rattle.campaign_laws.proofs.Matchings.{AllMatched, IsMatched, StandsAt, around, as_good_as, better_by, false_ne}
-use Rattle.campaign_laws.proofs.Matchings.{gone_by_answer, gone_status, mark_of, no_limit, no_school, nobody_last}
-use Rattle.campaign_laws.proofs.Matchings.{none_placed, one_wish, prefers, ranked_called, stands}
+use Rattle.campaign_laws.proofs.Matchings.{AllMatched, IsMatched, around, as_good_as, better_by, false_ne}
+use Rattle.campaign_laws.proofs.Matchings.{gone_by_answer, gone_status, mark_of, no_limit, no_school, one_wish, prefers}
+use Rattle.campaign_laws.proofs.Matchings.{ranked_called, stands}
+use Rattle.campaign_laws.proofs.StableThere.{IsRefusedThere, only_live, refused_there}
 
 module _ (orders : List CallOrder) (d : DossierRows) (m : State) (valid : IsValid d)
     (called : AreCallOrders d.groups orders) (auto : IsAllAutomatic d) (stable : IsStable orders d m) where
-  -- the mark of the matching at a place
-  mark_there : (k : ℕ) (w : Wish) → StandsAt d k w
-      → (x : Mark) × (k < length (entries m)) × (get_or (entries m) k (w, x) ≡ (w, x))
-  mark_there k w at = mark_of d m stable.matching.dossier stable.matching.marked k w at
-
-  -- in the matching a candidate has no two live wishes
-  only_live : (i j : ℕ) (e f : Wish × Mark) → i < length (entries m) → j < length (entries m)
-      → get_or (entries m) i e ≡ e → get_or (entries m) j f ≡ f
-      → e.0.candidate ≡ f.0.candidate → is_live e.1 ≡ true → is_live f.1 ≡ true → i ≡ j
-  only_live i j e f i_lt j_lt at_i at_j same e_live f_live =
-      elim (cases_order i j) [
-        | inl is ↦ is
-        | inr other ↦ elim other [
-          | inl below ↦
-              let pair = stable.matching.one_each i j e below j_lt in
-              let second : get_or (entries m) j e ≡ f = get_or_default (entries m) j e f j_lt ∙ at_j in
-              absurd (both_ways (is_live f.1)
-              ((subst (λ (y : Wish × Mark). NotBothLive e y) second
-              (subst (λ (y : Wish × Mark). NotBothLive y (get_or (entries m) j e)) at_i pair)) same e_live) f_live)
-          | inr above ↦
-              let pair = stable.matching.one_each j i f above i_lt in
-              let second : get_or (entries m) i f ≡ e = get_or_default (entries m) i f e i_lt ∙ at_i in
-              absurd (both_ways (is_live e.1)
-              ((subst (λ (y : Wish × Mark). NotBothLive f y) second
-              (subst (λ (y : Wish × Mark). NotBothLive y (get_or (entries m) i f)) at_j pair)) (sym same) f_live)
-              e_live)
-        ]
-      ]
-
-  -- a wish whose candidate the matching gives nothing as good does not block it: its programme is
-  -- full, and nobody behind them is live there
-  record IsRefusedThere (w : Wish) : Type 0 where
-    not_live : holds_seat m w.candidate w.programme ≡ false
-    full : seats_of d w.programme ≤ length (seat_holders m w.programme)
-    nobody_behind : (x : ℕ) → is_among x (behind m orders w) ≡ true → holds_seat m x w.programme ≡ true → ⊥
-
-  refused_there : (k : ℕ) (w : Wish) → StandsAt d k w → has_as_good m w.candidate w.preference ≡ false
-      → IsRefusedThere w
-  refused_there k w at nothing =
-      let c = w.candidate in
-      let p = w.programme in
-      let (x, lt, here) = mark_there k w at in
-      let as_good : Wish × Mark → Bool = λ e. is_live e.1 && nat_eq e.0.candidate c && nat_le e.0.preference
-      w.preference in
-      let not_live : is_live x ≡ false = false_from_ne_true (is_live x) (λ live.
-      let passes : as_good (w, x) ≡ true = and_from (is_live x && nat_eq c c) (nat_le w.preference w.preference)
-      (and_from (is_live x) (nat_eq c c) live (eq-eqb c c refl)) (le-leb w.preference w.preference (omega arith)) in
-      both_ways (has_as_good m c w.preference) nothing
-      (list_any_at as_good (entries m) k (w, x) lt (rw here passes))) in
-      let x_at : x ≡ get_or m.marks k x =
-      sym (ap (λ (e : Wish × Mark). e.1)
-      (sym (get_or-zip m.dossier.wishes m.marks k (w, x) (rw stable.matching.dossier at.within)
-      (rw stable.matching.marked at.within)) ∙ here)) in
-      let given : (is_live x || is_missed x.status) ≡ true = subst
-      (λ (y : Mark). (is_live y || is_missed y.status) ≡ true) (sym x_at)
-      (stable.matching.given_up k x (rw stable.matching.marked at.within)) in
-      let missed : is_missed x.status ≡ true = rw not_live at given in
-      let no_seat : holds_seat m c p ≡ false = false_from_ne_true (holds_seat m c p) (λ held.
-      let (j, e, j_lt, e_at, lives) =
-      Any-from_list_any (λ (e : Wish × Mark). is_live e.1 && nat_eq e.0.candidate c && nat_eq e.0.programme p)
-      (entries m) held in
-      let outer = and_parts (is_live e.1 && nat_eq e.0.candidate c) (nat_eq e.0.programme p) lives in
-      let inner = and_parts (is_live e.1) (nat_eq e.0.candidate c) outer.0 in
-      let same = one_wish d valid auto j k e.0 w
-      (stands m d stable.matching.dossier j e j_lt e_at) at (eqb-true e.0.candidate c inner.1)
-      (eqb-true e.0.programme p outer.1) in
-      let is : e ≡ (w, x) = sym e_at ∙ ap (λ i. get_or (entries m) i e) same
-      ∙ get_or_default (entries m) k e (w, x) lt ∙ here in
-      both_ways (is_live x) not_live (ap (λ (y : Wish × Mark). is_live y.1) (sym is) ∙ inner.0)) in
-      let none_better : has_better m w ≡ false = false_from_ne_true (has_better m w) (λ has.
-      both_ways (has_as_good m c w.preference) nothing
-      (any_implied (λ (e : Wish × Mark). is_live e.1 && nat_eq e.0.candidate c && nat_lt e.0.preference
-      w.preference) as_good
-      (λ e t.
-      let outer = and_parts (is_live e.1 && nat_eq e.0.candidate c) (nat_lt e.0.preference w.preference) t in
-      let lt_there = ltb-true e.0.preference w.preference outer.1 in
-      and_from (is_live e.1 && nat_eq e.0.candidate c) (nat_le e.0.preference w.preference) outer.0
-      (le-leb e.0.preference w.preference (omega (arith, lt_there)))) (entries m) has)) in
-      let lacks : lacks_school w.school ≡ true = rw (no_school d valid auto k w at) refl in
-      let ranks : nat_lt 0 w.preference ≡ true = lt-ltb 0 w.preference (prefers d valid auto k w at) in
-      let wants : wants_more m w x ≡ true =
-      and_from (lacks_school w.school && nat_lt 0 w.preference && is_missed x.status && not (holds_seat m c p))
-      (not (has_better m w))
-      (and_from (lacks_school w.school && nat_lt 0 w.preference && is_missed x.status) (not (holds_seat m c p))
-      (and_from (lacks_school w.school && nat_lt 0 w.preference) (is_missed x.status)
-      (and_from (lacks_school w.school) (nat_lt 0 w.preference) lacks ranks) missed)
-      (not_from_false (holds_seat m c p) no_seat)) (not_from_false (has_better m w) none_better) in
-      let blocks_not : is_blocking m orders w x ≡ false = ap (λ (e : Wish × Mark). is_blocking m orders e.0 e.1)
-      (sym here)
-      ∙ none_placed (λ (e : Wish × Mark). is_blocking m orders e.0 e.1) 0 (entries m) stable.stable k (w, x) lt in
-      let neither : (nat_lt 0 (seats_left m p) || has_envy m orders w) ≡ false =
-      elim (and_cases (wants_more m w x) (nat_lt 0 (seats_left m p) || has_envy m orders w) blocks_not) [
-        | inl no_wish ↦ absurd (both_ways (wants_more m w x) no_wish wants)
-        | inr none ↦ none
-      ] in
-      let parts = or_parts (nat_lt 0 (seats_left m p)) (has_envy m orders w) neither in
-      let full = ltb-false 0 (seats_left m p) parts.0 in
-      let seats : seats_of m.dossier p ≡ seats_of d p = ap (λ (y : DossierRows). seats_of y p)
-      stable.matching.dossier in
-      let none_envied : envied m orders w ≡ [] = nobody_last (envied m orders w) parts.1 in
-      record {
-        not_live = no_seat;
-        full = omega (arith, full, seats);
-        nobody_behind =
-            λ y among held. false≢true
-            (sym (ap (is_among y) none_envied) ∙ among_filter (λ z. holds_seat m z p) y (behind m orders w) among held);
-      }
-
   -- in a state of the dossier in which all are matched
   module _ (s : State) (of : s.dossier ≡ d) (long : length s.marks ≡ length d.wishes) (matched : AllMatched m s) where
     matched_at : (k : ℕ) (e : Wish × Mark) → k < length (entries s) → get_or (entries s) k e ≡ e → IsMatched m e.0 e.1
@@ -216,8 +103,8 @@ module _ (orders : List CallOrder) (d : DossierRows) (m : State) (valid : IsVali
                 let outer_f = and_parts (is_live f.1 && nat_eq f.0.candidate v.candidate)
                 (nat_lt f.0.preference v.preference) is_better in
                 let inner_f = and_parts (is_live f.1) (nat_eq f.0.candidate v.candidate) outer_f.0 in
-                let same = only_live i j f e i_lt j_lt f_at e_at (eqb-true f.0.candidate v.candidate inner_f.1)
-                inner_f.0 inner.0 in
+                let same = only_live orders d m valid called auto stable i j f e i_lt j_lt f_at e_at
+                (eqb-true f.0.candidate v.candidate inner_f.1) inner_f.0 inner.0 in
                 let one : f ≡ e = sym f_at ∙ ap (λ z. get_or (entries m) z f) same
                 ∙ get_or_default (entries m) j f e j_lt ∙ e_at in
                 let less = ltb-true f.0.preference v.preference outer_f.1 in
@@ -227,7 +114,7 @@ module _ (orders : List CallOrder) (d : DossierRows) (m : State) (valid : IsVali
         ]
 
     -- whoever is live in the programme of a refused wish stands before its candidate
-    stands_before : (w : Wish) (why : IsRefusedThere w) (x : ℕ) → holds_seat m x w.programme ≡ true
+    stands_before : (w : Wish) (why : IsRefusedThere orders d m w) (x : ℕ) → holds_seat m x w.programme ≡ true
         → is_among x (before s orders w) ≡ true
     stands_before w why x held =
         let p = w.programme in
@@ -264,7 +151,7 @@ module _ (orders : List CallOrder) (d : DossierRows) (m : State) (valid : IsVali
         ]
 
     -- so the seats are taken up by those who are live and those who stand ahead
-    no_seat_left : (bars : List ℕ) (w : Wish) → IsRefusedThere w
+    no_seat_left : (bars : List ℕ) (w : Wish) → IsRefusedThere orders d m w
         → seats_of d w.programme ≤ length (seat_holders s w.programme) + ahead s orders bars w
     no_seat_left bars w why =
         let p = w.programme in
@@ -300,7 +187,7 @@ module _ (orders : List CallOrder) (d : DossierRows) (m : State) (valid : IsVali
         elim (cases_Bool (has_as_good m c w.preference)) [
           | inl good ↦ good
           | inr nothing ↦
-              let why = refused_there k w at nothing in
+              let why = refused_there orders d m valid called auto stable k w at nothing in
               let taken = no_seat_left bars w why in
               let waits = (proposed_open s orders bars w x offers).0 in
               let seat = (and_parts (is_open s bars w x)

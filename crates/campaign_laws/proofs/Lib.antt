@@ -4,7 +4,7 @@
 -- Laws of marks: GoneStays, Holding, WaitingPlace, Kept.
 -- Laws of turns, seats and beds: PassedOver, Beds, Room, Limits.
 -- Days on which nobody answers: QuietDays.
--- Automatic days: Matchings, StableEvening, AutomaticDay.
+-- Automatic days: Matchings, StableEvening, StableThere, AutomaticDay.
 -- By computation: WorkedCampaign is the campaign; MetHere and CrossedHere have the witnesses,
 -- Shown and ShownAnswers what is not promised.
 pub mod AutomaticDay
@@ -23,6 +23,7 @@ pub mod Room
 pub mod Shown
 pub mod ShownAnswers
 pub mod StableEvening
+pub mod StableThere
 pub mod WaitingPlace
 pub mod Walks
 pub mod WorkedCampaign

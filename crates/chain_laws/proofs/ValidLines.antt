@@ -159,7 +159,8 @@ module _ (s : State) (orders : List CallOrder) (ceilings : List ℕ)
         (
           valid_line bars row f are.0 are.1,
           subst
-              (λ (bs : List ℕ). AreFallLines s orders ceilings bs (falls_from s.dossier (row + 1) fs)) (sym low) later.0,
+              (λ (bs : List ℕ). AreFallLines s orders ceilings bs (falls_from s.dossier (row + 1) fs))
+              (sym low) later.0,
         ),
         ap (λ (bs : List ℕ). bars_by s bs (falls_from s.dossier (row + 1) fs)) low ∙ later.1,
       )

@@ -131,7 +131,7 @@ module _ (s : State) (orders : List CallOrder) (bars : List ℕ) (stamp : Stamp)
       let few : length (filter (wants_seat s bars p) front) < max (seats_left s p) (limit_of s.dossier p) =
       elim (or_cases (holds_seat s c p || nat_le (length front + 1) (limit_of s.dossier p))
       (nat_lt (count_by (wants_seat s bars p) front) (seats_left s p)) seat) [
-        | inl whatever ↦ elim (or_cases (holds_seat s c p) (nat_le (length front + 1) (limit_of s.dossier p)) whatever) [
+        | inl sure ↦ elim (or_cases (holds_seat s c p) (nat_le (length front + 1) (limit_of s.dossier p)) sure) [
           | inl held ↦ absurd (false≢true (sym before ∙ held))
           | inr called ↦ omega (
             arith,
