@@ -335,6 +335,9 @@ def check_changed_sources(tally: Tally, script: Path) -> None:
     (script.parent / "tools/prove.py").write_text("raise SystemExit(1)\n")
     ended = call(script)
     tally.check("a crate that is not proved", ended.status == 125 and "not proved" in ended.complaint, ended)
+    (script.parent / "tools/prove.py").write_text("import os\nos.kill(os.getpid(), 15)\n")
+    ended = call(script)
+    tally.check("a build that is stopped", ended.status == 125 and "was stopped" in ended.complaint, ended)
     with scratch() as tools:
         for tool in ("sh", "mkdir", "rm", *SMALL_TOOLS):
             (tools / tool).symlink_to(str(shutil.which(tool)))
