@@ -92,8 +92,8 @@ pub fn check_day_along<'d>(
 }
 
 impl CheckDesk<'_> {
-    /// Tests the chain of a day from its morning on, in which the desk is, and leaves the evening of
-    /// the day. Where the check stops, the desk may be in the midst of the day.
+    /// Tests the chain of a day from its morning on, in which the desk is, and leaves the evening
+    /// of the day. Where the check stops, the desk may be in the midst of the day.
     pub fn check_day(
         &mut self,
         alloc: Global,

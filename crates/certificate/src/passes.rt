@@ -59,7 +59,8 @@ impl CheckDesk<'_> {
     ) -> Result<Freed, CheckStop>
         requires same { grounds.now.dossier ≡ self.old.dossier }
         requires ceilings { length ceilings.now ≡ length self.old.dossier.schools }
-        ensures found { Finds result (pass_fault self.old grounds.now.orders ceilings.now pass.now) }
+        ensures found { Finds result
+            (pass_fault self.old grounds.now.orders ceilings.now pass.now) }
         ensures state { OnOk result
             (self.new ≡ closing_by self.old grounds.now.orders ceilings.now stamp pass.now) }
         ensures freed { IfOk result (λ freed. freed ≡ freed_after self.old grounds.now.orders

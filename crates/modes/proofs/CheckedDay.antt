@@ -1,5 +1,5 @@
 -- A day whose chain is tested.
-use Rattle.std.proofs.Common.{◌≡◌, ◌∙◌, ℕ, ◌+◌, List, [], ◌∷◌, Option, Some, None, Result, IfSome, All, ap}
+use Rattle.std.proofs.Common.{◌≡◌, ◌∙◌, ℕ, ◌+◌, List, [], ◌∷◌, Option, None, Result, IfSome, All, ap}
 use Rattle.std.proofs.Common.{length, map, refl, subst, sym}
 use Rattle.std.specs.Prelude.{option_map}
 use Rattle.std.specs.List.{range_with_len}
@@ -23,30 +23,18 @@ use Rattle.certificate.specs.Checked.{state_after}
 use Rattle.certificate.specs.ProvedDays.{AreProvedDays, evening_after, evening_by}
 use Rattle.desk_day.proofs.SameDossier.{morning_dossier}
 use Rattle.desk_day.proofs.Stamps.{stamps_kept}
-use Rattle.desk_day.specs.AnswersOn.{IsUnfitOf, unfit_refusal}
+use Rattle.desk_day.specs.AnswersOn.{unfit_refusal}
 use Rattle.desk_day.specs.RunDay.{IsStampedBy, KeepsStamps}
-use Rattle.desk_day.specs.declared.refusal.DayRefusal.{DayRefusal}
-use Rattle.desk_day.specs.declared.refusal.DayRefusal.TheVariants as refusals
 use Rattle.intake.specs.Dated.{AreDatedFor}
 use Rattle.intake.specs.declared.terms.DatedTerms.{DatedTerms}
 use Rattle.modes.proofs.Writable.{finals_dated, first_known}
-use Rattle.modes.specs.CheckedDays.{StopsBy, TellsWhy, why_of}
+use Rattle.modes.specs.CheckedDays.{StopsBy, TellsWhy}
 use Rattle.modes.specs.Checking.{EndsProof, IsReply, IsUnproved, why_none, why_not}
 use Rattle.modes.specs.Replay.{CanBeDated, CanBeWritten}
 use Rattle.modes.specs.declared.exit.Exit.{Exit}
 use Rattle.modes.specs.declared.exit.Exit.TheVariants as exits
 use Rattle.modes.specs.declared.unproved.Unproved.{Unproved}
 use Rattle.modes.specs.declared.unproved.Unproved.TheVariants.{Unfit, Rejected, OutOfMemory}
-
--- an answer that does not fit
-pub unfit_stops : (d : DossierRows) (day : ℕ) (unfit : Option (ℕ × Status)) (fault : Option Unproved)
-    (refusal : DayRefusal) (why : Unproved) → why ≡ why_of refusal → IsUnfitOf d day unfit refusal
-    → StopsBy why (option_or (option_map (λ x. Unfit (unfit_refusal d day x)) unfit) fault)
-unfit_stops d day None fault (refusals.Unfit refusal) why is some = absurd some
-unfit_stops d day (Some x) fault (refusals.Unfit refusal) why is some =
-    subst (λ (y : Unproved). StopsBy y (Some (Unfit (unfit_refusal d day x)))) (sym (is ∙ ap Unfit some)) refl
-unfit_stops d day unfit fault refusals.OutOfMemory why is some = subst
-    (λ (y : Unproved). StopsBy y (option_or (option_map (λ x. Unfit (unfit_refusal d day x)) unfit) fault)) (sym is) tt
 
 -- a day keeps the dossier, and so do many
 passes_stay : (orders : List CallOrder) (ceilings : List ℕ) (day k : ℕ) (s : State) (passes : List PassChain)

@@ -47,7 +47,8 @@ pub proved_text-requires : goal.proved_text-requires
 proved_text-requires c =
     let dated = option_copied c.args.dated in
     let stays = ap (λ (t : State). t.dossier) c.in-Ok.ensures.evening
-    ∙ days_stay (option_copied c.terms_in.result) c.in_ok-grounds.grounds.orders 1 c.begin-desk.result c.args.days.now in
+    ∙ days_stay (option_copied c.terms_in.result) c.in_ok-grounds.grounds.orders 1 c.begin-desk.result
+    c.args.days.now in
     subst (CanBeDated dated) (sym c.now.ensures)
     (evening_dated c.args.input.now.dossier dated c.begin-desk.result c.check_days.new.desk
     (c.begin-desk.ensures ∙ c.requires.first) stays c.in-Ok.ensures.stamps c.requires.dated)

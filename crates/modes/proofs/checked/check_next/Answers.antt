@@ -14,7 +14,8 @@ check_morning-requires-clause-same c = c.requires.same ∙ sym c.make_morning.en
 pub check_morning-requires-clause-ceilings : goal.check_morning-requires-clause-ceilings
 check_morning-requires-clause-ceilings c =
     ap length c.deref.ensures.value ∙ c.in_ok-ceilings.ensures.one_each
-    ∙ ap (λ (d : DossierRows). length d.schools) (c.dossier.ensures ∙ ap (λ (t : State). t.dossier) c.now.ensures ∙ sym c.make_morning.ensures.dossier)
+    ∙ ap (λ (d : DossierRows). length d.schools)
+    (c.dossier.ensures ∙ ap (λ (t : State). t.dossier) c.now.ensures ∙ sym c.make_morning.ensures.dossier)
 
 pub returns-clause-found : goal.returns-clause-found
 returns-clause-found c =
