@@ -3,7 +3,6 @@
 use admit_core::{InFault, OutOfMemory, Refusal, Slot};
 use request::{Name, WordsRefusal};
 use std::alloc::AllocError;
-use std::fmt;
 
 /// Why a run stops before its days.
 #[derive(Clone, Copy)]
@@ -83,19 +82,34 @@ impl From<Missing> for Stop {
     }
 }
 
-/// The line that is written; running out of memory has none.
-impl fmt::Display for Stop {
-    ghost use Rattle.std.specs.Prelude.{Some};
+impl Stop {
+    ghost use Rattle.std.specs.Prelude.{◌≡◌, ◌++◌, OnErr, OnOk, string_bytes};
+    ghost use Rattle.admit_core.specs.Texts.{KeepsRoom, LacksRoom};
     ghost use Rattle.intake.specs.Stops.{stop_text};
 
-    ghost output = { λ stop. Some (stop_text stop) };
-
-    fn fmt<W: fmt::Write>(&self, f: &mut fmt::Formatter<W>) -> fmt::Result {
+    /// Adds the line that is written; running out of memory has none.
+    pub fn push_onto(&self, text: &mut String) -> Result<(), AllocError>
+        ensures all { OnOk result
+            (string_bytes text.new ≡ string_bytes text.old ++ stop_text self.now) }
+        ensures full { OnErr result (LacksRoom text.old (stop_text self.now)) }
+        ensures room { KeepsRoom text.old text.new }
+    {
         match self {
-            Stop::BadWords => writeln!(f, "bad words"),
-            Stop::Refused(refusal) => writeln!(f, "{refusal}"),
-            Stop::ReadFault(slot) => writeln!(f, "read fault {slot}"),
-            Stop::NoSuch(name) => writeln!(f, "no such {name}"),
+            Stop::BadWords => text.push_str("bad words\n"),
+            Stop::Refused(refusal) => {
+                refusal.push_onto(text)?;
+                text.push_str("\n")
+            }
+            Stop::ReadFault(slot) => {
+                text.push_str("read fault ")?;
+                text.push_str(slot.name())?;
+                text.push_str("\n")
+            }
+            Stop::NoSuch(name) => {
+                text.push_str("no such ")?;
+                name.push_onto(text)?;
+                text.push_str("\n")
+            }
             Stop::OutOfMemory => Ok(()),
         }
     }

@@ -19,7 +19,8 @@ pub fn stopped(alloc: Global, stop: Stop) -> Result<Reply, OutOfMemory>
     ensures { IfOk result (λ reply. IsStoppedBy stop reply.exit reply.text.items) }
 {
     let exit = exit_of(stop)?;
-    let line = format!(in alloc; "{stop}")?;
+    let mut line = String::new(alloc);
+    stop.push_onto(&mut line)?;
     Ok(Reply {
         exit,
         text: line.into_bytes(),

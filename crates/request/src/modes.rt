@@ -1,11 +1,12 @@
 //! The modes, and short tables by mode: its word, the slots that it reads, whether it runs days and
 //! picks after them, and what it names in the dossier.
-ghost use Rattle.std.specs.Prelude.{◌≡◌, ◌≢◌, ◌≤◌, [], AllPairs, IfSome};
+ghost use Rattle.std.specs.Prelude.{◌≡◌, ◌≢◌, ◌≤◌, ◌++◌, [], AllPairs, IfSome, OnErr, OnOk, string_bytes};
+ghost use Rattle.admit_core.specs.Texts.{KeepsRoom, LacksRoom};
 ghost use Rattle.request.specs.Modes as Modes;
 ghost use Rattle.request.specs.Modes.{IsMode};
 
-use admit_core::Slot;
-use std::fmt;
+use admit_core::{Slot, push_after};
+use std::alloc::AllocError;
 
 /// What a run is to do, with the data that this needs.
 #[derive(Clone, Copy)]
@@ -40,17 +41,19 @@ pub enum Name {
     School(u32),
 }
 
-/// The words for it in a line.
-impl fmt::Display for Name {
-    ghost use Rattle.std.specs.Prelude.{Some};
+impl Name {
     ghost use Rattle.request.specs.Modes.{name_text};
 
-    ghost output = { λ name. Some (name_text name) };
-
-    fn fmt<W: fmt::Write>(&self, f: &mut fmt::Formatter<W>) -> fmt::Result {
+    /// Adds the words for it in a line.
+    pub fn push_onto(self, text: &mut String) -> Result<(), AllocError>
+        ensures all { OnOk result
+            (string_bytes text.new ≡ string_bytes text.old ++ name_text self) }
+        ensures full { OnErr result (LacksRoom text.old (name_text self)) }
+        ensures room { KeepsRoom text.old text.new }
+    {
         match self {
-            Name::Wish(id) => write!(f, "wish {id}"),
-            Name::School(id) => write!(f, "school {id}"),
+            Name::Wish(id) => push_after(text, "wish ", id as u64),
+            Name::School(id) => push_after(text, "school ", id as u64),
         }
     }
 }

@@ -17,7 +17,11 @@ fn shown<T: Debug + Drop>(
 ) -> Result<String, OutOfMemory> {
     match rows {
         Ok(rows) => rows_shown(alloc, rows.as_slice()),
-        Err(InFault::Refused(refusal)) => Ok(format!(in alloc; "{refusal}")?),
+        Err(InFault::Refused(refusal)) => {
+            let mut text = String::new(alloc);
+            refusal.push_onto(&mut text)?;
+            Ok(text)
+        }
         Err(InFault::OutOfMemory) => Err(OutOfMemory),
     }
 }
