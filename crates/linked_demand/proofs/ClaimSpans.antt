@@ -1,13 +1,13 @@
 -- The lists of the wishes by group, and each candidate's wishes in them.
 use Rattle.std.proofs.Common.{ℕ, ◌+◌, ◌-◌, ◌≤◌, ◌<◌, ◌≡◌, Bool, true, false, not, ◌&&◌, List, map, length, get_or, inl}
-use Rattle.std.proofs.Common.{inr, refl, sym, ◌∙◌, ap, arith, nat_eq, filter, subst, Some, Vec, ltb, leb}
+use Rattle.std.proofs.Common.{inr, refl, sym, ◌∙◌, ap, arith, nat_eq, filter, subst, Some, Vec, ltb, leb, take, drop}
 use Rattle.std.specs.Prelude.{◌==◌, ◌^◌}
 use Rattle.std.specs.declared.alloc.Global.{Global}
 use Rattle.std.specs.List.Sorted.{IsNonDecreasingBy, IsPartitionPoint}
 use Rattle.std.proofs.Math.ListN.{set}
 use Rattle.std.proofs.lemmas.Bool.{and_parts, cases_lt, eqb-true, le-leb, le-ltb, lt-leb, lt-ltb, ltb-true, ltb-false}
 use Rattle.std.proofs.lemmas.Bool.{or_cases}
-use Rattle.std.proofs.lemmas.List.{get_or-map, get_or_default, length-map, length-set, map-id}
+use Rattle.std.proofs.lemmas.List.{drop-map, get_or-map, get_or_default, length-map, length-set, map-id, take-map}
 use Rattle.std.proofs.lemmas.Option.{slice_get-get_or}
 use Rattle.std.proofs.lemmas.List.Elements.{All-filter}
 use Rattle.std.proofs.lemmas.List.Filters.{length-filter_both}
@@ -18,7 +18,8 @@ use Rattle.day_state.specs.Kept.{candidate_in, IsIndex}
 use Rattle.day_state.proofs.Ordering.{between}
 use Rattle.day_state.specs.declared.spans.Span.{Span}
 use Rattle.day_state.specs.Spans.{IsWithin, part_of}
-use Rattle.linked_demand.specs.Claims.{IsSpanOf, AreCandidatesFrom, AreWishesIn, AreWishesFrom, begins_at, lower_before}
+use Rattle.linked_demand.specs.Claims.{IsSpanOf, AreApplicantsIn, AreBesideFrom, AreWishesIn, AreWishesFrom}
+use Rattle.linked_demand.specs.Claims.{begins_at, lower_before, programme_in}
 use Rattle.linked_demand.specs.Keyed.{AreRowsOf}
 use Rattle.linked_demand.specs.Called.{group_claim, is_of_group}
 use Rattle.linked_demand.proofs.Lining.{filter_twice}
@@ -75,33 +76,45 @@ wishes_later s n rows row are = record {
       (λ e. omega (arith, le, e)) at);
 }
 
-pub candidates_from : (s : DossierRows) (order : List ℕ) (rows candidates : List (Vec ℕ Global))
+pub beside_from : (item : ℕ → ℕ) (s : DossierRows) (order : List ℕ) (rows beside : List (Vec ℕ Global))
     → AreRowsOf (λ k. k) (is_of_group s) (length s.groups) order rows
-    → AreRowsOf (candidate_in s.wishes) (is_of_group s) (length s.groups) order candidates
-    → AreCandidatesFrom s 0 rows candidates
-candidates_from s order rows candidates are own = record {
+    → AreRowsOf item (is_of_group s) (length s.groups) order beside
+    → AreBesideFrom item s 0 rows beside
+beside_from item s order rows beside are own = record {
   one_each = own.one_each;
   each = λ p row other le at there.
       own.each p other there
-      ∙ sym (ap (map (candidate_in s.wishes)) (are.each p row at ∙ map-id (filter (is_of_group s p) order)));
+      ∙ sym (ap (map item) (are.each p row at ∙ map-id (filter (is_of_group s p) order)));
 }
 
-pub candidates_taken : (s : DossierRows) (n : ℕ) (rows candidates : List (Vec ℕ Global)) (row own d e : Vec ℕ Global)
-    → n < length s.groups → row ≡ get_or rows n d → own ≡ get_or candidates n e
-    → AreWishesFrom s n rows → AreCandidatesFrom s n rows candidates
-    → own.items ≡ map (candidate_in s.wishes) row.items
-candidates_taken s n rows candidates row own d e lt is own_is are beside =
-    beside.each n row own (omega arith)
+pub beside_taken : (item : ℕ → ℕ) (s : DossierRows) (n : ℕ) (rows beside : List (Vec ℕ Global))
+    (row own d e : Vec ℕ Global) → n < length s.groups → row ≡ get_or rows n d → own ≡ get_or beside n e
+    → AreWishesFrom s n rows → AreBesideFrom item s n rows beside → own.items ≡ map item row.items
+beside_taken item s n rows beside row own d e lt is own_is are they =
+    they.each n row own (omega arith)
     (slice_get-get_or rows n d (omega (arith, lt, are.one_each)) ∙ ap Some (sym is))
-    (slice_get-get_or candidates n e (omega (arith, lt, beside.one_each)) ∙ ap Some (sym own_is))
+    (slice_get-get_or beside n e (omega (arith, lt, they.one_each)) ∙ ap Some (sym own_is))
 
-pub candidates_later : (s : DossierRows) (n : ℕ) (rows candidates : List (Vec ℕ Global)) (row own : Vec ℕ Global)
-    → AreCandidatesFrom s n rows candidates → AreCandidatesFrom s (n + 1) (set rows n row) (set candidates n own)
-candidates_later s n rows candidates row own are = record {
-  one_each = length-set candidates n own ∙ are.one_each;
+-- the lists that are taken out for a group
+pub applicants_taken : (s : DossierRows) (n : ℕ) (rows candidates programmes : List (Vec ℕ Global))
+    (row own theirs d e f : Vec ℕ Global) → n < length s.groups
+    → row ≡ get_or rows n d → own ≡ get_or candidates n e → theirs ≡ get_or programmes n f
+    → AreWishesFrom s n rows → AreBesideFrom (candidate_in s.wishes) s n rows candidates
+    → AreBesideFrom (programme_in s.wishes) s n rows programmes → AreApplicantsIn s n row.items own.items theirs.items
+applicants_taken s n rows candidates programmes row own theirs d e f lt is own_is theirs_is are they those = record {
+  of_group = wishes_taken s n rows row d lt is are;
+  candidates_are = beside_taken (candidate_in s.wishes) s n rows candidates row own d e lt is own_is are they;
+  programmes_are = beside_taken (programme_in s.wishes) s n rows programmes row theirs d f lt is theirs_is are those;
+}
+
+pub beside_later : (item : ℕ → ℕ) (s : DossierRows) (n : ℕ) (rows beside : List (Vec ℕ Global))
+    (row own : Vec ℕ Global) → AreBesideFrom item s n rows beside
+    → AreBesideFrom item s (n + 1) (set rows n row) (set beside n own)
+beside_later item s n rows beside row own are = record {
+  one_each = length-set beside n own ∙ are.one_each;
   each = λ p left other le at there.
       are.each p left other (omega arith) (get_set_other rows n p row left (λ e. omega (arith, le, e)) at)
-      (get_set_other candidates n p own other (λ e. omega (arith, le, e)) there);
+      (get_set_other beside n p own other (λ e. omega (arith, le, e)) there);
 }
 
 -- the candidates of a list by candidate do not fall
@@ -219,3 +232,13 @@ pub claim_there : {s : DossierRows} {p : ℕ} {wishes : List ℕ} → AreWishesI
 claim_there {s} {p} {wishes} waiting c candidates are span is read claim same claim_is =
     let found = span_is_claim s p wishes candidates c span waiting are is in
     record { within = found.0; part = found.1; is = claim_is ∙ ap (λ (ks : List ℕ). part_of ks span) same ∙ found.1 }
+
+-- and beside it what its wishes have
+pub beside_part : (item : ℕ → ℕ) (wishes beside : List ℕ) (span : Span) (claim own read : List ℕ)
+    → beside ≡ map item wishes → claim ≡ part_of wishes span → read ≡ beside → own ≡ part_of read span
+    → own ≡ map item claim
+beside_part item wishes beside span claim own read are claim_is read_is own_is =
+    own_is ∙ ap (λ (ks : List ℕ). part_of ks span) (read_is ∙ are)
+    ∙ ap (take (span.to - span.from)) (drop-map item span.from wishes)
+    ∙ take-map item (span.to - span.from) (drop span.from wishes)
+    ∙ ap (map item) (sym claim_is)

@@ -3,8 +3,9 @@ use Rattle.std.specs.Prelude.{◌≡◌, ℕ, ◌-◌, ◌≤◌, ◌<◌, ◌^�
 use Rattle.std.specs.Prelude.{filter, nat_eq, nat_lt, nat_le, Some, slice_get, slice_index, All, Vec}
 use Rattle.std.specs.declared.alloc.Global.{Global}
 use Rattle.std.specs.List.Sorted.{IsNonDecreasingBy, IsPartitionPoint}
+use Rattle.admit_core.specs.declared.dossier.Wish.{Wish}
 use Rattle.admit_core.specs.DossierRows.{DossierRows}
-use Rattle.day_state.specs.Kept.{candidate_in}
+use Rattle.day_state.specs.Kept.{candidate_in, wish_in}
 use Rattle.day_state.specs.declared.spans.Span.{Span}
 use Rattle.linked_demand.specs.Called.{group_claim}
 
@@ -37,10 +38,21 @@ pub record AreWishesFrom (d : DossierRows) (n : ℕ) (rows : List (Vec ℕ Globa
   pub each : (g : ℕ) (row : Vec ℕ Global) → n ≤ g → slice_get rows g ≡ Some row
       → AreWishesIn d g row.items
 
--- and beside each of them that of their candidates
-pub record AreCandidatesFrom (d : DossierRows) (n : ℕ)
-    (rows candidates : List (Vec ℕ Global)) : Type 0 where
-  pub one_each : length candidates ≡ length d.groups
+-- and beside each of them a list of what its wishes have, as their candidates
+pub record AreBesideFrom (item : ℕ → ℕ) (d : DossierRows) (n : ℕ)
+    (rows beside : List (Vec ℕ Global)) : Type 0 where
+  pub one_each : length beside ≡ length d.groups
   pub each : (g : ℕ) (row own : Vec ℕ Global) → n ≤ g
-      → slice_get rows g ≡ Some row → slice_get candidates g ≡ Some own
-      → own.items ≡ map (candidate_in d.wishes) row.items
+      → slice_get rows g ≡ Some row → slice_get beside g ≡ Some own
+      → own.items ≡ map item row.items
+
+-- the programme of the wish at a place
+abbrev pub programme_in : List Wish → ℕ → ℕ
+programme_in ws k = (wish_in ws k).programme
+
+-- the wishes for the programmes of a group, and beside each its candidate and its programme
+pub record AreApplicantsIn (d : DossierRows) (g : ℕ)
+    (wishes candidates programmes : List ℕ) : Type 0 where
+  pub of_group : AreWishesIn d g wishes
+  pub candidates_are : candidates ≡ map (candidate_in d.wishes) wishes
+  pub programmes_are : programmes ≡ map (programme_in d.wishes) wishes

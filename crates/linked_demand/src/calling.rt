@@ -3,9 +3,8 @@
 ghost use Rattle.std.specs.Prelude.{◌≡◌, ℕ, ◌<◌, length, map, nat_eq, All, IfOk, OnOk};
 ghost use Rattle.std.specs.List.{IsDistinct};
 ghost use Rattle.admit_core.specs.CallOrder.{AreCallOrders};
-ghost use Rattle.day_state.specs.Kept.{candidate_in};
 ghost use Rattle.linked_demand.specs.Called.{AreRowsFrom, before_at, called_by, called_for, order_at};
-ghost use Rattle.linked_demand.specs.Claims.{AreWishesIn};
+ghost use Rattle.linked_demand.specs.Claims.{AreApplicantsIn, programme_in};
 ghost use Rattle.linked_demand.specs.Keyed.{ArePutIn};
 ghost use Rattle.linked_demand.specs.Seats.{applies_at};
 
@@ -15,7 +14,7 @@ use crate::rows::{put_in, rows_with_room};
 use crate::wishing::{counts_by_programme, group_count, wishes_by_group};
 use admit_core::{CallOrders, OutOfMemory};
 use day_state::{DayState, part};
-use proposals::{call_everyone, wish_at};
+use proposals::call_everyone;
 use std::alloc::Global;
 use std::mem;
 
@@ -36,6 +35,25 @@ impl Drop for Called {
     }
 }
 
+/// The wishes for the programmes of a group, by candidate, and beside them their candidates and
+/// programmes.
+struct Applicants {
+    wishes: Vec<u32>,
+    candidates: Vec<u32>,
+    programmes: Vec<u32>,
+}
+
+// Not derived: so applicants are dropped in one step where they are held, and not list by list.
+impl Drop for Applicants {
+    fn drop(self) {
+        let Applicants {
+            wishes: _,
+            candidates: _,
+            programmes: _,
+        } = self;
+    }
+}
+
 /// No candidate stands twice in a call order. The call does nothing.
 fn call_once(state: &DayState<'_>, orders: &CallOrders)
     requires { AreCallOrders state.now.dossier.groups orders.now.orders }
@@ -51,9 +69,12 @@ fn deal(
     state: &DayState<'_>,
     orders: &CallOrders,
     claim: &[u32],
+    programmes: &[u32],
     before: u32,
 ) -> Result<(), OutOfMemory>
     requires claim { All (λ k. k < length state.now.dossier.wishes) claim.now }
+    requires programmes { programmes.now
+        ≡ map (programme_in state.now.dossier.wishes) claim.now }
     requires before { All (λ k. before_at state.now.dossier orders.now.orders k ≡ before) claim.now }
     requires wishes { length called.old.wishes.items ≡ length state.now.dossier.programmes }
     requires befores { length called.old.before.items ≡ length state.now.dossier.programmes }
@@ -64,8 +85,8 @@ fn deal(
 {
     let dossier = state.dossier();
     let _ = &dossier.wishes; // learns the invariant
-    for place in claim {
-        let programme = wish_at(state, *place).programme;
+    for (at, place) in claim.iter().enumerate() {
+        let programme = programmes[at];
         put_in(&mut called.wishes, programme, *place)?;
         put_in(&mut called.before, programme, before)?;
     }
@@ -78,15 +99,13 @@ fn call_group(
     state: &DayState<'_>,
     orders: &CallOrders,
     group: u32,
-    wishes: &[u32],
-    candidates: &[u32],
+    applicants: &Applicants,
     guesses: &mut Guesses,
 ) -> Result<(), OutOfMemory>
     requires group { group < length orders.now.orders }
     requires once { IsDistinct nat_eq (order_at orders.now.orders group) }
-    requires of_group { AreWishesIn state.now.dossier group wishes.now }
-    requires candidates { candidates.now
-        ≡ map (candidate_in state.now.dossier.wishes) wishes.now }
+    requires applicants { AreApplicantsIn state.now.dossier group applicants.now.wishes.items
+        applicants.now.candidates.items applicants.now.programmes.items }
     requires wishes { length called.old.wishes.items ≡ length state.now.dossier.programmes }
     requires befores { length called.old.before.items ≡ length state.now.dossier.programmes }
     ensures wishes { OnOk result (ArePutIn (λ k. k) (applies_at state.now.dossier)
@@ -97,10 +116,15 @@ fn call_group(
         called.old.before.items called.new.before.items) }
 {
     let order = orders.orders.as_slice()[group as usize].list.as_slice();
+    let wishes = applicants.wishes.as_slice();
+    let candidates = applicants.candidates.as_slice();
+    let programmes = applicants.programmes.as_slice();
     guesses.renew(candidates);
     for (before, candidate) in order.iter().enumerate() {
         let span = span_of(candidates, *candidate, guesses.of(*candidate));
-        deal(called, state, orders, part(wishes, span), before as u32)?;
+        let claim = part(wishes, span);
+        let theirs = part(programmes, span);
+        deal(called, state, orders, claim, theirs, before as u32)?;
     }
     Ok(())
 }
@@ -132,15 +156,13 @@ pub fn called_wishes(
         let place = group as usize;
         let wishes = mem::replace(&mut rows.wishes[place], Vec::new(alloc));
         let candidates = mem::replace(&mut rows.candidates[place], Vec::new(alloc));
-        call_group(
-            &mut called,
-            state,
-            orders,
-            group,
-            &wishes,
-            &candidates,
-            &mut guesses,
-        )?;
+        let programmes = mem::replace(&mut rows.programmes[place], Vec::new(alloc));
+        let applicants = Applicants {
+            wishes,
+            candidates,
+            programmes,
+        };
+        call_group(&mut called, state, orders, group, &applicants, &mut guesses)?;
     }
     Ok(called)
 }

@@ -1,13 +1,26 @@
 use Rattle.std.proofs.Common.{ℕ, ◌+◌, length, map, ◌∙◌, ap, arith, subst}
 use Rattle.admit_core.specs.DossierRows.{DossierRows}
 use Rattle.admit_core.specs.Validity.{IsValid}
+use Rattle.day_state.specs.Kept.{candidate_in}
 use Rattle.linked_demand.specs.Called.{before_at, called_all, called_by, called_for}
+use Rattle.linked_demand.specs.Claims.{programme_in}
 use Rattle.linked_demand.specs.Keyed.{AreEmpty}
 use Rattle.linked_demand.specs.Seats.{applies_at}
 use Rattle.linked_demand.proofs.CalledRows.{groups_more, group_in, row_called, row_itself}
-use Rattle.linked_demand.proofs.ClaimSpans.{candidates_later, wishes_later}
+use Rattle.linked_demand.proofs.ClaimSpans.{applicants_taken, beside_later, wishes_later}
 use Rattle.linked_demand.proofs.Dealing.{puts_begun, puts_on}
 use Rattle.linked_demand.proofs.calling.called_wishes.Goals as goal
+
+pub call_group-requires-clause-applicants : goal.call_group-requires-clause-applicants
+call_group-requires-clause-applicants c =
+    let rows = c.loop-group.rows in
+    applicants_taken c.args.state.now.dossier c.loop-group.group rows.wishes.items rows.candidates.items
+    rows.programmes.items c.replace-wishes.result c.replace-candidates.result c.replace-programmes.result _ _ _
+    (omega (arith, c.loop-group-test.true, c.group_count-group-end.ensures))
+    (c.replace-wishes.ensures.value ∙ c.index_mut.ensures.value)
+    (c.replace-candidates.ensures.value ∙ c.index_mut-in-loop-group.ensures.value)
+    (c.replace-programmes.ensures.value ∙ c.index_mut-in-loop-group-2.ensures.value)
+    c.loop-group.invariant.of_groups c.loop-group.invariant.candidates c.loop-group.invariant.programmes
 
 pub loop-group-preserved : goal.loop-group-preserved
 loop-group-preserved c =
@@ -26,8 +39,12 @@ loop-group-preserved c =
           c.loop-group.invariant.befores c.in_ok-call_group.ensures.befores;
       of_groups = wishes_later d g c.loop-group.rows.wishes.items c.replace-wishes.new.dest
           c.loop-group.invariant.of_groups;
-      candidates = candidates_later d g c.loop-group.rows.wishes.items c.loop-group.rows.candidates.items
-          c.replace-wishes.new.dest c.replace-candidates.new.dest c.loop-group.invariant.candidates;
+      candidates = beside_later (candidate_in d.wishes) d g c.loop-group.rows.wishes.items
+          c.loop-group.rows.candidates.items c.replace-wishes.new.dest c.replace-candidates.new.dest
+          c.loop-group.invariant.candidates;
+      programmes = beside_later (programme_in d.wishes) d g c.loop-group.rows.wishes.items
+          c.loop-group.rows.programmes.items c.replace-wishes.new.dest c.replace-programmes.new.dest
+          c.loop-group.invariant.programmes;
     }
 
 pub returns-clause-wishes : goal.returns-clause-wishes

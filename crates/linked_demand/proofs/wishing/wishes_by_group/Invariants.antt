@@ -1,6 +1,7 @@
 use Rattle.std.proofs.Common.{length, take}
 use Rattle.day_state.specs.Kept.{candidate_in}
 use Rattle.linked_demand.specs.Called.{is_of_group}
+use Rattle.linked_demand.specs.Claims.{programme_in}
 use Rattle.linked_demand.specs.Keyed.{AreRowsOf}
 use Rattle.linked_demand.proofs.wishing.wishes_by_group.Given as goal
 
@@ -10,4 +11,6 @@ invariant-loop-place l = record {
       (take l.place-index l.places) l.wishes.items;
   candidates : AreRowsOf (candidate_in l.state.dossier.wishes) (is_of_group l.state.dossier)
       (length l.state.dossier.groups) (take l.place-index l.places) l.candidates.items;
+  programmes : AreRowsOf (programme_in l.state.dossier.wishes) (is_of_group l.state.dossier)
+      (length l.state.dossier.groups) (take l.place-index l.places) l.programmes.items;
 }
