@@ -13,7 +13,12 @@ pub none_over : (sys : FallingSystem) → IsLawful sys → (bars : List ℕ) (i 
     → is_overfilled sys bars i ≡ true → ⊥
 none_over sys lawful bars i none over =
     let within = over_in sys lawful bars i over in
-    absurd (omega (arith, within.1, room_from sys lawful bars (settled_from_none sys bars [] (sym none) refl) i within.0))
+    absurd (omega (
+      arith,
+      within.1,
+      room_from sys lawful bars
+          (settled_from_none sys bars [] (sym none) refl) i within.0,
+    ))
 
 module _ {S : Type 0} (system : S → FallingSystem) (bars : S → List ℕ) (lawful : (s : S) → IsLawful (system s))
     (first now : S) (idle : all_overfilled (system first) (bars first) ≡ [] → now ≡ first) where
