@@ -1,5 +1,5 @@
 //! The lines of a day.
-ghost use Rattle.std.specs.Prelude.{◌≡◌, ◌<◌, ◌++◌, All, IsOk, OnOk, [], flat_map, length, map, string_bytes};
+ghost use Rattle.std.specs.Prelude.{◌≡◌, ◌<◌, ◌++◌, All, IfOk, IsOk, OnOk, [], flat_map, length, map, string_bytes};
 ghost use Rattle.std.specs.Fmt.{decimal};
 ghost use Rattle.report.specs.DayText.{IsFallOf, IsLapseOf, IsPassOf, auto_line, dated_day_text, day_text, evening_text, fall_line, freed_line, lapse_line, offer_line, pass_text, passes_text};
 ghost use Rattle.report.specs.Ids.{wish_id};
@@ -8,9 +8,9 @@ ghost use Rattle.report.specs.Words.{further};
 use crate::date::DateWord;
 use crate::ids::{push_line, push_numbers, school_id, wish_id};
 use crate::number::push_after;
-use admit_core::{Change, DayRecord, Dossier, Fall, Lapse, PassEnd, Terms};
+use admit_core::{Change, DayRecord, Dossier, Fall, Lapse, OutOfMemory, PassEnd, Terms};
 use calendar::{Civil, deadline, on_day};
-use std::alloc::AllocError;
+use std::alloc::{AllocError, Global};
 
 /// Adds the id of each wish after a space, and ends the line.
 fn push_wishes(text: &mut String, dossier: &Dossier, wishes: &[u32]) -> Result<(), AllocError>
@@ -177,6 +177,16 @@ pub fn push_day(text: &mut String, dossier: &Dossier, day: &DayRecord) -> Result
     push_rest(text, dossier, day)
 }
 
+/// The lines of a day, as a text of their own.
+pub fn day_text(alloc: Global, dossier: &Dossier, day: &DayRecord) -> Result<Vec<u8>, OutOfMemory>
+    requires { All (IsPassOf dossier.now) day.now.passes }
+    ensures { IfOk result (λ text. text.items ≡ day_text dossier.now day.now) }
+{
+    let mut text = String::new(alloc);
+    push_day(&mut text, dossier, day)?;
+    Ok(text.into_bytes())
+}
+
 /// Adds the line of a lapsed offer.
 fn push_lapse(
     text: &mut String,
@@ -230,4 +240,22 @@ pub fn push_dated_day(
     writeln!(text, "day {number}")?;
     push_lapses(text, dossier, day.lapsed.as_slice(), start, terms.term)?;
     push_rest(text, dossier, day)
+}
+
+/// The lines of a day where offers have dates, as a text of their own.
+pub fn dated_day_text(
+    alloc: Global,
+    dossier: &Dossier,
+    day: &DayRecord,
+    start: Civil,
+    terms: &Terms,
+) -> Result<Vec<u8>, OutOfMemory>
+    requires passes { All (IsPassOf dossier.now) day.now.passes }
+    requires lapses { All (IsLapseOf dossier.now start terms.now.term) day.now.lapsed }
+    ensures { IfOk result (λ text. text.items ≡ dated_day_text dossier.now day.now start
+        terms.now.term) }
+{
+    let mut text = String::new(alloc);
+    push_dated_day(&mut text, dossier, day, start, terms)?;
+    Ok(text.into_bytes())
 }

@@ -1,5 +1,5 @@
 //! The lines of the final state.
-ghost use Rattle.std.specs.Prelude.{◌≡◌, ◌<◌, ◌++◌, ◌∷◌, [], OnOk, length, string_bytes};
+ghost use Rattle.std.specs.Prelude.{◌≡◌, ◌<◌, ◌++◌, ◌∷◌, [], IfOk, OnOk, length, string_bytes};
 ghost use Rattle.std.specs.Fmt.{decimal};
 ghost use Rattle.admit_core.specs.Lines.{status_word};
 ghost use Rattle.report.specs.FinalText.{HasDate, HasDates, dated_row, final_dated_text, final_text, offer_day_at, since_word};
@@ -9,10 +9,10 @@ ghost use Rattle.calendar.specs.Dates.{IsCivil};
 
 use crate::date::DateWord;
 use crate::number::push_number;
-use admit_core::{Status, Terms, Wish};
+use admit_core::{OutOfMemory, Status, Terms, Wish};
 use calendar::{Civil, on_day};
 use day_state::DayState;
-use std::alloc::AllocError;
+use std::alloc::{AllocError, Global};
 
 /// Adds the row of a wish with its status.
 fn push_row(text: &mut String, id: u32, status: Status) -> Result<(), AllocError>
@@ -36,6 +36,15 @@ pub fn push_final(text: &mut String, state: &DayState<'_>) -> Result<(), AllocEr
         push_row(text, wish.id, status)?;
     }
     Ok(())
+}
+
+/// The final state, as a text of its own.
+pub fn final_text(alloc: Global, state: &DayState<'_>) -> Result<Vec<u8>, OutOfMemory>
+    ensures { IfOk result (λ text. text.items ≡ final_text state.now) }
+{
+    let mut text = String::new(alloc);
+    push_final(&mut text, state)?;
+    Ok(text.into_bytes())
 }
 
 /// The date of the offer of the wish at a place, which is offered.
@@ -120,4 +129,19 @@ pub fn push_dated_final(
         push_dated_row(text, state, start, terms, place as u32, wish)?;
     }
     Ok(())
+}
+
+/// The final state where offers have dates, as a text of its own.
+pub fn final_dated_text(
+    alloc: Global,
+    state: &DayState<'_>,
+    start: Civil,
+    terms: &Terms,
+) -> Result<Vec<u8>, OutOfMemory>
+    requires { HasDates state.now start terms.now.before }
+    ensures { IfOk result (λ text. text.items ≡ final_dated_text state.now start terms.now.before) }
+{
+    let mut text = String::new(alloc);
+    push_dated_final(&mut text, state, start, terms)?;
+    Ok(text.into_bytes())
 }

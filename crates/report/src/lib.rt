@@ -16,10 +16,10 @@ mod sample;
 mod words;
 mod worked;
 
-pub use day::{push_dated_day, push_day, push_falls};
+pub use day::{dated_day_text, day_text, push_dated_day, push_day, push_falls};
 pub use explanation::explain_text;
-pub use final_state::{push_dated_final, push_final};
-pub use order::push_order;
+pub use final_state::{final_dated_text, final_text, push_dated_final, push_final};
+pub use order::{order_text, push_order};
 pub use refusal::refusal_text;
 pub use sample::sample_text;
 pub use worked::worked_texts;

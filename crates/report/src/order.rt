@@ -1,10 +1,10 @@
 //! The lines of a call order.
-ghost use Rattle.std.specs.Prelude.{◌≡◌, ◌++◌, OnOk, string_bytes};
+ghost use Rattle.std.specs.Prelude.{◌≡◌, ◌++◌, IfOk, OnOk, string_bytes};
 ghost use Rattle.report.specs.OrderText.{order_text};
 
 use crate::words::{push_letters, push_list};
-use admit_core::CallOrder;
-use std::alloc::AllocError;
+use admit_core::{CallOrder, OutOfMemory};
+use std::alloc::{AllocError, Global};
 
 /// Adds the two lines of a group's call order: the candidates, and the bound of each position.
 pub fn push_order(text: &mut String, id: u32, order: &CallOrder) -> Result<(), AllocError>
@@ -16,4 +16,13 @@ pub fn push_order(text: &mut String, id: u32, order: &CallOrder) -> Result<(), A
     write!(text, "rule {id}:")?;
     push_letters(text, order.trace.as_slice())?;
     Ok(())
+}
+
+/// The two lines of a group's call order, as a text of their own.
+pub fn order_text(alloc: Global, id: u32, order: &CallOrder) -> Result<Vec<u8>, OutOfMemory>
+    ensures { IfOk result (λ text. text.items ≡ order_text id order.now) }
+{
+    let mut text = String::new(alloc);
+    push_order(&mut text, id, order)?;
+    Ok(text.into_bytes())
 }
