@@ -1,9 +1,11 @@
 //! What each candidate holds, and up to where in each call order somebody is live.
 ghost use Rattle.std.specs.Prelude.{◌≡◌, ◌==◌, ◌&&◌, ◌||◌, ◌<◌, ℕ, IfOk, List, OnOk, length, map, nat_eq, nat_le, nat_lt};
-ghost use Rattle.indexmap.specs.IndexMap.{get};
+ghost use Rattle.indexmap.specs.IndexMap.{get, hasher_of};
+ghost use Rattle.keyed_hash.specs.Keys.{mixed_in};
 ghost use Rattle.admit_core.specs.declared.ranking.CallOrder.{CallOrder};
 ghost use Rattle.admit_core.specs.State.{entries, is_live};
 ghost use Rattle.day_state.specs.Bundles.{number_in};
+ghost use Rattle.envy.specs.Hashing.{keyed_by_wishes};
 ghost use Rattle.envy.specs.Known.{AreBest, AreLast, is_better, is_below, place_of, reaches};
 
 use admit_core::{Mark, OutOfMemory, Wish};
@@ -41,12 +43,21 @@ fn later(known: Option<usize>, place: usize) -> usize
     }
 }
 
+/// A key with one wish more mixed in.
+fn mixed(mut key: KeyMaker, wish: Wish) -> KeyMaker
+    ensures { result ≡ mixed_in key (wish.candidate, wish.id) }
+{
+    key.mix(wish.candidate, wish.id);
+    key
+}
+
 /// Hashing by a key of the wishes' candidates.
-fn hashing_of(wishes: &[Wish]) -> Keyed {
-    let mut key = KeyMaker::new();
-    for wish in wishes {
-        key.mix(wish.candidate, wish.id);
-    }
+fn hashing_of(wishes: &[Wish]) -> Keyed
+    ensures { result ≡ keyed_by_wishes wishes.now }
+{
+    let key = wishes
+        .iter()
+        .fold(KeyMaker::new(), |key, wish| mixed(key, *wish));
     key.done()
 }
 
@@ -56,8 +67,9 @@ fn note_best(
     wish: Wish,
     mark: Mark,
 ) -> Result<(), OutOfMemory>
-    ensures { OnOk result ((c q : ℕ) → is_below (get nat_eq best.new c) q
+    ensures noted { OnOk result ((c q : ℕ) → is_below (get nat_eq best.new c) q
         ≡ (is_below (get nat_eq best.old c) q || is_better c q (wish, mark))) }
+    ensures hashing { hasher_of best.new ≡ hasher_of best.old }
 {
     if mark.is_live() {
         let least = lesser(best.get(&wish.candidate).copied(), wish.preference);
@@ -71,7 +83,9 @@ pub(crate) fn best_wishes(
     alloc: Global,
     state: &DayState<'_>,
 ) -> Result<IndexMap<u32, u32, Keyed>, OutOfMemory>
-    ensures { IfOk result (λ best. AreBest (entries state.now) (get nat_eq best)) }
+    ensures best { IfOk result (λ best. AreBest (entries state.now) (get nat_eq best)) }
+    ensures hashing { IfOk result (λ best.
+        hasher_of best ≡ keyed_by_wishes state.now.dossier.wishes) }
 {
     let _ = state.marks(); // one for each wish
     let dossier = state.dossier();

@@ -1,5 +1,5 @@
 -- Stamps along a list.
-use Rattle.std.proofs.Common.{ℕ, ◌+◌, ◌≤◌, ◌<◌, ◌≡◌, Bool, true, false, not, List, [], ◌∷◌, ◌++◌, length, take, drop}
+use Rattle.std.proofs.Common.{ℕ, ◌+◌, ◌≤◌, ◌<◌, ◌≡◌, Bool, true, false, not, List, [], ◌∷◌, ◌++◌, length, take}
 use Rattle.std.proofs.Common.{replicate, get_or, inl, inr, refl, sym, ◌∙◌, ap, subst, arith, nat_eq, nat_lt}
 use Rattle.std.specs.Prelude.{slice_index}
 use Rattle.std.specs.List.{list_all}
@@ -7,7 +7,7 @@ use Rattle.std.proofs.Math.ListN.{set}
 use Rattle.std.proofs.lemmas.Bool.{cases_eq, and_parts, and_from, eq-eqb, ne_eqb, lt-ltb, false≢true}
 use Rattle.std.proofs.lemmas.Bool.{false_from_ne_true, or_left, or_right}
 use Rattle.std.proofs.lemmas.Cmp.{nat_eq_equiv}
-use Rattle.std.proofs.lemmas.List.{append-nil, drop_all, get_or-replicate, length-replicate, length-set, take_all}
+use Rattle.std.proofs.lemmas.List.{get_or-replicate, length-replicate, length-set}
 use Rattle.std.proofs.lemmas.List.{take_more}
 use Rattle.std.proofs.lemmas.List.Folds.{list_all-append, list_any-append}
 use Rattle.std.proofs.lemmas.Grind.{get_or-set_at}
@@ -105,13 +105,13 @@ none_newer n stamps are q lt =
     let within : q < n = omega (arith, lt, ap length are ∙ length-replicate n 0) in
     omega (arith, ap (λ (xs : List ℕ). slice_index xs q) are ∙ get_or-replicate n q 0 0 within)
 
-pub stood_none : (n : ℕ) (lists : List (List ℕ)) (stamps : List ℕ) → stamps ≡ replicate n 0
-    → AllStood n lists 0 0 stamps
-stood_none n lists stamps are =
+pub fresh_stood : (lists : List (List ℕ)) (stamps : List ℕ) → AreUpTo 0 stamps
+    → AllStood (length stamps) lists 0 0 stamps
+fresh_stood lists stamps fresh =
     record {
       stamp_is = refl;
-      as_many = ap length are ∙ length-replicate n 0;
-      up_to = none_newer n stamps are;
+      as_many = refl;
+      up_to = fresh;
       stood = λ i lt. absurd (omega (arith, lt));
     }
 
@@ -139,10 +139,3 @@ stood_more n lists k stamp stamps after so long up_to told =
             | inr other ↦ so.stood i (omega (arith, i_lt, other))
           ];
     }
-
--- what is written back of a slice of a whole list
-pub put_back : (new old : List ℕ) (n : ℕ) → length new ≡ length old → n ≡ length old
-    → take n (new ++ drop (length new) old) ≡ new
-put_back new old n long n_is =
-    let bare : drop (length new) old ≡ [] = drop_all (length new) old (omega (arith, long)) in
-    ap (λ ys. take n (new ++ ys)) bare ∙ ap (take n) (append-nil new) ∙ take_all n new (omega (arith, long, n_is))

@@ -8,6 +8,8 @@ use Rattle.admit_core.specs.Lists.{is_among, sorted_by}
 use Rattle.admit_core.specs.Proposals.{order_of}
 use Rattle.admit_core.specs.declared.dossier.Wish.{Wish}
 use Rattle.admit_core.specs.declared.ranking.CallOrder.{CallOrder}
+use Rattle.keyed_hash.specs.declared.Keyed.{Keyed}
+use Rattle.keyed_hash.specs.Keys.{done, fresh, mixed_in}
 use Rattle.markets.specs.Markets.{MarketRows}
 
 -- a wish counts in the market where its candidate ranks their wishes and it asks for no bed
@@ -24,6 +26,10 @@ in_turn ns = fold (λ seen n. if is_among n seen then seen else seen ++ n ∷ []
 -- the ids of the market's candidates: the number of each is their place in this list
 abbrev pub named : List Wish → List ℕ
 named ws = in_turn (map (λ w. w.candidate) ws)
+
+-- the hashing by the key of the candidates and the ids of all these wishes
+abbrev pub keyed_by_wishes : List Wish → Keyed
+keyed_by_wishes ws = done (fold (λ key w. mixed_in key (w.candidate, w.id)) fresh ws)
 
 abbrev pub own : List Wish → ℕ → List Wish
 own ws c = filter (λ w. nat_eq c w.candidate) ws

@@ -1,6 +1,7 @@
 //! Whether lists name programmes of a market, none twice.
 ghost use Rattle.std.specs.Prelude.{◌≡◌, ◌≤◌, [], not, length, position, IfOk, IsOk};
 ghost use Rattle.markets.specs.Markets.{is_list_below};
+ghost use Rattle.markets.specs.Stamps.{AreUpTo};
 
 use crate::stamps::stamp_list;
 use admit_core::{OutOfMemory, Sequence};
@@ -20,13 +21,23 @@ pub fn first_bad_list(
     if lists.is_empty() {
         return Ok(None);
     }
-    let mut stamps = vec![in alloc; 0; count as usize]?;
+    let mut room = vec![in alloc; 0; count as usize]?;
+    Ok(bad_among(lists, room.as_mut_slice()))
+}
+
+/// The same, with room for a stamp on each number: this takes no memory.
+fn bad_among(lists: &[Sequence<u32>], stamps: &mut [u32]) -> Option<u32>
+    requires few { length lists.now ≤ 16000000 }
+    requires fresh { AreUpTo 0 stamps.old }
+    ensures { result ≡ position
+        (λ list. not (is_list_below (length stamps.old) list)) lists.now }
+{
     let mut stamp = 0;
     for list in lists {
         stamp += 1;
-        if !stamp_list(list.as_slice(), stamp, &mut stamps) {
-            return Ok(Some(stamp - 1));
+        if !stamp_list(list.as_slice(), stamp, stamps) {
+            return Some(stamp - 1);
         }
     }
-    Ok(None)
+    None
 }

@@ -2,7 +2,9 @@
 ghost use Rattle.std.specs.Prelude.{◌≡◌, ◌<◌, ◌++◌, ◌∷◌, [], List, length, map, filter, slice_set, slice_index_or, IfOk, OnOk};
 ghost use Rattle.admit_core.specs.Lists.{sorted_by};
 ghost use Rattle.admit_core.specs.declared.dossier.Wish.{Wish};
-ghost use Rattle.markets.specs.Dossiers.{by_preference, counts, named, own};
+ghost use Rattle.indexmap.specs.IndexSet.{hasher_of};
+ghost use Rattle.keyed_hash.specs.Keys.{mixed_in};
+ghost use Rattle.markets.specs.Dossiers.{by_preference, counts, keyed_by_wishes, named, own};
 
 use admit_core::{OutOfMemory, Sequence, Wish};
 use indexmap::IndexSet;
@@ -28,18 +30,28 @@ pub fn counted(alloc: Global, wishes: &[Wish]) -> Result<Vec<Wish>, OutOfMemory>
     Ok(counted)
 }
 
+/// A key with one wish more mixed in.
+fn mixed(mut key: KeyMaker, wish: Wish) -> KeyMaker
+    ensures { result ≡ mixed_in key (wish.candidate, wish.id) }
+{
+    key.mix(wish.candidate, wish.id);
+    key
+}
+
 /// Hashing by a key of the wishes' candidates.
-fn hashing_of(wishes: &[Wish]) -> Keyed {
-    let mut key = KeyMaker::new();
-    for wish in wishes {
-        key.mix(wish.candidate, wish.id);
-    }
+fn hashing_of(wishes: &[Wish]) -> Keyed
+    ensures { result ≡ keyed_by_wishes wishes.now }
+{
+    let key = wishes
+        .iter()
+        .fold(KeyMaker::new(), |key, wish| mixed(key, *wish));
     key.done()
 }
 
 /// The candidates of wishes, each once, in the order of their first wishes.
 pub fn named(alloc: Global, wishes: &[Wish]) -> Result<IndexSet<u32, Keyed>, OutOfMemory>
-    ensures { IfOk result (λ names. names.keys ≡ named wishes.now) }
+    ensures names { IfOk result (λ names. names.keys ≡ named wishes.now) }
+    ensures hashing { IfOk result (λ names. hasher_of names ≡ keyed_by_wishes wishes.now) }
 {
     let mut names = IndexSet::with_hasher(alloc, hashing_of(wishes));
     for wish in wishes {

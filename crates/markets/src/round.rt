@@ -146,6 +146,8 @@ impl Falling for MarketRound<'_> {
 
     ghost offers = { λ r. place_codes r.market };
 
+    ghost lends = { λ r. Unit {0} };
+
     ghost lawful = { λ r. round_is_lawful r.market r.round.valid };
 
     ghost one_bar_each = { λ r. bar_each r.market r.bars.items r.round.seated.one_bar_each };

@@ -66,4 +66,4 @@ listed_blocks-requires-clause-lasts c =
     subst P (sym c.deref-3.ensures.value) (c.in_ok-lasts.ensures os (c.deref.ensures.value ∙ c.in_ok-places.ensures))
 
 pub listed_blocks-requires-clause-best : goal.listed_blocks-requires-clause-best
-listed_blocks-requires-clause-best c = c.in_ok-best.ensures
+listed_blocks-requires-clause-best c = c.in_ok-best.ensures.best

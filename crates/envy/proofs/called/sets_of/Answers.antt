@@ -16,7 +16,7 @@ loop-order-preserved c =
     sets_more c.loop-order.sets.items c.push.new.self.items c.in_ok-set_of.field-0 c.args.orders.now
     c.loop-order.order-index
     c.order-item.result c.loop-order-test.true c.in_ok-push.ensures.items c.loop-order.invariant
-    (c.in_ok-set_of.ensures ∙ c.as_slice.ensures ∙ ap (λ (o : CallOrder). o.list) c.order-item.is)
+    (c.in_ok-set_of.ensures.keys ∙ c.as_slice.ensures ∙ ap (λ (o : CallOrder). o.list) c.order-item.is)
 
 pub returns : goal.returns
 returns c =

@@ -11,8 +11,14 @@ loop-wish-preserved c =
     let wishes : List Wish = c.args.wishes.now in
     let none : Wish = wish_in [] 0 in
     let who : ℕ = (get_or wishes c.loop-wish.wish-index none).candidate in
-    c.in_ok-insert.ensures.keys ∙ ap (λ (ks : List ℕ). noted ks who) c.loop-wish.invariant
-    ∙ sym (named_more wishes c.loop-wish.wish-index none c.loop-wish-test.true)
+    record {
+      names =
+          c.in_ok-insert.ensures.keys ∙ ap (λ (ks : List ℕ). noted ks who) c.loop-wish.invariant.names
+          ∙ sym (named_more wishes c.loop-wish.wish-index none c.loop-wish-test.true);
+      hashing = c.insert.ensures.hasher ∙ c.loop-wish.invariant.hashing;
+    }
 
-pub returns : goal.returns
-returns c = c.loop-wish.invariant ∙ ap named (take_all c.loop-wish.wish-index c.args.wishes.now c.loop-wish-test.false)
+pub returns-clause-names : goal.returns-clause-names
+returns-clause-names c =
+    c.loop-wish.invariant.names
+    ∙ ap named (take_all c.loop-wish.wish-index c.args.wishes.now c.loop-wish-test.false)
