@@ -19,7 +19,8 @@ returns-clause-lists c =
     let wishes : rows ≡ counted d =
     c.in_ok-wishes.ensures ∙ ap (filter counts) c.as_slice.ensures
     ∙ ap (λ (e : DossierRows). filter counts e.wishes) c.dossier.view_is in
-    let names : c.in_ok-names.names.keys ≡ named rows = c.in_ok-names.ensures.names ∙ ap named c.as_slice-2.ensures.value in
+    let names : c.in_ok-names.names.keys ≡ named rows =
+    c.in_ok-names.ensures.names ∙ ap named c.as_slice-2.ensures.value in
     c.in_ok-lists.ensures
     ∙ ap (λ (ws : List Wish). map (λ k. by_preference (own ws k)) c.in_ok-names.names.keys) c.as_slice-3.ensures.value
     ∙ ap (map (λ k. by_preference (own rows k))) names ∙ ap lists_in wishes
