@@ -5,7 +5,7 @@ ghost use Rattle.certificate.specs.VerdictText.{kept_id, verdict_text};
 ghost use Rattle.certificate.specs.Verdicts.{KeepsSchool};
 ghost use Rattle.report.specs.Words.{further};
 
-use admit_core::{ChainFault, CheckReason, Dossier, OutOfMemory};
+use admit_core::{ChainFault, CheckReason, Dossier, OutOfMemory, push_after};
 use std::alloc::{AllocError, Global};
 
 /// The line of a text that is no chain.
@@ -13,7 +13,8 @@ pub fn chain_fault_text(alloc: Global, fault: ChainFault) -> Result<Vec<u8>, Out
     ensures { IfOk result (λ text. text.items ≡ chain_fault_text fault ++ 10 ∷ []) }
 {
     let mut text = String::new(alloc);
-    writeln!(text, "{fault}")?;
+    fault.push_onto(&mut text)?;
+    text.push_str("\n")?;
     Ok(text.into_bytes())
 }
 
@@ -45,8 +46,10 @@ pub fn verdict_text(
     ensures { IfOk result (λ text. text.items ≡ verdict_text dossier.now row reason) }
 {
     let mut text = String::new(alloc);
-    let number = reason.number();
-    write!(text, "not proved row {row} reason {number} {reason}")?;
+    push_after(&mut text, "not proved row ", row)?;
+    push_after(&mut text, " reason ", reason.number() as u64)?;
+    text.push_str(" ")?;
+    text.push_str(reason.name())?;
     push_kept(&mut text, dossier, reason)?;
     Ok(text.into_bytes())
 }
