@@ -3,6 +3,7 @@ use Rattle.std.proofs.Common.{◌≡◌, ◌∙◌, ◌<◌, ◌≤◌, ℕ, Lis
 use Rattle.std.proofs.Common.{inr, length, nat_eq, position, subst, sym}
 use Rattle.std.specs.Result.{ForOk}
 use Rattle.std.proofs.lemmas.Bool.{cases_Bool}
+use Rattle.std.proofs.lemmas.List.{length-map}
 use Rattle.std.proofs.lemmas.List.Quantifiers.{position-Some}
 use Rattle.admit_core.specs.Days.{ceilings_of}
 use Rattle.admit_core.specs.DossierRows.{DossierRows}
@@ -13,10 +14,11 @@ use Rattle.admit_core.specs.declared.records.DayRecord.{DayRecord}
 use Rattle.admit_core.specs.declared.records.Terms.{Terms}
 use Rattle.admit_core.specs.declared.refusal.Refusal.{Refusal}
 use Rattle.desk_day.specs.DeskStates.{DeskStates}
+use Rattle.desk_day.specs.KeptDays.{kept_day}
 use Rattle.desk_day.specs.LastPasses.{IsLastPass, last_pass}
 use Rattle.explanations.specs.Sayings.{Explains}
 use Rattle.intake.specs.Dated.{terms_in}
-use Rattle.played.proofs.LastDay.{desk_played}
+use Rattle.played.proofs.LastDay.{desk_after_kept, desk_played}
 use Rattle.played.specs.LastDays.{IsDeskAfter, IsLastOf, pass_on}
 use Rattle.played.specs.Lent.{Lent}
 use Rattle.played.specs.PlayedDays.{DaysEndAfter, Lead, Plan, Played, first_desk, plan_of}
@@ -26,7 +28,7 @@ use Rattle.request.specs.declared.request.Request.{Request}
 use Rattle.modes.specs.Endings.{CanBeEnded, CanEnd}
 use Rattle.modes.specs.Jobs.{Seen, days_of}
 use Rattle.modes.specs.Replay.{CanBeDated, CanBeWritten}
-use Rattle.modes.proofs.Writable.{played_written}
+use Rattle.modes.proofs.Writable.{kept_written, played_written}
 
 few_days : (request : Request) → IsRequest request → days_of request ≤ 366
 few_days request is = elim (cases_Bool (runs_days request.mode))
@@ -37,8 +39,13 @@ pub written : (seen : Seen) (played : Played) → CanEnd seen played
     → All (CanBeWritten seen.dossier seen.dated) played.days × ForOk played.end
     (λ desk. CanBeDated seen.dated desk.present)
 written seen played can =
-    played_written seen.dossier seen.dated (days_of seen.request) seen.request.picker can.plays.0 played can.plays.1
-    (few_days seen.request can.request) can.dated can.plays.2
+    let whole = can.plays.0 in
+    let all =
+    played_written seen.dossier seen.dated (days_of seen.request) seen.request.picker can.before whole can.after
+    (few_days seen.request can.request) can.dated can.plays.1 in
+    subst (λ (p : Played). All (CanBeWritten seen.dossier seen.dated) p.days
+    × ForOk p.end (λ desk. CanBeDated seen.dated desk.present)) (sym can.plays.2)
+    (kept_written can.keeps seen.dossier seen.dated whole.days all.0, all.1)
 
 as_many : (terms : Option Terms) (number : ℕ) (days : List DayRecord) (last : DeskStates)
     (end : Result DeskStates Refusal) → DaysEndAfter terms number days last end
@@ -64,27 +71,32 @@ desk_at_first terms number days last (Ok found) first plan before lead ends desk
 desk_at_first terms number days last (Err refusal) first plan before lead ends desk same none = absurd (cc)
 
 -- the days led to a desk
-ends_on : (seen : Seen) (played : Played) (desk : DeskStates) → CanEnd seen played → played.end ≡ Ok desk
+pub ends_on : (seen : Seen) (played : Played) (desk : DeskStates) → CanEnd seen played → played.end ≡ Ok desk
     → CanBeEnded seen played desk
 ends_on seen played desk can same =
-    let plays = can.plays.2 in
+    let whole = can.plays.0 in
+    let plays = can.plays.1 in
+    let terms = terms_in seen.dated in
+    let number = days_of seen.request in
+    let who = seen.request.picker in
+    let led : whole.end ≡ Ok desk = ap (λ (p : Played). p.end) (sym can.plays.2) ∙ same in
     let all = written seen played can in
-    record {
+    subst (λ (p : Played). CanBeEnded seen p desk) (sym can.plays.2) (record {
       request = can.request;
       named = can.named;
       index = can.index;
       dated = can.dated;
       called = plays.called;
-      number = as_many (terms_in seen.dated) (days_of seen.request) played.days plays.last played.end plays.ends desk
-          same;
-      days = all.0;
+      number =
+          length-map whole.days (kept_day can.keeps)
+          ∙ as_many terms number whole.days plays.last whole.end plays.ends desk led;
+      days = subst (λ (p : Played). All (CanBeWritten seen.dossier seen.dated) p.days) can.plays.2 all.0;
       offers = all.1 desk same;
-      last = desk_played seen.dossier (terms_in seen.dated) (days_of seen.request) seen.request.picker can.plays.0
-          played can.plays.1 plays desk same;
-      idle = desk_at_first (terms_in seen.dated) (days_of seen.request) played.days plays.last played.end
-          (first_desk seen.dossier) (plan_of (terms_in seen.dated) seen.request.picker played) can.plays.0 plays.days
-          plays.ends desk same;
-    }
+      last = desk_after_kept can.keeps seen.dossier whole.orders whole.days desk
+          (desk_played seen.dossier terms number who can.before whole can.after plays desk led);
+      idle = desk_at_first terms number whole.days plays.last whole.end (first_desk seen.dossier)
+          (plan_of terms who whole) can.before plays.days plays.ends desk led;
+    })
 
 -- the same of what is kept of the days then
 pub ends_led : (seen : Seen) (played : Played) (desk : DeskStates) → CanEnd seen played → played.end ≡ Ok desk

@@ -1,6 +1,6 @@
 -- The days and the evening of a job can be written.
 use Rattle.std.proofs.Common.{◌≡◌, ◌∙◌, ℕ, ◌+◌, ◌<◌, ◌≤◌, List, [], ◌∷◌, Option, None, Some, Result, Ok, Err, All}
-use Rattle.std.proofs.Common.{IfSome, arith, filter, get_or, inl, inr, length, refl, subst, sym}
+use Rattle.std.proofs.Common.{Bool, IfSome, arith, false, filter, get_or, inl, inr, length, map, refl, subst, sym, true}
 use Rattle.std.specs.Prelude.{ℤ, pos, ◌≤ℤ◌, nat_lt, zip}
 use Rattle.std.specs.List.{enumerate_from}
 use Rattle.std.specs.Result.{ForOk}
@@ -22,11 +22,12 @@ use Rattle.admit_core.specs.declared.state.Mark.{Mark}
 use Rattle.calendar.specs.Dates.{IsCivil, IsRead, last_day}
 use Rattle.desk_day.specs.DayPlaces.{IsPassIn}
 use Rattle.desk_day.specs.DeskStates.{DeskStates}
+use Rattle.desk_day.specs.KeptDays.{kept_day, kept_end}
 use Rattle.intake.specs.Dated.{AreDatedFor, terms_in}
 use Rattle.intake.specs.declared.terms.DatedTerms.{DatedTerms}
 use Rattle.played.specs.Lent.{Lent}
 use Rattle.played.specs.PlayedDays.{DaysEndAfter, IsNext, IsPlayed, Lead, Plan, Played, lent_after}
-use Rattle.report.specs.DayText.{IsLapseOf, IsPassOf, date_on, last_date}
+use Rattle.report.specs.DayText.{IsFallOf, IsLapseOf, IsPassOf, date_on, last_date}
 use Rattle.report.specs.FinalText.{HasDates}
 use Rattle.request.specs.Request.{IsStart}
 use Rattle.request.specs.declared.pickers.PickerChoice.{PickerChoice}
@@ -213,3 +214,27 @@ played_written d dated number who before played after few is plays =
     let all =
     days_written _ d dated 1 _ before played.days plays.last refl is within (first_known d dated) plays.days in
     (all.0, evening_written d dated (terms_in dated) number played.days plays.last played.end plays.ends is all.1)
+
+-- and so can what is kept of days, where falls may be left out
+falls_kept : (keeps : Bool) (d : DossierRows) (end : PassEnd) → All (IsFallOf d) end.pass.falls
+    → All (IsFallOf d) (kept_end keeps end).pass.falls
+falls_kept true d end are = are
+falls_kept false d end are = All-nil (IsFallOf d)
+
+pass_kept : (keeps : Bool) (d : DossierRows) (end : PassEnd) → IsPassOf d end → IsPassOf d (kept_end keeps end)
+pass_kept keeps d end is =
+    record { falls = falls_kept keeps d end is.falls; offers = is.offers; autos = is.autos }
+
+day_kept : (keeps : Bool) (d : DossierRows) (dated : Option DatedTerms) (day : DayRecord)
+    → CanBeWritten d dated day → CanBeWritten d dated (kept_day keeps day)
+day_kept keeps d dated day can = record {
+  passes = All-map (IsPassOf d) (kept_end keeps) day.passes
+      (λ k x lt. pass_kept keeps d (get_or day.passes k x) (can.passes k x lt));
+  lapses = can.lapses;
+}
+
+pub kept_written : (keeps : Bool) (d : DossierRows) (dated : Option DatedTerms) (days : List DayRecord)
+    → All (CanBeWritten d dated) days → All (CanBeWritten d dated) (map (kept_day keeps) days)
+kept_written keeps d dated days can =
+    All-map (CanBeWritten d dated) (kept_day keeps) days
+    (λ k x lt. day_kept keeps d dated (get_or days k x) (can k x lt))

@@ -1,5 +1,5 @@
 -- How a run over a job ends, by its mode.
-use Rattle.std.specs.Prelude.{◌≡◌, ℕ, List, [], ◌++◌, All, IfOk, IfSome, Result, Ok, Err, length}
+use Rattle.std.specs.Prelude.{◌≡◌, ℕ, Bool, List, [], ◌++◌, All, IfOk, IfSome, Result, Ok, Err, length}
 use Rattle.admit_core.specs.CallOrder.{AreCallOrders}
 use Rattle.admit_core.specs.Days.{first_evening}
 use Rattle.admit_core.specs.declared.refusal.Refusal.{Refusal}
@@ -9,6 +9,7 @@ use Rattle.desk_day.specs.DayPasses.{TellsMore}
 use Rattle.desk_day.specs.DeskStates.{DeskStates}
 use Rattle.intake.specs.Dated.{AreDatedFor, terms_in}
 use Rattle.intake.specs.Input.{Job, NamesIn}
+use Rattle.played.specs.KeptDays.{IsPlayedKept}
 use Rattle.played.specs.LastDays.{IsDeskAfter}
 use Rattle.played.specs.Lent.{Lent}
 use Rattle.played.specs.PlayedDays.{IsPlayed, Played}
@@ -81,15 +82,17 @@ AreDaysOf job = IsPlayed (dossier job) (terms_of job) (days_of job.request) job.
 
 -- what an ending rests on: the request is one that was read, its terms and what it names are those
 -- of the dossier, and the days are those that it asks for, with pickers that stood somehow before
--- and after them
+-- and after them. Their falls may be left out
 pub record CanEnd (seen : Seen) (played : Played) : Type 0 where
   pub request : IsRequest seen.request
   pub dated : IfSome seen.dated (AreDatedFor seen.dossier)
   pub named : NamesIn seen.request.mode seen.index
   pub index : seen.index ≡ ids_in seen.dossier
-  pub plays : (before : Lent) × (after : Lent)
-      × IsPlayed seen.dossier (terms_in seen.dated) (days_of seen.request) seen.request.picker
-      before played after
+  pub keeps : Bool
+  pub before : Lent
+  pub after : Lent
+  pub plays : IsPlayedKept keeps seen.dossier (terms_in seen.dated) (days_of seen.request)
+      seen.request.picker before played after
 
 -- what all modes may use once the days have led to a desk
 pub record CanBeEnded (seen : Seen) (played : Played) (desk : DeskStates) : Type 0 where

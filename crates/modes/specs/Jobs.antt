@@ -1,6 +1,6 @@
 -- What a job asks of its days.
-use Rattle.std.specs.Prelude.{◌≡◌, ◌<◌, ℕ, ◌+◌, List, Option, None, IsTrue, is_some, length, not, option_map}
-use Rattle.std.specs.Prelude.{if◌then◌else◌}
+use Rattle.std.specs.Prelude.{◌≡◌, ◌<◌, ℕ, ◌+◌, Bool, true, false, List, Option, None, IsTrue, is_some, length, not}
+use Rattle.std.specs.Prelude.{option_map, if◌then◌else◌}
 use Rattle.admit_core.specs.CallOrder.{AreCallOrders}
 use Rattle.admit_core.specs.Days.{Days, first_evening, unfit_on}
 use Rattle.admit_core.specs.DossierRows.{DossierRows}
@@ -17,6 +17,8 @@ use Rattle.intake.specs.declared.input.Input.{Input}
 use Rattle.intake.specs.declared.terms.DatedTerms.{DatedTerms}
 use Rattle.request.specs.Modes.{picks_after, runs_days, sample_of}
 use Rattle.request.specs.Pickers.{picker_on}
+use Rattle.request.specs.declared.modes.Mode.{Mode}
+use Rattle.request.specs.declared.modes.Mode.TheVariants.{Replay, Chain, Sample}
 use Rattle.request.specs.declared.pickers.PickerName.{PickerName}
 use Rattle.request.specs.declared.request.Deadlines.{Deadlines}
 use Rattle.request.specs.declared.request.Request.{Request}
@@ -24,6 +26,13 @@ use Rattle.request.specs.declared.request.Request.{Request}
 -- how many days are run
 abbrev pub days_of : Request → ℕ
 days_of request = if runs_days request.mode then request.days else 0
+
+-- the modes whose texts tell the falls of the days, or how many there were
+abbrev pub keeps_falls : Mode → Bool
+keeps_falls Replay = true
+keeps_falls Chain = true
+keeps_falls (Sample number) = true
+keeps_falls _ = false
 
 -- the picker that the ending is lent, of the modes that ask one once their days are over
 abbrev pub picker_after : Request → Option PickerName

@@ -5,7 +5,7 @@ ghost use Rattle.modes.specs.Jobs as Jobs;
 
 use admit_core::Terms;
 use intake::DatedTerms;
-use request::{Deadlines, PickerName, Request, picker_on, picks_after, runs_days, sample_of};
+use request::{Deadlines, Mode, PickerName, Request, picker_on, picks_after, runs_days, sample_of};
 
 /// How many days are run.
 pub fn days_of(request: &Request) -> u32
@@ -15,6 +15,19 @@ pub fn days_of(request: &Request) -> u32
         request.days
     } else {
         0
+    }
+}
+
+/// Whether the text of a mode tells the falls of the days, or how many there were. The days of any
+/// other need not keep them.
+pub fn keeps_falls(mode: Mode) -> bool
+    ensures { result ≡ Jobs.keeps_falls mode }
+{
+    match mode {
+        Mode::Replay => true,
+        Mode::Chain => true,
+        Mode::Sample { .. } => true,
+        _ => false,
     }
 }
 

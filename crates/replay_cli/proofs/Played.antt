@@ -1,6 +1,6 @@
 -- A job's days, and how the run ends after them.
-use Rattle.std.proofs.Common.{◌≡◌, ◌∙◌, ℕ, ◌+◌, List, [], ◌∷◌, Option, None, Some, Result, Ok, Err, IfOk, IfSome}
-use Rattle.std.proofs.Common.{IsSomeAnd, IsTrue, ap, inl, inr, option_map, refl, subst, sym}
+use Rattle.std.proofs.Common.{◌≡◌, ◌∙◌, ℕ, ◌+◌, Bool, List, [], ◌∷◌, Option, None, Some, Result, Ok, Err, IfOk, IfSome}
+use Rattle.std.proofs.Common.{IsSomeAnd, IsTrue, ap, inl, inr, option_map, refl, subst, sym, true}
 use Rattle.std.specs.Prelude.{is_some, not}
 use Rattle.std.proofs.lemmas.Bool.{cases_Bool, false≢true}
 use Rattle.admit_core.specs.CallOrder.{AreCallOrders}
@@ -22,13 +22,16 @@ use Rattle.intake.specs.declared.input.Input.{Input}
 use Rattle.intake.specs.declared.terms.DatedTerms.{DatedTerms}
 use Rattle.modes.specs.Asking.{OthersUntold, IsLent, TellsAfter}
 use Rattle.modes.specs.Endings.{CanEnd, EndsAfter, EndsWith, IsEndOf, IsEnding}
+use Rattle.modes.proofs.KeptEnds.{ends_after_whole}
 use Rattle.modes.proofs.CheckedExits.{IsAfterDays, check_done, check_exit, is_after}
 use Rattle.modes.specs.Checking.{CanBeDone, HandsInProof}
-use Rattle.modes.specs.Jobs.{AreDays, IsIdle, Seen, dated_of, days_of, deadlines_of, dossier, picker_after, seen_by}
-use Rattle.modes.specs.Jobs.{seen_of, terms_of}
+use Rattle.modes.specs.Jobs.{AreDays, IsIdle, Seen, dated_of, days_of, deadlines_of, dossier, keeps_falls}
+use Rattle.modes.specs.Jobs.{picker_after, seen_by, seen_of, terms_of}
 use Rattle.modes.specs.declared.exit.Exit.{Exit}
 use Rattle.modes.specs.declared.exit.Exit.TheVariants as exits
 use Rattle.modes.specs.declared.reply.Reply.{Reply}
+use Rattle.played.proofs.KeptDays.{played_whole}
+use Rattle.played.specs.KeptDays.{IsPlayedKept}
 use Rattle.played.specs.Lent.{Lent, Untold}
 use Rattle.played.specs.PlayedDays as PlayedDays
 use Rattle.played.specs.PlayedDays.{IsPlayed, Lead, Plan, Played, lent_after}
@@ -36,6 +39,7 @@ use Rattle.request.specs.Modes.{runs_days, sample_of}
 use Rattle.request.specs.Request.{IsDeadlines, IsRequest}
 use Rattle.request.specs.declared.modes.Mode.{Mode}
 use Rattle.request.specs.declared.modes.Mode.TheVariants as modes
+use Rattle.request.specs.declared.pickers.PickerChoice.{PickerChoice}
 use Rattle.request.specs.declared.pickers.PickerName.{PickerName}
 use Rattle.request.specs.declared.request.Request.{Request}
 
@@ -170,7 +174,24 @@ ending_done job before after exit text ending can =
       run = lead_days _ 1 _ before ending.played.days ending.days.last ending.days.days;
     }) ending.days.ends ending.ends can
 
--- the days of a request, as they were played over its input
+-- what an ending rests on, by what is kept of the days of a request
+ends_kept : (request : Request) (input : Input) (dated given : Option DatedTerms) (keeps : Bool)
+    (before between : Lent) (kept : Played) → IsRequest request → dated ≡ given
+    → IfSome given (AreDatedFor input.dossier) → NamesIn request.mode input.index → input.index ≡ ids_in input.dossier
+    → IsPlayedKept keeps input.dossier (terms_in dated) (days_of request) request.picker before kept between
+    → CanEnd (seen_by request input dated) kept
+ends_kept request input dated given keeps before between kept known same is named indexed plays = record {
+  request = known;
+  dated = subst (λ (x : Option DatedTerms). IfSome x (AreDatedFor input.dossier)) (sym same) is;
+  named = named;
+  index = indexed;
+  keeps = keeps;
+  before = before;
+  after = between;
+  plays = plays;
+}
+
+-- the days of a request, as they were played over its input, with all their falls
 module _ (request : Request) (known : IsRequest request) (input : Input) (dated given : Option DatedTerms)
     (terms : Option Terms) (number : ℕ) (before between : Lent) (played : Played) (same : dated ≡ given)
     (is : IfSome given (AreDatedFor input.dossier)) (terms_are : terms ≡ terms_in dated)
@@ -184,13 +205,9 @@ module _ (request : Request) (known : IsRequest request) (input : Input) (dated 
 
   pub can_end : NamesIn request.mode input.index → input.index ≡ ids_in input.dossier
       → CanEnd (seen_by request input dated) played
-  can_end named indexed = record {
-    request = known;
-    dated = subst (λ (x : Option DatedTerms). IfSome x (AreDatedFor input.dossier)) (sym same) is;
-    named = named;
-    index = indexed;
-    plays = (before, between, asked_days);
-  }
+  can_end named indexed =
+      ends_kept request input dated given true before between played known same is named indexed
+      (played, asked_days, sym (played_whole played))
 
   pub reply_ends : {E : Type 0} (after : Lent) (result : Result Reply E) (job : Job)
       → given ≡ option_map (dated_from input.dossier input.dates) (deadlines_of request)
@@ -202,6 +219,42 @@ module _ (request : Request) (known : IsRequest request) (input : Input) (dated 
       job_ends job request input.dossier input.index input.chain input.dates dated before between after played
       reply.exit reply.text.items is_job.request is_input.dossier is_input.index is_input.chain is_input.dates
       (same ∙ given_is) asked_days (record { ends = ends.ends; tells = ends.tells; lends = ends.lends })
+
+-- the same where the falls of the days are kept if the mode tells them
+module _ (request : Request) (known : IsRequest request) (input : Input) (dated given : Option DatedTerms)
+    (terms : Option Terms) (number : ℕ) (who : PickerChoice) (keeps : Bool) (before between : Lent) (kept : Played)
+        (same : dated ≡ given)
+    (is : IfSome given (AreDatedFor input.dossier)) (terms_are : terms ≡ terms_in dated)
+    (number_is : number ≡ days_of request) (who_is : who ≡ request.picker)
+    (falls_are : keeps ≡ keeps_falls request.mode)
+    (plays : IsPlayedKept keeps input.dossier terms number who before kept between) where
+  kept_days : IsPlayedKept (keeps_falls request.mode) input.dossier (terms_in dated) (days_of request) request.picker
+      before kept between
+  kept_days =
+      subst (λ (k : Bool). IsPlayedKept k input.dossier (terms_in dated) (days_of request) request.picker before kept
+      between) falls_are
+      (subst (λ (p : PickerChoice). IsPlayedKept keeps input.dossier (terms_in dated) (days_of request)
+      p before kept between) who_is
+      (subst (λ (n : ℕ). IsPlayedKept keeps input.dossier (terms_in dated) n who before kept
+      between) number_is
+      (subst (λ (t : Option Terms). IsPlayedKept keeps input.dossier t number who before kept
+      between) terms_are plays)))
+
+  pub can_end_kept : NamesIn request.mode input.index → input.index ≡ ids_in input.dossier
+      → CanEnd (seen_by request input dated) kept
+  can_end_kept named indexed =
+      ends_kept request input dated given (keeps_falls request.mode) before between kept known same is named indexed
+      kept_days
+
+  pub reply_ends_kept : {E : Type 0} (after : Lent) (result : Result Reply E) (job : Job)
+      → given ≡ option_map (dated_from input.dossier input.dates) (deadlines_of request)
+      → IsJobOf request job → IsInputOf job input
+      → EndsAfter kept.end (seen_by request input dated) kept between after result
+      → IfOk result (λ reply. IsEnding job before after reply.exit reply.text.items)
+  reply_ends_kept after result job given_is is_job is_input ends =
+      reply_ends request known input dated given (terms_in dated) (days_of request) before between kept_days.0 same is
+      refl refl kept_days.1 after result job given_is is_job is_input
+      (ends_after_whole (seen_by request input dated) kept kept_days.0 between after result kept_days.2 ends)
 
 -- a run that asks no picker, on its days or after them; told is what the pickers had told before it
 pub untold_idle : (request : Request) (told : PickerName → List ℕ) (between after : Lent)

@@ -11,8 +11,8 @@ ghost use Rattle.request.specs.Request.{IsRequest};
 
 use admit_core::OutOfMemory;
 use intake::{Input, Stop, dated_terms, take_in};
-use modes::{Reply, days_of, deadlines_of, ending, stopped, terms_in};
-use played::{Pickers, play};
+use modes::{Reply, days_of, deadlines_of, ending, keeps_falls, stopped, terms_in};
+use played::{Pickers, Wanted, play_wanted};
 use request::{Request, read_request};
 use slot_io::Shelf;
 use std::alloc::Global;
@@ -54,14 +54,13 @@ fn play_out(
     let dated = dated_terms(alloc, input, deadlines_of(request))?;
     let dated = dated.as_ref();
     let number = days_of(request);
-    let played = play(
-        alloc,
-        &input.dossier,
-        terms_in(dated),
+    let keeps_falls = keeps_falls(request.mode);
+    let wanted = Wanted {
         number,
-        request.picker,
-        pickers,
-    )?;
+        who: request.picker,
+        keeps_falls,
+    };
+    let played = play_wanted(alloc, &input.dossier, terms_in(dated), wanted, pickers)?;
     ending(alloc, request, input, dated, played, pickers)
 }
 

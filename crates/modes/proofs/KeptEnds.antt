@@ -1,0 +1,163 @@
+-- The text of a mode whose days keep no falls is that of the days themselves.
+use Rattle.std.proofs.Common.{◌≡◌, ◌∙◌, ℕ, Bool, List, Option, None, Some, Result, Ok, Err, ap, map, refl, subst}
+use Rattle.std.proofs.lemmas.Result.{IfOk-weaker}
+use Rattle.admit_core.specs.DossierRows.{DossierRows}
+use Rattle.admit_core.specs.Explanations.{LastPass}
+use Rattle.admit_core.specs.declared.ranking.CallOrder.{CallOrder}
+use Rattle.admit_core.specs.declared.records.DayRecord.{DayRecord}
+use Rattle.admit_core.specs.declared.refusal.Refusal.{Refusal}
+use Rattle.desk_day.specs.DeskStates.{DeskStates}
+use Rattle.desk_day.specs.KeptDays.{kept_day}
+use Rattle.dossier_check.specs.Ids.{Ids}
+use Rattle.explanations.specs.Sayings.{Explains}
+use Rattle.played.proofs.KeptDays.{played_whole}
+use Rattle.played.proofs.LastDay.{last_whole, pass_kept}
+use Rattle.played.specs.KeptDays.{kept_played}
+use Rattle.played.specs.Lent.{Lent}
+use Rattle.played.specs.PlayedDays.{Played}
+use Rattle.request.specs.declared.modes.Mode.{Mode}
+use Rattle.request.specs.declared.modes.Mode.TheVariants as modes
+use Rattle.request.specs.declared.pickers.PickerName.{PickerName}
+use Rattle.modes.specs.Asking.{ArePicks, Asked, TellsAfter, TellsLent}
+use Rattle.modes.specs.Beds.{IsAsked}
+use Rattle.modes.specs.Endings.{EndsAfter, EndsWith, IsEndOf, IsRefusedWith, lines_before}
+use Rattle.modes.specs.Explained.{IsExplained}
+use Rattle.modes.specs.Jobs.{Seen, keeps_falls, picker_after}
+use Rattle.modes.specs.declared.exit.Exit.{Exit}
+use Rattle.modes.specs.declared.reply.Reply.{Reply}
+
+-- what is asked of the last day
+module _ (keeps : Bool) (d : DossierRows) (ids : Ids) (orders : List CallOrder) (days : List DayRecord)
+    (desk : DeskStates) where
+  asked_whole : (school place : ℕ) (pass : LastPass)
+      → IsAsked d ids orders (map (kept_day keeps) days) desk school place pass
+      → IsAsked d ids orders days desk school place pass
+  asked_whole school place pass is =
+      let last = last_whole keeps days is.day is.is_last in
+      record {
+        is_place = is.is_place;
+        day = last.0;
+        is_last = last.1;
+        is_pass = is.is_pass ∙ pass_kept keeps d orders is.day last.0 desk last.2;
+      }
+
+  explained_whole : (wish : ℕ) (text : List ℕ)
+      → IsExplained d ids orders (map (kept_day keeps) days) desk wish text
+      → IsExplained d ids orders days desk wish text
+  explained_whole wish text is =
+      let last = last_whole keeps days is.day is.is_last in
+      record {
+        place = is.place;
+        is_place = is.is_place;
+        day = last.0;
+        is_last = last.1;
+        explanation = is.explanation;
+        explains = subst (λ (pass : LastPass). Explains pass desk.present is.place is.explanation)
+            (pass_kept keeps d orders is.day last.0 desk last.2) is.explains;
+        is_line = is.is_line;
+      }
+
+-- what was played, by what its mode keeps of it
+abbrev kept_in : Mode → Played → Played
+kept_in mode whole = kept_played (keeps_falls mode) whole
+
+module _ (seen : Seen) (whole : Played) where
+  end_whole : (mode : Mode) (desk : DeskStates) (exit : Exit) (text : List ℕ)
+      → IsEndOf mode seen (kept_in mode whole) desk exit text → IsEndOf mode seen whole desk exit text
+  end_whole modes.Order desk exit text ends = ends
+  end_whole modes.Replay desk exit text ends =
+      subst (λ (p : Played). IsEndOf modes.Replay seen p desk exit text) (played_whole whole) ends
+  end_whole modes.Chain desk exit text ends =
+      subst (λ (p : Played). IsEndOf modes.Chain seen p desk exit text) (played_whole whole) ends
+  end_whole modes.Check desk exit text ends = ends
+  end_whole (modes.Explain wish) desk exit text ends = (
+    ends.0,
+    explained_whole (keeps_falls (modes.Explain wish)) seen.dossier seen.index whole.orders whole.days desk
+        wish text ends.1,
+  )
+  end_whole modes.Envy desk exit text ends = ends
+  end_whole (modes.Beds school) desk exit text ends =
+      let keeps = keeps_falls (modes.Beds school) in
+      let tells = ends.1 in (
+        ends.0,
+        record {
+          place = tells.place;
+          pass = tells.pass;
+          figures = tells.figures;
+          is_asked = asked_whole keeps seen.dossier seen.index whole.orders whole.days desk school tells.place
+              tells.pass tells.is_asked;
+          is_text = tells.is_text;
+        },
+      )
+  end_whole modes.Market desk exit text ends = ends
+  end_whole (modes.Sample number) desk exit text ends =
+      subst (λ (p : Played). IsEndOf (modes.Sample number) seen p desk exit text) (played_whole whole) ends
+
+  lines_whole : (mode : Mode) → lines_before mode seen (kept_in mode whole) ≡ lines_before mode seen whole
+  lines_whole modes.Order = refl
+  lines_whole modes.Replay = ap (λ (p : Played). lines_before modes.Replay seen p) (played_whole whole)
+  lines_whole modes.Chain = refl
+  lines_whole modes.Check = refl
+  lines_whole (modes.Explain wish) = refl
+  lines_whole modes.Envy = refl
+  lines_whole (modes.Beds school) = refl
+  lines_whole modes.Market = refl
+  lines_whole (modes.Sample number) = refl
+
+  with_whole : (end : Result DeskStates Refusal) (exit : Exit) (text : List ℕ)
+      → EndsWith end seen (kept_in seen.request.mode whole) exit text → EndsWith end seen whole exit text
+  with_whole (Ok desk) exit text ends = end_whole seen.request.mode desk exit text ends
+  with_whole (Err refusal) exit text ends =
+      subst (λ (lines : List ℕ). IsRefusedWith refusal lines exit text) (lines_whole seen.request.mode) ends
+
+  -- what the picker tells that is lent
+  picks_whole : (mode : Mode) (desk : DeskStates) (before : Asked) (picks : List ℕ)
+      → ArePicks mode seen (kept_in mode whole) desk before picks → ArePicks mode seen whole desk before picks
+  picks_whole modes.Order desk before picks are = are
+  picks_whole modes.Replay desk before picks are = are
+  picks_whole modes.Chain desk before picks are = are
+  picks_whole modes.Check desk before picks are = are
+  picks_whole (modes.Explain wish) desk before picks are = are
+  picks_whole modes.Envy desk before picks are = are
+  picks_whole (modes.Beds school) desk before picks are =
+      let keeps = keeps_falls (modes.Beds school) in
+      record {
+        place = are.place;
+        pass = are.pass;
+        figures = are.figures;
+        is_asked = asked_whole keeps seen.dossier seen.index whole.orders whole.days desk school are.place are.pass
+            are.is_asked;
+        are_figures = are.are_figures;
+        tells = are.tells;
+      }
+  picks_whole modes.Market desk before picks are = are
+  picks_whole (modes.Sample number) desk before picks are = are
+
+  lent_whole : (name : Option PickerName) (desk : DeskStates) (before after : Lent)
+      → TellsLent name (ArePicks seen.request.mode seen (kept_in seen.request.mode whole) desk) before after
+      → TellsLent name (ArePicks seen.request.mode seen whole desk) before after
+  lent_whole None desk before after tells = tt
+  lent_whole (Some name) desk before after tells =
+      (tells.0, picks_whole seen.request.mode desk _ tells.0 tells.1, tells.2)
+
+  tells_whole : (end : Result DeskStates Refusal) (before after : Lent)
+      → TellsAfter end seen (kept_in seen.request.mode whole) before after → TellsAfter end seen whole before after
+  tells_whole (Ok desk) before after tells = lent_whole (picker_after seen.request) desk before after tells
+  tells_whole (Err refusal) before after tells = tells
+
+  kept_after : {E : Type 0} (between after : Lent) (result : Result Reply E)
+      → EndsAfter whole.end seen (kept_in seen.request.mode whole) between after result
+      → EndsAfter whole.end seen whole between after result
+  kept_after between after result ends = record {
+    ends = IfOk-weaker result _ _ (λ reply is. with_whole whole.end reply.exit reply.text.items is) ends.ends;
+    tells = IfOk-weaker result _ _ (λ reply is. tells_whole whole.end between after is) ends.tells;
+    lends = ends.lends;
+  }
+
+-- how a run ends after days of which its mode keeps what it tells
+pub ends_after_whole : {E : Type 0} (seen : Seen) (kept whole : Played) (between after : Lent) (result : Result Reply E)
+    → kept ≡ kept_played (keeps_falls seen.request.mode) whole
+    → EndsAfter kept.end seen kept between after result → EndsAfter whole.end seen whole between after result
+ends_after_whole seen kept whole between after result same ends =
+    kept_after seen whole between after result
+    (subst (λ (p : Played). EndsAfter p.end seen p between after result) same ends)
