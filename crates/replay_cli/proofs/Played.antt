@@ -223,7 +223,7 @@ module _ (request : Request) (known : IsRequest request) (input : Input) (dated 
 -- the same where the falls of the days are kept if the mode tells them
 module _ (request : Request) (known : IsRequest request) (input : Input) (dated given : Option DatedTerms)
     (terms : Option Terms) (number : ℕ) (who : PickerChoice) (keeps : Bool) (before between : Lent) (kept : Played)
-        (same : dated ≡ given)
+    (same : dated ≡ given)
     (is : IfSome given (AreDatedFor input.dossier)) (terms_are : terms ≡ terms_in dated)
     (number_is : number ≡ days_of request) (who_is : who ≡ request.picker)
     (falls_are : keeps ≡ keeps_falls request.mode)

@@ -25,7 +25,7 @@ pub returns-clause-ends : goal.returns-clause-ends
 returns-clause-ends g c =
     λ job is_job is_input.
     reply_ends_kept c.args.request.now c.requires.request c.args.input.now _ _ _ _ _ _ _ _ _
-        c.as_ref-dated.ensures.value
+    c.as_ref-dated.ensures.value
     c.in_ok-dated.ensures.dates c.terms_in.ensures c.days_of-number.ensures refl c.keeps_falls-keeps_falls.ensures
     c.in_ok-played.ensures.played _ c.ending.result job (c.in_ok-dated.ensures.value
     ∙ ap (option_map (dated_from c.args.input.now.dossier c.args.input.now.dates)) c.deadlines_of.ensures) is_job
