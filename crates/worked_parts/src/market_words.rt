@@ -1,5 +1,6 @@
 //! Markets in words, by each picker.
-ghost use Rattle.std.specs.Prelude.{◌≡◌, ◌<◌};
+ghost use Rattle.std.specs.Prelude.{◌≡◌, ◌<◌, IfOk};
+ghost use Rattle.markets.specs.Matchings.{IsStable};
 
 use crate::texts::{numbers_in, push_places, push_word, push_words};
 use admit_core::{OutOfMemory, Steps};
@@ -71,6 +72,7 @@ fn solved_counted<L: Ledger>(
     requires name { blank.name ≡ L.name }
     requires parts { blank.parts ≡ L.parts }
     requires shared { 0 < L.parts }
+    ensures { IfOk result (λ solved. IsStable market.now solved.places.items) }
 {
     let mut steps: Steps<L> = Steps::new(blank);
     solve(alloc, market, picker, &mut steps)
@@ -81,7 +83,9 @@ pub(crate) fn solved(
     alloc: Global,
     market: &Market,
     picker: &mut dyn Picker,
-) -> Result<Solved, OutOfMemory> {
+) -> Result<Solved, OutOfMemory>
+    ensures { IfOk result (λ solved. IsStable market.now solved.places.items) }
+{
     solved_counted::<Brand>(alloc, Blank::new(1), market, picker)
 }
 

@@ -1,13 +1,17 @@
 //! Small markets, each against all its matchings: what `solve` answers is stable, and for each
 //! candidate the best of all that are; these place the same candidates, and nobody gets a programme
-//! that they prefer by handing in another list.
+//! that they prefer by handing in another list. The first blocks that are told are those of a plain
+//! search.
+
+ghost use Rattle.std.specs.Prelude.{◌≡◌, IfOk};
+ghost use Rattle.markets.specs.Matchings.{IsMatching, IsStable};
 
 use crate::market_rows::{LISTS, Rows, rows_of};
 use crate::market_words::solved;
-use crate::plain::{is_as_good, is_stable, liking, place_of, places_of};
+use crate::plain::{is_as_good, is_stable, liking, place_of, places_of, plain_block};
 use admit_core::OutOfMemory;
 use bar_fixpoint::FirstPicker;
-use stable_market::Market;
+use stable_market::{Market, MarketBlock, first_block};
 use std::alloc::Global;
 
 /// How many choices of an entry of the list or none four candidates have.
@@ -101,10 +105,57 @@ fn found_of(alloc: Global, rows: &Rows, best: &[Option<u32>]) -> Result<Found, O
 }
 
 /// The places that `solve` answers.
-fn best_of(alloc: Global, market: &Market) -> Result<Vec<Option<u32>>, OutOfMemory> {
+fn best_of(alloc: Global, market: &Market) -> Result<Vec<Option<u32>>, OutOfMemory>
+    ensures { IfOk result (λ places. IsStable market.now places.items) }
+{
     let mut picker = FirstPicker::new(alloc);
     let solved = solved(alloc, market, &mut picker)?;
     Ok(solved.places)
+}
+
+/// The matching in which nobody has a place.
+fn nobody_placed(alloc: Global, market: &Market) -> Result<Vec<Option<u32>>, OutOfMemory>
+    ensures { IfOk result (λ places. IsMatching market.now places.items) }
+{
+    let places = vec![in alloc; None; market.candidates() as usize]?;
+    Ok(places)
+}
+
+/// What `first_block` answers where nobody has a place.
+fn block_of_nobody(alloc: Global, market: &Market) -> Result<Option<MarketBlock>, OutOfMemory> {
+    let places = nobody_placed(alloc, market)?;
+    first_block(alloc, market, places.as_slice())
+}
+
+/// Whether two blocks are the same.
+fn is_same(one: Option<MarketBlock>, other: Option<MarketBlock>) -> bool {
+    match (one, other) {
+        (None, None) => true,
+        (Some(one), Some(other)) => {
+            one.candidate == other.candidate && one.programme == other.programme
+        }
+        _ => false,
+    }
+}
+
+/// What is wrong with the first blocks that are told of a market: of the best matching there is
+/// none, and where nobody has a place it is that of a plain search.
+fn wrong_block(
+    alloc: Global,
+    rows: &Rows,
+    market: &Market,
+    best: &[Option<u32>],
+) -> Result<Option<&'static str>, OutOfMemory>
+    requires { IsStable market.now best.now }
+{
+    if first_block(alloc, market, best)?.is_some() {
+        return Ok(Some("is told to be blocked"));
+    }
+    let nobody: [Option<u32>; 4] = [None, None, None, None];
+    if !is_same(block_of_nobody(alloc, market)?, plain_block(rows, &nobody)) {
+        return Ok(Some("has another first block"));
+    }
+    Ok(None)
 }
 
 /// What is found of the market of a number.
@@ -114,6 +165,9 @@ fn tried(alloc: Global, number: u64) -> Result<Found, OutOfMemory> {
         return Ok(Found::Fails("is no market"));
     };
     let best = best_of(alloc, &market)?;
+    if let Some(what) = wrong_block(alloc, &rows, &market, &best)? {
+        return Ok(Found::Fails(what));
+    }
     found_of(alloc, &rows, &best)
 }
 

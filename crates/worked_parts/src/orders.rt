@@ -3,7 +3,7 @@ ghost use Rattle.std.specs.Prelude.{All};
 ghost use Rattle.admit_core.specs.Validity.{IsRanking};
 
 use crate::tables::ranked;
-use crate::texts::push_word;
+use crate::texts::{push_word, refusal_told};
 use admit_core::{Bound, CallOrder, Dossier, InFault, OutOfMemory, RankGroup};
 use call_order::call_order;
 use scanned_order::call_order_scanned;
@@ -96,7 +96,7 @@ fn order_shown(alloc: Global, dossier: &Dossier) -> Result<String, OutOfMemory> 
 pub(crate) fn order_in(alloc: Global, input: &str) -> Result<String, OutOfMemory> {
     match group_in(alloc, input) {
         Ok(dossier) => order_shown(alloc, &dossier),
-        Err(InFault::Refused(refusal)) => Ok(format!(in alloc; "{refusal}")?),
+        Err(InFault::Refused(refusal)) => refusal_told(alloc, &refusal),
         Err(InFault::OutOfMemory) => Err(OutOfMemory),
     }
 }

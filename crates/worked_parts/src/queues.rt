@@ -3,7 +3,7 @@ ghost use Rattle.std.specs.Prelude.{◌≡◌, ◌<◌, All};
 ghost use Rattle.admit_core.specs.Validity.{IsRanking};
 
 use crate::orders::group_in;
-use crate::texts::{push_word, push_words};
+use crate::texts::{push_word, push_words, refusal_told};
 use admit_core::{Dossier, InFault, OutOfMemory, RankGroup, Steps};
 use call_order::call_order_queued;
 use call_queues::{Kind, Queues};
@@ -121,7 +121,7 @@ fn shown(alloc: Global, dossier: &Dossier) -> Result<String, OutOfMemory> {
 pub(crate) fn queues_in(alloc: Global, input: &str) -> Result<String, OutOfMemory> {
     match group_in(alloc, input) {
         Ok(dossier) => shown(alloc, &dossier),
-        Err(InFault::Refused(refusal)) => Ok(format!(in alloc; "{refusal}")?),
+        Err(InFault::Refused(refusal)) => refusal_told(alloc, &refusal),
         Err(InFault::OutOfMemory) => Err(OutOfMemory),
     }
 }

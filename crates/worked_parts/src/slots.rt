@@ -1,6 +1,6 @@
 //! Slots as rows, and their refusals.
 
-use crate::texts::{bytes_in, rows_shown};
+use crate::texts::{bytes_in, refusal_told, rows_shown};
 use admit_core::{InFault, OutOfMemory, Slot};
 use case_file::slot_named;
 use dossier_csv::{
@@ -17,11 +17,7 @@ fn shown<T: Debug + Drop>(
 ) -> Result<String, OutOfMemory> {
     match rows {
         Ok(rows) => rows_shown(alloc, rows.as_slice()),
-        Err(InFault::Refused(refusal)) => {
-            let mut text = String::new(alloc);
-            refusal.push_onto(&mut text)?;
-            Ok(text)
-        }
+        Err(InFault::Refused(refusal)) => refusal_told(alloc, &refusal),
         Err(InFault::OutOfMemory) => Err(OutOfMemory),
     }
 }

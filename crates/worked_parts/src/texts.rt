@@ -1,8 +1,15 @@
 //! Inputs and answers as texts.
 
-use admit_core::OutOfMemory;
+use admit_core::{OutOfMemory, Refusal};
 use std::alloc::Global;
 use std::fmt::{Debug, Display, Write};
+
+/// The line of a refusal.
+pub(crate) fn refusal_told(alloc: Global, refusal: &Refusal) -> Result<String, OutOfMemory> {
+    let mut text = String::new(alloc);
+    refusal.push_onto(&mut text)?;
+    Ok(text)
+}
 
 /// The bytes of a text, in which `<178>` is the byte of that number, and `<>` is nothing.
 pub(crate) fn bytes_in(alloc: Global, text: &str) -> Result<Vec<u8>, OutOfMemory> {
