@@ -1,8 +1,14 @@
 use Rattle.std.proofs.Common.{◌∙◌, ap, option_map, refl, sym}
 use Rattle.intake.specs.Dated.{dated_from}
 use Rattle.played.proofs.Naming.{back_again}
-use Rattle.morning_cli.proofs.Mornings.{ends_morning, ends_refused, offers_dated}
+use Rattle.morning_cli.proofs.Mornings.{can, ends_morning, ends_refused, offers_dated}
 use Rattle.morning_cli.proofs.answer.play_out.Goals as goal
+
+pub ending-requires-clause-can : goal.ending-requires-clause-can
+ending-requires-clause-can g c =
+    can c.args.asked.now c.requires.asked c.args.input.now _ _ _ _ _ _ _ c.as_ref-dated.ensures.value
+    c.in_ok-dated.ensures.dates c.terms_in.ensures c.days_of-number.ensures c.in_ok-played.ensures.played
+    c.requires.indexed
 
 pub returns-then-is_err-clause-back : goal.returns-then-is_err-clause-back
 returns-then-is_err-clause-back g c =
