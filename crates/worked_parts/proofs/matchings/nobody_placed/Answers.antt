@@ -25,7 +25,8 @@ nobody m n as_many =
     record {
       one_place_each = length-replicate n None ∙ as_many;
       listed = λ x p at. absurd (cc (at, none_at n x));
-      seated = λ p lt. let none : length (holders (replicate n None) p) ≡ 0 = ap length (nobody_held n p) in omega (arith, none);
+      seated = λ p lt. let none : length (holders (replicate n None) p) ≡ 0 = ap length (nobody_held n p) in
+          omega (arith, none);
     }
 
 pub returns : goal.returns
