@@ -172,6 +172,7 @@ def check_printed(tally: Tally, folder: Path, beds: list[str]) -> None:
     tally.check("nothing is kept", is_refused(call(folder, "beds"), 3))
     tally.check("nothing is kept of earlier ones", is_refused(call(folder, "beds", "--earlier"), 3))
     tally.check("no such file", is_refused(call(folder, "--from", "none"), 3))
+    tally.check("a file that tells of none", is_refused(call(folder, "--from", "crates/beds/src/lib.rt"), 3))
     tally.equal("tried, and nothing kept", call(folder, "beds", "--try").output.decode(), printed + told)
     log = f"rt: beds proved\n{printed}3 passed, 0 failed\n"
     (folder / "log").write_text(log)
