@@ -6,6 +6,7 @@ Status: 0 none are left, 1 some are, 2 bad words."""
 import glob
 import os
 import re
+import signal
 import sys
 import textwrap
 
@@ -108,6 +109,8 @@ def break_file(path):
 
 
 def main():
+    # Where the reader of a pipe has gone, as head does, this ends as other programs do.
+    signal.signal(signal.SIGPIPE, signal.SIG_DFL)
     words = sys.argv[1:]
     if set(words) & {"--help", "-h", "help"}:
         print("usage: break_lines.py [CRATE..]\n" + textwrap.fill(" ".join(__doc__.split()), 80))

@@ -12,6 +12,7 @@ import collections
 import glob
 import os
 import re
+import signal
 import sys
 import textwrap
 
@@ -212,6 +213,8 @@ class Book:
 
 
 def main(words):
+    # Where the reader of a pipe has gone, as head does, this ends as other programs do.
+    signal.signal(signal.SIGPIPE, signal.SIG_DFL)
     if set(words) & {"--help", "-h", "help"}:
         print("usage: laws_without_witness.py [--list]\n" + textwrap.fill(" ".join(__doc__.split()), 80))
         return 0

@@ -10,6 +10,7 @@ import functools
 import os
 import queue
 import shutil
+import signal
 import sys
 import textwrap
 import threading
@@ -17,6 +18,8 @@ import time
 
 sys.dont_write_bytecode = True
 if set(sys.argv[1:]) & {"--help", "-h", "help"}:
+    # Where the reader of a pipe has gone, as head does, this ends as other programs do.
+    signal.signal(signal.SIGPIPE, signal.SIG_DFL)
     print(textwrap.fill(" ".join(__doc__.split()), 80))
     sys.exit(0)
 if len(sys.argv) != 2:

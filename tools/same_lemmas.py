@@ -6,6 +6,7 @@ import collections
 import glob
 import os
 import re
+import signal
 import sys
 import textwrap
 
@@ -36,6 +37,8 @@ def without_names(statement):
 
 
 def main():
+    # Where the reader of a pipe has gone, as head does, this ends as other programs do.
+    signal.signal(signal.SIGPIPE, signal.SIG_DFL)
     if set(sys.argv[1:]) & {"--help", "-h", "help"}:
         print("usage: same_lemmas.py\n" + textwrap.fill(" ".join(__doc__.split()), 80))
         return 0

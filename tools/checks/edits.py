@@ -1,4 +1,5 @@
-"""Checks of edit_clauses, with a stand-in for the kit that keeps some tries of a made-up crate."""
+"""Checks of edit_clauses, with a stand-in for the kit that keeps some tries of a made-up crate, and with one that
+keeps none and only prints them."""
 
 import hashlib
 import json
@@ -32,6 +33,15 @@ if __name__ == "__main__":
                         "function ensures holds when it returns (`returns-clause-all`)"
                     with open(f"{STORE}/edits/{name}", "w") as file:
                         json.dump({"edit": name, "kind": "refused", "text": said}, file)
+'''
+# The same kit, but that it keeps nothing: it prints what it refuses.
+FORGETS = KIT[:KIT.index("def kit_sum")].replace("STORE", "STORED") + '''
+def edits_of(crate): return sorted(glob.glob(f"{crate.folder}/must-fail/*.edit")), []
+if __name__ == "__main__":
+    with open(STORED + "/printed") as file:
+        lines = file.read().splitlines()
+    for name in sys.argv[2:]:
+        print(*(line for line in lines if line.startswith(f"rt: must-fail {name}/")), sep="\\n")
 '''
 SOURCE = """/// Beds that are left.
 pub fn left(beds: u32) -> u32
@@ -77,9 +87,11 @@ TRIES = {
     "long": ("limit", "refused, as it must be (only by a limit): src/lib.rt:2:1: error: outgrew (`returns`)",
              "limit, left: ensures"),
     "odd": ("bad", "BAD EDIT: there is no file src/odd.rt", "bad, BAD EDIT: there is no file src/odd.rt"),
+    "proved": ("bad", "NOT REFUSED: the crate is still proved with this edit",
+               "bad, NOT REFUSED: the crate is still proved with this edit"),
 }
 SUM = "of which {} not tried here: 5 refused at a clause or a safety condition, 3 at an answer that shows the " \
-    "changed value, 1 at an answer that is told only in part, 2 only for form, 1 at a limit; 1 bad"
+    "changed value, 1 at an answer that is told only in part, 2 only for form, 1 at a limit; 2 bad"
 
 
 def keep(kit: Path, edit: Path, kind: str, said: str, of: str = "now") -> None:
@@ -107,8 +119,8 @@ def make_tree(folder: Path) -> None:
     (folder / "crates/seats/must-fail/new.edit").write_text("new\n")
 
 
-def call(folder: Path, *words: str) -> Ended:
-    return run(folder / "tools/edit_clauses", *words, folder=folder,
+def call(folder: Path, *words: str, given: bytes = b"") -> Ended:
+    return run(folder / "tools/edit_clauses", *words, folder=folder, given=given,
                environment={"PATH": f"{folder / 'bin'}:{os.environ['PATH']}"})
 
 
@@ -123,9 +135,9 @@ def check_edits(tally: Tally) -> None:
             tally.equal(f"{name}: its end", (ended.status, ended.complaint), (0, ""))
             tally.equal(name, ended.output.decode().splitlines(), lines)
 
-        told("one crate", ("beds",), [*beds, f"13 edits, {SUM.format('0 were')}"])
+        told("one crate", ("beds",), [*beds, f"14 edits, {SUM.format('0 were')}"])
         told("all", (), [*beds, "seats", "    changed: not tried here", "    new: not tried here",
-                         f"15 edits, {SUM.format('2 were')}"])
+                         f"16 edits, {SUM.format('2 were')}"])
         told("earlier ones", ("seats", "--earlier"), [
             "seats", "    changed: safety (with other files), src/lib.rt: bounds-take-from", "    new: not tried here",
             "2 edits, of which 1 were not tried here: 1 refused at a clause or a safety condition, 0 at an answer that "
@@ -135,12 +147,37 @@ def check_edits(tally: Tally) -> None:
                 path.write_text("{")
         told("a try that is not whole", ("beds",), [
             *(line if "odd" not in line else "    odd: not tried here" for line in beds),
-            f"13 edits, {SUM.format('1 were').replace('1 bad', '0 bad')}"])
+            f"14 edits, {SUM.format('1 were').replace('2 bad', '1 bad')}"])
         told("tried now", ("seats", "--try"), [
             "seats", "    changed: clause, src/lib.rt: ensures all", "    new: clause, src/lib.rt: ensures all",
             "2 edits, of which 0 were not tried here: 2 refused at a clause or a safety condition, 0 at an answer that "
             "shows the changed value, 0 at an answer that is told only in part, 0 only for form, 0 at a limit; 0 bad"])
-        for words in (("none",), ("--fly",), ("",), ("../crates",), ("beds", "--earlie")):
+        for words in (("none",), ("--fly",), ("",), ("../crates",), ("beds", "--earlie"), ("--from",),
+                      ("--from", "kept", "--try"), ("beds", "--from", "kept", "--earlier")):
             ended = call(folder, *words)
-            is_told = ended.status == 2 and ended.complaint.count("\n") == 1 and not ended.output
-            tally.check(f"bad words {words}", is_told, ended)
+            tally.check(f"bad words {words}", is_refused(ended, 2), ended)
+        check_printed(tally, folder, beds)
+
+
+def is_refused(ended: Ended, status: int) -> bool:
+    return ended.status == status and ended.complaint.count("\n") == 1 and not ended.output
+
+
+def check_printed(tally: Tally, folder: Path, beds: list[str]) -> None:
+    """With a kit that keeps nothing it reads what rt printed, now or before."""
+    (folder / "bin/rt").write_text(FORGETS)
+    printed = "".join(f"rt: must-fail beds/{name}.edit: {TRIES[name][1]}\n" for name in sorted(TRIES))
+    (folder / "kept/printed").write_text(printed)
+    told = "\n".join([*beds, f"14 edits, {SUM.format('0 were')}\n"])
+    tally.check("nothing is kept", is_refused(call(folder, "beds"), 3))
+    tally.check("nothing is kept of earlier ones", is_refused(call(folder, "beds", "--earlier"), 3))
+    tally.check("no such file", is_refused(call(folder, "--from", "none"), 3))
+    tally.check("a file that tells of none", is_refused(call(folder, "--from", "crates/beds/src/lib.rt"), 3))
+    tally.equal("tried, and nothing kept", call(folder, "beds", "--try").output.decode(), printed + told)
+    log = f"rt: beds proved\n{printed}3 passed, 0 failed\n"
+    (folder / "log").write_text(log)
+    tally.equal("what was printed", call(folder, "--from", "log").output.decode(), told)
+    tally.equal("what was printed of a crate", call(folder, "--from", "log", "beds").output.decode(), told)
+    tally.equal("what comes in", call(folder, "--from", "-", given=log.encode()).output.decode(), told)
+    others = call(folder, "seats", "--from", "log").output.decode()
+    tally.check("a crate that was not printed", others.count("not tried here\n") == 2, others)

@@ -2,7 +2,7 @@
 -- One mark: Counting, Places, KeptCounts, Lost, Freeing, Change, SameMarks, Flagged (who waits).
 -- The order by candidate: Ordering, Keys, Runs. A candidate's wishes: Along, Changing, Best, Taking.
 -- Bundles, from bottom to top: Numbering (their first wishes), Sharing (which have a count),
--- Bundled (what a count tells of its candidate), the longest of the folder.
+-- Bundled (how many of a bundle are live), Telling (what that tells of its candidate).
 -- Days: OneAccepted, Filled, Lapsing, Answering, Independence (candidates stand apart), and last
 -- FittingLists.
 pub mod Counting
@@ -25,6 +25,7 @@ pub mod Answering
 pub mod Filled
 pub mod Flagged
 pub mod Bundled
+pub mod Telling
 pub mod Independence
 pub mod Lapsing
 pub mod FittingLists

@@ -2,7 +2,8 @@ use Rattle.std.proofs.Common.{◌≡◌, ◌∙◌, ◌<◌, length, ap, sym}
 use Rattle.admit_core.specs.State.{State, is_live}
 use Rattle.day_state.specs.Bundles.{number_at, has_live}
 use Rattle.day_state.specs.Kept.{mark_in, has_seat_there}
-use Rattle.day_state.proofs.Bundled.{has_number, has_seat_is}
+use Rattle.day_state.proofs.Bundled.{has_number}
+use Rattle.day_state.proofs.Telling.{has_seat_is}
 use Rattle.day_state.proofs.counted_marks.CountedMarks.is_live_in_its_programme.Goals as goal
 
 pub is_live-requires : goal.is_live-requires

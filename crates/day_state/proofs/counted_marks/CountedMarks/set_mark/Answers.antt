@@ -3,7 +3,8 @@ use Rattle.admit_core.specs.DossierRows.{DossierRows}
 use Rattle.admit_core.specs.State.{is_live}
 use Rattle.admit_core.specs.Validity.{IsValid}
 use Rattle.day_state.proofs.Change.{seat_ready, bed_ready, freed_changed}
-use Rattle.day_state.proofs.Bundled.{can_turn, keeps_changed, seat_turned, bed_turned}
+use Rattle.day_state.proofs.Bundled.{can_turn}
+use Rattle.day_state.proofs.Telling.{keeps_changed, seat_turned, bed_turned}
 use Rattle.day_state.proofs.counted_marks.CountedMarks.set_mark.Goals as goal
 
 pub turn-seat-requires : goal.turn-seat-requires
