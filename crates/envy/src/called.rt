@@ -4,7 +4,6 @@ ghost use Rattle.std.specs.List.{IsDistinct, position_or_len};
 ghost use Rattle.admit_core.specs.CallOrder.{AreCallOrders};
 ghost use Rattle.admit_core.specs.DossierRows.{group_of};
 ghost use Rattle.indexmap.specs.IndexSet.{hasher_of};
-ghost use Rattle.keyed_hash.specs.Keys.{mixed_in};
 ghost use Rattle.envy.specs.Hashing.{keyed_by_candidates};
 ghost use Rattle.envy.specs.Known.{place_of};
 
@@ -15,21 +14,13 @@ use keyed_hash::{KeyMaker, Keyed};
 use proposals::call_everyone;
 use std::alloc::Global;
 
-/// A key with one candidate more mixed in.
-fn mixed(mut key: KeyMaker, candidate: u32) -> KeyMaker
-    ensures { result ≡ mixed_in key (candidate, 0) }
-{
-    key.mix(candidate, 0);
-    key
-}
-
 /// Hashing by a key of these candidates.
-fn hashing_of(candidates: &[u32]) -> Keyed
+fn keyed_by_candidates(candidates: &[u32]) -> Keyed
     ensures { result ≡ keyed_by_candidates candidates.now }
 {
     let key = candidates
         .iter()
-        .fold(KeyMaker::new(), |key, candidate| mixed(key, *candidate));
+        .fold(KeyMaker::new(), |key, candidate| key.with(*candidate, 0));
     key.done()
 }
 
@@ -39,7 +30,7 @@ fn set_of(alloc: Global, order: &[u32]) -> Result<IndexSet<u32, Keyed>, OutOfMem
     ensures keys { IfOk result (λ set. set.keys ≡ order.now) }
     ensures hashing { IfOk result (λ set. hasher_of set ≡ keyed_by_candidates order.now) }
 {
-    let mut set = IndexSet::with_hasher(alloc, hashing_of(order));
+    let mut set = IndexSet::with_hasher(alloc, keyed_by_candidates(order));
     for candidate in order {
         set.insert(*candidate)?;
     }

@@ -1,7 +1,6 @@
 //! What each candidate holds, and up to where in each call order somebody is live.
 ghost use Rattle.std.specs.Prelude.{◌≡◌, ◌==◌, ◌&&◌, ◌||◌, ◌<◌, ℕ, IfOk, List, OnOk, length, map, nat_eq, nat_le, nat_lt};
 ghost use Rattle.indexmap.specs.IndexMap.{get, hasher_of};
-ghost use Rattle.keyed_hash.specs.Keys.{mixed_in};
 ghost use Rattle.admit_core.specs.declared.ranking.CallOrder.{CallOrder};
 ghost use Rattle.admit_core.specs.State.{entries, is_live};
 ghost use Rattle.day_state.specs.Bundles.{number_in};
@@ -43,21 +42,13 @@ fn later(known: Option<usize>, place: usize) -> usize
     }
 }
 
-/// A key with one wish more mixed in.
-fn mixed(mut key: KeyMaker, wish: Wish) -> KeyMaker
-    ensures { result ≡ mixed_in key (wish.candidate, wish.id) }
-{
-    key.mix(wish.candidate, wish.id);
-    key
-}
-
 /// Hashing by a key of the wishes' candidates.
-fn hashing_of(wishes: &[Wish]) -> Keyed
+fn keyed_by_wishes(wishes: &[Wish]) -> Keyed
     ensures { result ≡ keyed_by_wishes wishes.now }
 {
-    let key = wishes
-        .iter()
-        .fold(KeyMaker::new(), |key, wish| mixed(key, *wish));
+    let key = wishes.iter().fold(KeyMaker::new(), |key, wish| {
+        key.with(wish.candidate, wish.id)
+    });
     key.done()
 }
 
@@ -89,7 +80,7 @@ pub(crate) fn best_wishes(
 {
     let _ = state.marks(); // one for each wish
     let dossier = state.dossier();
-    let hashing = hashing_of(dossier.wishes.as_slice());
+    let hashing = keyed_by_wishes(dossier.wishes.as_slice());
     let mut best = IndexMap::with_hasher(alloc, hashing);
     for place in 0..wish_count(state) {
         note_best(&mut best, wish_at(state, place), mark_at(state, place))?;

@@ -25,3 +25,7 @@ done key = record { begun = fold folding.write folding.initial (fed.u64 (sip.fin
 -- the hashing by the key of lists of pairs of numbers, one list after another
 abbrev pub keyed_by : List (List (ℕ × ℕ)) → Keyed
 keyed_by lists = done (fold (fold mixed_in) fresh lists)
+
+-- the hashing by the key of the two numbers of each item
+abbrev pub keyed_by_each : {X : Type 0} → (X → ℕ × ℕ) → List X → Keyed
+keyed_by_each numbers xs = done (fold (λ key x. mixed_in key (numbers x)) fresh xs)

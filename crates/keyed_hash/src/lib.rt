@@ -33,6 +33,14 @@ impl KeyMaker {
             .write_u64((u64::from(one) << 32) + u64::from(other));
     }
 
+    /// The key with two numbers mixed in.
+    pub fn with(mut self, one: u32, other: u32) -> KeyMaker
+        ensures { result ≡ mixed_in self (one, other) }
+    {
+        self.mix(one, other);
+        self
+    }
+
     /// The hashing by the key of all that was mixed in.
     pub fn done(&self) -> Keyed
         ensures { result ≡ done self.now }

@@ -9,7 +9,7 @@ use Rattle.admit_core.specs.Proposals.{order_of}
 use Rattle.admit_core.specs.declared.dossier.Wish.{Wish}
 use Rattle.admit_core.specs.declared.ranking.CallOrder.{CallOrder}
 use Rattle.keyed_hash.specs.declared.Keyed.{Keyed}
-use Rattle.keyed_hash.specs.Keys.{done, fresh, mixed_in}
+use Rattle.keyed_hash.specs.Keys.{keyed_by_each}
 use Rattle.markets.specs.Markets.{MarketRows}
 
 -- a wish counts in the market where its candidate ranks their wishes and it asks for no bed
@@ -29,7 +29,7 @@ named ws = in_turn (map (λ w. w.candidate) ws)
 
 -- the hashing by the key of the candidates and the ids of all these wishes
 abbrev pub keyed_by_wishes : List Wish → Keyed
-keyed_by_wishes ws = done (fold (λ key w. mixed_in key (w.candidate, w.id)) fresh ws)
+keyed_by_wishes ws = keyed_by_each (λ w. (w.candidate, w.id)) ws
 
 abbrev pub own : List Wish → ℕ → List Wish
 own ws c = filter (λ w. nat_eq c w.candidate) ws

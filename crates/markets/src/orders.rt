@@ -1,7 +1,7 @@
 //! Whether orders have the candidates whose lists name their programmes.
-ghost use Rattle.std.specs.Prelude.{◌≡◌, ◌≤◌, ◌<◌, [], length, All, IfOk, IsOk};
+ghost use Rattle.std.specs.Prelude.{◌≡◌, ◌≤◌, ◌<◌, [], length, replicate, All, IfOk, IsOk};
 ghost use Rattle.markets.specs.Markets.{first_bad_order};
-ghost use Rattle.markets.specs.Listers.{AreLists};
+ghost use Rattle.markets.specs.Listers.{AreListers, AreLists};
 ghost use Rattle.markets.specs.Rows.{has_all_of};
 ghost use Rattle.markets.specs.Stamps.{AreOlder, AreUpTo};
 
@@ -29,16 +29,33 @@ pub fn first_bad_order(
     }
     let rows = listers_of(alloc, lists, orders.len() as u32)?;
     let mut room = vec![in alloc; 0; lists.len()]?;
-    let stamps = room.as_mut_slice();
+    Ok(bad_among(lists, orders, rows.as_slice(), room.as_mut_slice()))
+}
+
+/// The same, with the candidates who list each programme, and room for a stamp on each candidate:
+/// this takes no memory.
+fn bad_among(
+    lists: &[Sequence<u32>],
+    orders: &[Sequence<u32>],
+    rows: &[Vec<u32>],
+    stamps: &mut [u32],
+) -> Option<u32>
+    requires programmes { length orders.now ≤ 16000000 }
+    requires listers { AreListers lists.now (length orders.now) (length lists.now) rows.now }
+    requires fresh { stamps.old ≡ replicate (length lists.now) 0 }
+    ensures { result ≡ first_bad_order
+        (record { lists = lists.now; orders = orders.now; seats = [] }) }
+{
+    let _ = lists.len(); // whose candidates the rows have
     let mut stamp = 0;
     for order in orders {
         let listers = rows[stamp as usize].as_slice();
         stamp += 1;
         if !has_all_of(order.as_slice(), listers, stamp, stamps) {
-            return Ok(Some(stamp - 1));
+            return Some(stamp - 1);
         }
     }
-    Ok(None)
+    None
 }
 
 /// Whether an order has each of these candidates once, and nobody else.

@@ -3,7 +3,6 @@ ghost use Rattle.std.specs.Prelude.{◌≡◌, ◌<◌, ◌++◌, ◌∷◌, [],
 ghost use Rattle.admit_core.specs.Lists.{sorted_by};
 ghost use Rattle.admit_core.specs.declared.dossier.Wish.{Wish};
 ghost use Rattle.indexmap.specs.IndexSet.{hasher_of};
-ghost use Rattle.keyed_hash.specs.Keys.{mixed_in};
 ghost use Rattle.markets.specs.Dossiers.{by_preference, counts, keyed_by_wishes, named, own};
 
 use admit_core::{OutOfMemory, Sequence, Wish};
@@ -30,21 +29,13 @@ pub fn counted(alloc: Global, wishes: &[Wish]) -> Result<Vec<Wish>, OutOfMemory>
     Ok(counted)
 }
 
-/// A key with one wish more mixed in.
-fn mixed(mut key: KeyMaker, wish: Wish) -> KeyMaker
-    ensures { result ≡ mixed_in key (wish.candidate, wish.id) }
-{
-    key.mix(wish.candidate, wish.id);
-    key
-}
-
 /// Hashing by a key of the wishes' candidates.
-fn hashing_of(wishes: &[Wish]) -> Keyed
+fn keyed_by_wishes(wishes: &[Wish]) -> Keyed
     ensures { result ≡ keyed_by_wishes wishes.now }
 {
-    let key = wishes
-        .iter()
-        .fold(KeyMaker::new(), |key, wish| mixed(key, *wish));
+    let key = wishes.iter().fold(KeyMaker::new(), |key, wish| {
+        key.with(wish.candidate, wish.id)
+    });
     key.done()
 }
 
@@ -53,7 +44,7 @@ pub fn named(alloc: Global, wishes: &[Wish]) -> Result<IndexSet<u32, Keyed>, Out
     ensures names { IfOk result (λ names. names.keys ≡ named wishes.now) }
     ensures hashing { IfOk result (λ names. hasher_of names ≡ keyed_by_wishes wishes.now) }
 {
-    let mut names = IndexSet::with_hasher(alloc, hashing_of(wishes));
+    let mut names = IndexSet::with_hasher(alloc, keyed_by_wishes(wishes));
     for wish in wishes {
         names.insert(wish.candidate)?;
     }

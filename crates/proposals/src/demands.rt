@@ -1,5 +1,5 @@
 //! A demanded rank, with a wish that demands it.
-ghost use Rattle.std.specs.Prelude.{◌≡◌, map, filter, nat_le, IfOk};
+ghost use Rattle.std.specs.Prelude.{◌≡◌, [], map, filter, nat_le, IfOk, IsOk};
 
 use crate::ranked::Ranked;
 use admit_core::OutOfMemory;
@@ -22,13 +22,15 @@ impl Ranked for Demand {
 
 /// The wishes of the demands whose rank is at most another.
 pub fn names_up_to(alloc: Global, demands: &[Demand], upto: u32) -> Result<Vec<u32>, OutOfMemory>
-    ensures { IfOk result (λ v.
+    ensures names { IfOk result (λ v.
         v.items ≡ map (λ x. x.wish) (filter (λ x. nat_le x.rank upto) demands.now)) }
+    ensures always { filter (λ x. nat_le x.rank upto) demands.now ≡ [] → IsOk result }
 {
-    let names = demands
-        .iter()
-        .filter(|demand| demand.rank <= upto)
-        .map(|demand| demand.wish)
-        .collect(alloc)?;
+    let mut names = Vec::new(alloc);
+    for demand in demands {
+        if demand.rank <= upto {
+            names.push(demand.wish)?;
+        }
+    }
     Ok(names)
 }

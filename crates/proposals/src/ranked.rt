@@ -1,5 +1,5 @@
 //! Items that have a rank, put in order by it.
-ghost use Rattle.std.specs.Prelude.{◌≡◌, ℕ, OnOk};
+ghost use Rattle.std.specs.Prelude.{◌≡◌, ◌≤◌, ℕ, IsOk, OnErr, OnOk, length};
 ghost use Rattle.std.specs.List.Sorted.{IsPermutation, IsNonDecreasingBy, IsStableByKey};
 ghost use Rattle.std.specs.Ordering.{nat_cmp};
 
@@ -14,10 +14,12 @@ pub trait Ranked: Drop {
         ensures { result ≡ rank_of self.now };
 }
 
-/// Puts items in order by rank; those of one rank keep their order.
+/// Puts items in order by rank; those of one rank keep their order. Up to 20 items take no memory.
 pub fn sort_by_rank<T: Ranked>(items: &mut Vec<T>) -> Result<(), AllocError>
     ensures moved { IsPermutation items.old.items items.new.items }
     ensures rises { OnOk result (IsNonDecreasingBy T.rank_of items.new.items) }
+    ensures same { OnErr result (items.new.items ≡ items.old.items) }
+    ensures always { length items.old.items ≤ 20 → IsOk result }
     ensures stable { OnOk result (IsStableByKey T.rank_of nat_cmp items.old.items items.new.items) }
 {
     items.sort_by_key(|item| item.rank())?;

@@ -1,4 +1,6 @@
 pub mod Words
+pub mod Pushes
+pub mod Pieces
 pub mod Ids
 pub mod OrderText
 pub mod DayText

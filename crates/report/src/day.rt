@@ -1,13 +1,14 @@
 //! The lines of a day.
-ghost use Rattle.std.specs.Prelude.{◌≡◌, ◌<◌, ◌++◌, All, IfOk, IsOk, OnOk, [], flat_map, length, map, string_bytes};
+ghost use Rattle.std.specs.Prelude.{◌≡◌, ◌<◌, ◌++◌, ◌∷◌, [], All, IfOk, IsOk, flat_map, length, map};
 ghost use Rattle.std.specs.Fmt.{decimal};
 ghost use Rattle.report.specs.DayText.{IsFallOf, IsLapseOf, IsPassOf, auto_line, dated_day_text, day_text, evening_text, fall_line, freed_line, lapse_line, offer_line, pass_text, passes_text};
 ghost use Rattle.report.specs.Ids.{wish_id};
+ghost use Rattle.report.specs.Pushes.{Pushes};
 ghost use Rattle.report.specs.Words.{further};
 
-use crate::date::DateWord;
+use crate::date::push_date;
 use crate::ids::{push_line, push_numbers, school_id, wish_id};
-use crate::number::push_after;
+use crate::piece::{Piece, push_all, push_text};
 use admit_core::{Change, DayRecord, Dossier, Fall, Lapse, OutOfMemory, PassEnd, Terms};
 use calendar::{Civil, deadline, on_day};
 use std::alloc::{AllocError, Global};
@@ -15,32 +16,37 @@ use std::alloc::{AllocError, Global};
 /// Adds the id of each wish after a space, and ends the line.
 fn push_wishes(text: &mut String, dossier: &Dossier, wishes: &[u32]) -> Result<(), AllocError>
     requires { All (λ w. w < length dossier.now.wishes) wishes.now }
-    ensures { OnOk result (string_bytes text.new ≡ string_bytes text.old
-        ++ further 32 (map (λ w. decimal (wish_id dossier.now w)) wishes.now)) }
+    ensures { Pushes result text.old text.new
+        (further 32 (map (λ w. decimal (wish_id dossier.now w)) wishes.now)) }
 {
     for wish in wishes {
-        push_after(text, " ", wish_id(dossier, *wish))?;
+        let id = wish_id(dossier, *wish);
+        push_all(text, &[Piece::Text(" "), Piece::Number(id)])?;
     }
-    text.push_str("\n")?;
-    Ok(())
+    push_text(text, "\n")
 }
 
 /// Adds the line of a fall.
 fn push_fall(text: &mut String, dossier: &Dossier, fall: &Fall) -> Result<(), AllocError>
     requires { IsFallOf dossier.now fall.now }
-    ensures { OnOk result (string_bytes text.new ≡ string_bytes text.old ++ fall_line
-        dossier.now fall.now) }
+    ensures { Pushes result text.old text.new (fall_line dossier.now fall.now) }
 {
-    let (from, to) = (fall.from, fall.to);
-    write!(text, "fall {} {from} {to}", school_id(dossier, fall.school))?;
+    let pieces = [
+        Piece::Text("fall "),
+        Piece::Number(school_id(dossier, fall.school)),
+        Piece::Text(" "),
+        Piece::Number(fall.from),
+        Piece::Text(" "),
+        Piece::Number(fall.to),
+    ];
+    push_all(text, &pieces)?;
     push_wishes(text, dossier, fall.wishes.as_slice())
 }
 
 /// Adds the lines of falls, each with the ids of its school and wishes.
 pub fn push_falls(text: &mut String, dossier: &Dossier, falls: &[Fall]) -> Result<(), AllocError>
     requires { All (IsFallOf dossier.now) falls.now }
-    ensures all { OnOk result (string_bytes text.new ≡ string_bytes text.old ++ flat_map
-        (fall_line dossier.now) falls.now) }
+    ensures all { Pushes result text.old text.new (flat_map (fall_line dossier.now) falls.now) }
     ensures always { falls.now ≡ [] → IsOk result }
 {
     for fall in falls {
@@ -52,18 +58,16 @@ pub fn push_falls(text: &mut String, dossier: &Dossier, falls: &[Fall]) -> Resul
 /// Adds the line of the offer of a wish.
 fn push_offer(text: &mut String, dossier: &Dossier, wish: u32) -> Result<(), AllocError>
     requires { wish < length dossier.now.wishes }
-    ensures { OnOk result
-        (string_bytes text.new ≡ string_bytes text.old ++ offer_line dossier.now wish) }
+    ensures { Pushes result text.old text.new (offer_line dossier.now wish) }
 {
-    push_after(text, "offer ", wish_id(dossier, wish))?;
-    text.push_str("\n")
+    let id = Piece::Number(wish_id(dossier, wish));
+    push_all(text, &[Piece::Text("offer "), id, Piece::Text("\n")])
 }
 
 /// Adds the lines of the offers of wishes.
 fn push_offers(text: &mut String, dossier: &Dossier, offers: &[u32]) -> Result<(), AllocError>
     requires { All (λ w. w < length dossier.now.wishes) offers.now }
-    ensures { OnOk result (string_bytes text.new ≡ string_bytes text.old ++ flat_map
-        (offer_line dossier.now) offers.now) }
+    ensures { Pushes result text.old text.new (flat_map (offer_line dossier.now) offers.now) }
 {
     for wish in offers {
         push_offer(text, dossier, *wish)?;
@@ -74,20 +78,22 @@ fn push_offers(text: &mut String, dossier: &Dossier, offers: &[u32]) -> Result<(
 /// Adds the line of a change that an automatic answer made.
 fn push_auto(text: &mut String, dossier: &Dossier, change: Change) -> Result<(), AllocError>
     requires { change.wish < length dossier.now.wishes }
-    ensures { OnOk result
-        (string_bytes text.new ≡ string_bytes text.old ++ auto_line dossier.now change) }
+    ensures { Pushes result text.old text.new (auto_line dossier.now change) }
 {
-    push_after(text, "auto ", wish_id(dossier, change.wish))?;
-    text.push_str(" ")?;
-    text.push_str(change.status.word())?;
-    text.push_str("\n")
+    let pieces = [
+        Piece::Text("auto "),
+        Piece::Number(wish_id(dossier, change.wish)),
+        Piece::Text(" "),
+        Piece::Word(change.status),
+        Piece::Text("\n"),
+    ];
+    push_all(text, &pieces)
 }
 
 /// Adds the lines of the changes that automatic answers made.
 fn push_autos(text: &mut String, dossier: &Dossier, autos: &[Change]) -> Result<(), AllocError>
     requires { All (λ c. c.wish < length dossier.now.wishes) autos.now }
-    ensures { OnOk result (string_bytes text.new ≡ string_bytes text.old ++ flat_map
-        (auto_line dossier.now) autos.now) }
+    ensures { Pushes result text.old text.new (flat_map (auto_line dossier.now) autos.now) }
 {
     for change in autos {
         push_auto(text, dossier, *change)?;
@@ -98,8 +104,7 @@ fn push_autos(text: &mut String, dossier: &Dossier, autos: &[Change]) -> Result<
 /// Adds the last lines of a pass: the offers, the automatic answers, and what these freed.
 fn push_made(text: &mut String, dossier: &Dossier, end: &PassEnd) -> Result<(), AllocError>
     requires { IsPassOf dossier.now end.now }
-    ensures { OnOk result (string_bytes text.new ≡ string_bytes text.old
-        ++ flat_map (offer_line dossier.now) end.now.pass.offers
+    ensures { Pushes result text.old text.new (flat_map (offer_line dossier.now) end.now.pass.offers
         ++ flat_map (auto_line dossier.now) end.now.autos ++ freed_line end.now.freed) }
 {
     let pass = &end.pass;
@@ -107,6 +112,14 @@ fn push_made(text: &mut String, dossier: &Dossier, end: &PassEnd) -> Result<(), 
     push_offers(text, dossier, pass.offers.as_slice())?;
     push_autos(text, dossier, end.autos.as_slice())?;
     push_line(text, "freed", seats, beds)
+}
+
+/// Adds a line of some text and a number.
+fn push_numbered(text: &mut String, before: &str, number: usize) -> Result<(), AllocError>
+    ensures { Pushes result text.old text.new (before.now ++ decimal number ++ 10 ∷ []) }
+{
+    let number = Piece::Count(number);
+    push_all(text, &[Piece::Text(before), number, Piece::Text("\n")])
 }
 
 /// Adds the lines of a pass with its number.
@@ -117,11 +130,10 @@ fn push_pass(
     end: &PassEnd,
 ) -> Result<(), AllocError>
     requires { IsPassOf dossier.now end.now }
-    ensures { OnOk result (string_bytes text.new ≡ string_bytes text.old ++ pass_text dossier.now
-        (number, end.now)) }
+    ensures { Pushes result text.old text.new (pass_text dossier.now (number, end.now)) }
 {
     let pass = &end.pass;
-    writeln!(text, "pass {number}")?;
+    push_numbered(text, "pass ", number)?;
     push_falls(text, dossier, pass.falls.as_slice())?;
     push_numbers(
         text,
@@ -135,8 +147,7 @@ fn push_pass(
 /// Adds the lines of a day's passes, numbered from 1.
 fn push_passes(text: &mut String, dossier: &Dossier, passes: &[PassEnd]) -> Result<(), AllocError>
     requires { All (IsPassOf dossier.now) passes.now }
-    ensures { OnOk result (string_bytes text.new ≡ string_bytes text.old ++ passes_text
-        dossier.now passes.now) }
+    ensures { Pushes result text.old text.new (passes_text dossier.now passes.now) }
 {
     for (index, pass) in passes.iter().enumerate() {
         push_pass(text, dossier, index + 1, pass)?;
@@ -148,8 +159,8 @@ fn push_passes(text: &mut String, dossier: &Dossier, passes: &[PassEnd]) -> Resu
 /// that are left in the evening.
 fn push_rest(text: &mut String, dossier: &Dossier, day: &DayRecord) -> Result<(), AllocError>
     requires { All (IsPassOf dossier.now) day.now.passes }
-    ensures { OnOk result (string_bytes text.new ≡ string_bytes text.old
-        ++ passes_text dossier.now day.now.passes ++ evening_text dossier.now day.now) }
+    ensures { Pushes result text.old text.new
+        (passes_text dossier.now day.now.passes ++ evening_text dossier.now day.now) }
 {
     push_passes(text, dossier, day.passes.as_slice())?;
     push_numbers(
@@ -169,11 +180,9 @@ fn push_rest(text: &mut String, dossier: &Dossier, day: &DayRecord) -> Result<()
 /// Adds the lines of a day: its passes, and the seats and beds that are left in the evening.
 pub fn push_day(text: &mut String, dossier: &Dossier, day: &DayRecord) -> Result<(), AllocError>
     requires { All (IsPassOf dossier.now) day.now.passes }
-    ensures { OnOk result
-        (string_bytes text.new ≡ string_bytes text.old ++ day_text dossier.now day.now) }
+    ensures { Pushes result text.old text.new (day_text dossier.now day.now) }
 {
-    let number = day.day;
-    writeln!(text, "day {number}")?;
+    push_numbered(text, "day ", day.day as usize)?;
     push_rest(text, dossier, day)
 }
 
@@ -196,12 +205,12 @@ fn push_lapse(
     term: u32,
 ) -> Result<(), AllocError>
     requires { IsLapseOf dossier.now start term lapse }
-    ensures { OnOk result (string_bytes text.new ≡ string_bytes text.old ++ lapse_line dossier.now
-        start term lapse) }
+    ensures { Pushes result text.old text.new (lapse_line dossier.now start term lapse) }
 {
-    let last = DateWord(deadline(on_day(start, lapse.offered), term));
-    writeln!(text, "lapse {} {last}", wish_id(dossier, lapse.wish))?;
-    Ok(())
+    let id = Piece::Number(wish_id(dossier, lapse.wish));
+    push_all(text, &[Piece::Text("lapse "), id, Piece::Text(" ")])?;
+    push_date(text, deadline(on_day(start, lapse.offered), term))?;
+    push_text(text, "\n")
 }
 
 /// Adds the lines of lapsed offers, each with the deadline that has passed.
@@ -213,8 +222,7 @@ fn push_lapses(
     term: u32,
 ) -> Result<(), AllocError>
     requires { All (IsLapseOf dossier.now start term) lapses.now }
-    ensures { OnOk result (string_bytes text.new ≡ string_bytes text.old ++ flat_map
-        (lapse_line dossier.now start term) lapses.now) }
+    ensures { Pushes result text.old text.new (flat_map (lapse_line dossier.now start term) lapses.now) }
 {
     for lapse in lapses {
         push_lapse(text, dossier, *lapse, start, term)?;
@@ -233,11 +241,10 @@ pub fn push_dated_day(
 ) -> Result<(), AllocError>
     requires passes { All (IsPassOf dossier.now) day.now.passes }
     requires lapses { All (IsLapseOf dossier.now start terms.now.term) day.now.lapsed }
-    ensures { OnOk result (string_bytes text.new
-        ≡ string_bytes text.old ++ dated_day_text dossier.now day.now start terms.now.term) }
+    ensures { Pushes result text.old text.new
+        (dated_day_text dossier.now day.now start terms.now.term) }
 {
-    let number = day.day;
-    writeln!(text, "day {number}")?;
+    push_numbered(text, "day ", day.day as usize)?;
     push_lapses(text, dossier, day.lapsed.as_slice(), start, terms.term)?;
     push_rest(text, dossier, day)
 }

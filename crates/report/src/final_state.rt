@@ -1,14 +1,15 @@
 //! The lines of the final state.
-ghost use Rattle.std.specs.Prelude.{◌≡◌, ◌<◌, ◌++◌, ◌∷◌, [], IfOk, OnOk, length, string_bytes};
+ghost use Rattle.std.specs.Prelude.{◌≡◌, ◌<◌, ◌∷◌, [], IfOk, length};
 ghost use Rattle.std.specs.Fmt.{decimal};
 ghost use Rattle.admit_core.specs.Lines.{status_word};
 ghost use Rattle.report.specs.FinalText.{HasDate, HasDates, dated_row, final_dated_text, final_text, offer_day_at, since_word};
 ghost use Rattle.report.specs.DayText.{date_on};
+ghost use Rattle.report.specs.Pushes.{Pushes};
 ghost use Rattle.report.specs.Words.{row};
 ghost use Rattle.calendar.specs.Dates.{IsCivil};
 
-use crate::date::DateWord;
-use crate::number::push_number;
+use crate::date::push_date;
+use crate::piece::{Piece, push_all, push_text};
 use admit_core::{OutOfMemory, Status, Terms, Wish};
 use calendar::{Civil, on_day};
 use day_state::DayState;
@@ -16,21 +17,19 @@ use std::alloc::{AllocError, Global};
 
 /// Adds the row of a wish with its status.
 fn push_row(text: &mut String, id: u32, status: Status) -> Result<(), AllocError>
-    ensures { OnOk result (string_bytes text.new
-        ≡ string_bytes text.old ++ row (decimal id ∷ status_word status ∷ [])) }
+    ensures { Pushes result text.old text.new (row (decimal id ∷ status_word status ∷ [])) }
 {
-    push_number(text, id)?;
-    text.push_str(",")?;
-    text.push_str(status.word())?;
-    text.push_str("\n")
+    let id = Piece::Number(id);
+    let status = Piece::Word(status);
+    push_all(text, &[id, Piece::Text(","), status, Piece::Text("\n")])
 }
 
 /// Adds the final state: each wish with its status. What follows the first line is a state slot.
 pub fn push_final(text: &mut String, state: &DayState<'_>) -> Result<(), AllocError>
-    ensures { OnOk result (string_bytes text.new ≡ string_bytes text.old ++ final_text state.now) }
+    ensures { Pushes result text.old text.new (final_text state.now) }
 {
     let wishes = state.dossier().wishes.as_slice();
-    text.push_str("final\nwish,status\n")?;
+    push_text(text, "final\nwish,status\n")?;
     for (place, wish) in wishes.iter().enumerate() {
         let status = state.status(place as u32);
         push_row(text, wish.id, status)?;
@@ -64,7 +63,7 @@ fn offer_date(state: &DayState<'_>, start: Civil, terms: &Terms, place: u32) -> 
     on_day(start, day)
 }
 
-/// Adds the end of a row: since when an offer stands, and nothing where the wish is not offered.
+/// Adds since when an offer stands, and nothing where the wish is not offered.
 fn push_since(
     text: &mut String,
     state: &DayState<'_>,
@@ -76,14 +75,13 @@ fn push_since(
     requires place { place < length state.now.dossier.wishes }
     requires before { place < length terms.now.before }
     requires date { HasDate state.now start terms.now.before place }
-    ensures { OnOk result (string_bytes text.new
-        ≡ string_bytes text.old ++ since_word state.now start terms.now.before place ++ 10 ∷ []) }
+    ensures { Pushes result text.old text.new
+        (since_word state.now start terms.now.before place) }
 {
     if let Status::Offered = state.status(place) {
-        let since = DateWord(offer_date(state, start, terms, place));
-        write!(text, "{since}")?;
+        return push_date(text, offer_date(state, start, terms, place));
     }
-    text.push_str("\n")
+    Ok(())
 }
 
 /// Adds the row of a wish at its place, with its status, and the date of its offer where it is
@@ -100,14 +98,14 @@ fn push_dated_row(
     requires place { place < length state.now.dossier.wishes }
     requires before { place < length terms.now.before }
     requires date { HasDate state.now start terms.now.before place }
-    ensures { OnOk result (string_bytes text.new ≡ string_bytes text.old ++ dated_row state.now
-        start terms.now.before (place, wish.now)) }
+    ensures { Pushes result text.old text.new
+        (dated_row state.now start terms.now.before (place, wish.now)) }
 {
-    push_number(text, wish.id)?;
-    text.push_str(",")?;
-    text.push_str(state.status(place).word())?;
-    text.push_str(",")?;
-    push_since(text, state, start, terms, place)
+    let id = Piece::Number(wish.id);
+    let status = Piece::Word(state.status(place));
+    push_all(text, &[id, Piece::Text(","), status, Piece::Text(",")])?;
+    push_since(text, state, start, terms, place)?;
+    push_text(text, "\n")
 }
 
 /// Adds the final state where offers have dates, of which `start` is that of day 1: each wish with
@@ -120,11 +118,11 @@ pub fn push_dated_final(
     terms: &Terms,
 ) -> Result<(), AllocError>
     requires { HasDates state.now start terms.now.before }
-    ensures { OnOk result (string_bytes text.new
-        ≡ string_bytes text.old ++ final_dated_text state.now start terms.now.before) }
+    ensures { Pushes result text.old text.new
+        (final_dated_text state.now start terms.now.before) }
 {
     let wishes = state.dossier().wishes.as_slice();
-    text.push_str("final\nwish,status,since\n")?;
+    push_text(text, "final\nwish,status,since\n")?;
     for (place, wish) in wishes.iter().enumerate() {
         push_dated_row(text, state, start, terms, place as u32, wish)?;
     }

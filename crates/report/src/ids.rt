@@ -1,10 +1,11 @@
 //! Ids in place of places.
-ghost use Rattle.std.specs.Prelude.{◌≡◌, ◌++◌, ◌<◌, ◌∷◌, [], ℕ, OnOk, length, string_bytes};
+ghost use Rattle.std.specs.Prelude.{◌≡◌, ◌<◌, ◌∷◌, [], ℕ, length};
 ghost use Rattle.std.specs.Fmt.{decimal};
 ghost use Rattle.report.specs.Ids.{numbers_text, school_id, wish_id};
+ghost use Rattle.report.specs.Pushes.{Pushes};
 ghost use Rattle.report.specs.Words.{line};
 
-use crate::number::push_after;
+use crate::piece::{Piece, push_all};
 use admit_core::{Dossier, Programme, School};
 use std::alloc::AllocError;
 
@@ -55,13 +56,18 @@ pub(crate) fn push_line(
     id: u32,
     number: u32,
 ) -> Result<(), AllocError>
-    ensures { OnOk result (string_bytes text.new
-        ≡ string_bytes text.old ++ line (word.now ∷ decimal id ∷ decimal number ∷ [])) }
+    ensures { Pushes result text.old text.new
+        (line (word.now ∷ decimal id ∷ decimal number ∷ [])) }
 {
-    text.push_str(word)?;
-    push_after(text, " ", id)?;
-    push_after(text, " ", number)?;
-    text.push_str("\n")
+    let pieces = [
+        Piece::Text(word),
+        Piece::Text(" "),
+        Piece::Number(id),
+        Piece::Text(" "),
+        Piece::Number(number),
+        Piece::Text("\n"),
+    ];
+    push_all(text, &pieces)
 }
 
 /// Adds a line for each item with its number: a word, the id and the number.
@@ -71,11 +77,11 @@ pub(crate) fn push_numbers<T: HasId>(
     items: &[T],
     numbers: &[u32],
 ) -> Result<(), AllocError>
-    ensures { OnOk result (string_bytes text.new ≡ string_bytes text.old ++ numbers_text T.id_of
-        word.now items.now numbers.now) }
+    ensures { Pushes result text.old text.new
+        (numbers_text T.id_of word.now items.now numbers.now) }
 {
-    for (item, number) in items.iter().zip(numbers) {
-        push_line(text, word, item.id(), *number)?;
+    for place in 0..items.len().min(numbers.len()) {
+        push_line(text, word, items[place].id(), numbers[place])?;
     }
     Ok(())
 }

@@ -1,21 +1,22 @@
 //! The lines of a call order.
-ghost use Rattle.std.specs.Prelude.{◌≡◌, ◌++◌, IfOk, OnOk, string_bytes};
+ghost use Rattle.std.specs.Prelude.{◌≡◌, IfOk};
 ghost use Rattle.report.specs.OrderText.{order_text};
+ghost use Rattle.report.specs.Pushes.{Pushes};
 
+use crate::piece::{Piece, push_all};
 use crate::words::{push_letters, push_list};
 use admit_core::{CallOrder, OutOfMemory};
 use std::alloc::{AllocError, Global};
 
 /// Adds the two lines of a group's call order: the candidates, and the bound of each position.
 pub fn push_order(text: &mut String, id: u32, order: &CallOrder) -> Result<(), AllocError>
-    ensures { OnOk result
-        (string_bytes text.new ≡ string_bytes text.old ++ order_text id order.now) }
+    ensures { Pushes result text.old text.new (order_text id order.now) }
 {
-    write!(text, "order {id}:")?;
+    let group = Piece::Number(id);
+    push_all(text, &[Piece::Text("order "), group, Piece::Text(":")])?;
     push_list(text, order.list.as_slice())?;
-    write!(text, "rule {id}:")?;
-    push_letters(text, order.trace.as_slice())?;
-    Ok(())
+    push_all(text, &[Piece::Text("rule "), group, Piece::Text(":")])?;
+    push_letters(text, order.trace.as_slice())
 }
 
 /// The two lines of a group's call order, as a text of their own.

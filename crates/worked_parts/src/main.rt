@@ -12,6 +12,7 @@ mod matchings;
 mod orders;
 mod plain;
 mod queues;
+mod reports;
 mod samples;
 mod shelves;
 mod slots;
@@ -61,6 +62,7 @@ fn other_answer(rt: HostRuntime, name: &str, input: &str) -> Result<String, OutO
         "counts" => samples::counts_in(alloc, input),
         "sample" => samples::sample_in(alloc, input),
         "offer" => samples::offer_in(alloc, input),
+        "report" => reports::report_in(alloc, input),
         _ => Ok(String::from_str(alloc, "no such section")?),
     }
 }

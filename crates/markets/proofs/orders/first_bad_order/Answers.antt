@@ -1,74 +1,12 @@
-use Rattle.std.proofs.Common.{ℕ, ◌≡◌, List, [], ◌∙◌, sym, ap, length, arith}
+use Rattle.std.proofs.Common.{ℕ, ◌≡◌, List, [], ◌∙◌, sym, ap, length}
 use Rattle.std.proofs.lemmas.Bool.{eqb-true}
 use Rattle.std.proofs.lemmas.List.{nil_from_length}
-use Rattle.markets.specs.Markets.{MarketRows, first_bad_order}
-use Rattle.markets.proofs.Ordering.{orders_start, orders_more, orders_found, orders_none, row_read, told_now}
-use Rattle.markets.proofs.Ordering.{row_within}
-use Rattle.markets.proofs.Reading.{list_read}
+use Rattle.markets.specs.Markets.{first_bad_order}
 use Rattle.markets.proofs.orders.first_bad_order.Goals as goal
 
-pub has_all_of-requires-clause-within : goal.has_all_of-requires-clause-within
-has_all_of-requires-clause-within c =
-    let m : MarketRows = record { lists = c.args.lists.now; orders = c.args.orders.now; seats = [] } in
-    let row = row_read m c.loop-order.order-index c.loop-order.stamp c.in_ok-rows.rows.items c.index.result.now
-    c.as_slice-listers.result.now
-    c.loop-order.invariant.stamp_is c.loop-order-test.true c.in_ok-rows.ensures.listers c.index.ensures
-    c.as_slice-listers.ensures.value in
-    row_within m (length c.loop-order.stamps) c.loop-order.order-index c.as_slice-listers.result.now row
-    c.loop-order.invariant.as_many
-
-pub returns-then-not-has_all_of-clause-bad : goal.returns-then-not-has_all_of-clause-bad
-returns-then-not-has_all_of-clause-bad c =
-    let m : MarketRows = record { lists = c.args.lists.now; orders = c.args.orders.now; seats = [] } in
-    let k : ℕ = c.loop-order.order-index in
-    let row = row_read m k c.loop-order.stamp c.in_ok-rows.rows.items c.index.result.now c.as_slice-listers.result.now
-    c.loop-order.invariant.stamp_is c.loop-order-test.true c.in_ok-rows.ensures.listers c.index.ensures
-    c.as_slice-listers.ensures.value in
-    let order = list_read m.orders k c.order-item.result c.as_slice.result.now c.loop-order-test.true c.order-item.is
-    c.as_slice.ensures in
-    let told = told_now m (length c.loop-order.stamps) k c.as_slice-listers.result.now c.as_slice.result.now
-    c.has_all_of.result row order
-    c.has_all_of.ensures.all in
-    sym (orders_found m k c.loop-order.stamp c.loop-order.stamps c.has_all_of.result c.loop-order-test.true
-    c.loop-order.invariant told
-    c.if-not-has_all_of.true)
-
-pub loop-order-preserved : goal.loop-order-preserved
-loop-order-preserved c =
-    let m : MarketRows = record { lists = c.args.lists.now; orders = c.args.orders.now; seats = [] } in
-    let k : ℕ = c.loop-order.order-index in
-    let row = row_read m k c.loop-order.stamp c.in_ok-rows.rows.items c.index.result.now c.as_slice-listers.result.now
-    c.loop-order.invariant.stamp_is c.loop-order-test.true c.in_ok-rows.ensures.listers c.index.ensures
-    c.as_slice-listers.ensures.value in
-    let order = list_read m.orders k c.order-item.result c.as_slice.result.now c.loop-order-test.true c.order-item.is
-    c.as_slice.ensures in
-    let told = told_now m (length c.loop-order.stamps) k c.as_slice-listers.result.now c.as_slice.result.now
-    c.has_all_of.result row order
-    c.has_all_of.ensures.all in
-    orders_more m k c.loop-order.stamp c.loop-order.stamps c.has_all_of.new.stamps c.has_all_of.result
-    c.loop-order-test.true
-    c.loop-order.invariant
-    c.has_all_of.ensures.as_many c.has_all_of.ensures.up_to told c.if-not-has_all_of.false
-
-pub returns-clause-bad : goal.returns-clause-bad
-returns-clause-bad c =
-    let m : MarketRows = record { lists = c.args.lists.now; orders = c.args.orders.now; seats = [] } in
-    sym (orders_none m c.loop-order.order-index c.loop-order.stamp c.loop-order.stamps
-    (omega (arith, c.loop-order-test.false))
-    c.loop-order.invariant)
-
-pub overflow_add-stamp : goal.overflow_add-stamp
-overflow_add-stamp c = omega (arith, c.loop-order.invariant.stamp_is, c.loop-order-test.true, c.requires.programmes)
-
-pub index-requires : goal.index-requires
-index-requires c =
-    omega (arith, c.loop-order.invariant.stamp_is, c.loop-order-test.true, c.in_ok-rows.ensures.listers.one_each)
-
-pub loop-order-init : goal.loop-order-init
-loop-order-init c =
-    orders_start (record { lists = c.args.lists.now; orders = c.args.orders.now; seats = [] })
-    c.as_mut_slice-stamps.result.now
-    (c.as_mut_slice-stamps.ensures.value ∙ c.in_ok-room.ensures.items_if_clones_equal (λ y e. e))
+pub bad_among-requires-clause-fresh : goal.bad_among-requires-clause-fresh
+bad_among-requires-clause-fresh c =
+    c.as_mut_slice.ensures.value ∙ c.in_ok-room.ensures.items_if_clones_equal (λ y e. e)
 
 pub returns-then-is_empty-clause-bad : goal.returns-then-is_empty-clause-bad
 returns-then-is_empty-clause-bad c =

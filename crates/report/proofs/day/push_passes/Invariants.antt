@@ -1,6 +1,8 @@
-use Rattle.std.proofs.Common.{◌≡◌, ◌++◌, string_bytes, take}
-use Rattle.report.specs.DayText.{passes_text}
+use Rattle.std.proofs.Common.{flat_map, take}
+use Rattle.std.specs.List.{enumerate_from}
+use Rattle.report.specs.DayText.{pass_text}
+use Rattle.report.specs.Pushes.{IsPushed}
 use Rattle.report.proofs.day.push_passes.Given as goal
 
 abbrev pub invariant-loop-index : goal.invariant-loop-index
-invariant-loop-index l = string_bytes l.text ≡ string_bytes l.fn.text ++ passes_text l.dossier (take l.index l.passes)
+invariant-loop-index l = IsPushed l.fn.text l.text (flat_map (pass_text l.dossier) (take l.index (enumerate_from 1 l.passes)))

@@ -1,18 +1,22 @@
-use Rattle.std.proofs.Common.{[], ◌∷◌, flat_map, string_bytes, arith, append_assoc}
-use Rattle.std.specs.Fmt.{decimal}
-use Rattle.std.proofs.lemmas.List.{take_all}
+use Rattle.std.proofs.Common.{arith, decimal}
 use Rattle.report.specs.Ids.{wish_id}
-use Rattle.report.proofs.LineLemmas.{further-map}
+use Rattle.report.proofs.Pushing.{cut_off}
+use Rattle.report.proofs.PushedWords.{word_cut, word_pushed, words_end}
 use Rattle.report.proofs.day.push_wishes.Goals as goal
+
+pub returns-in_err-push_all : goal.returns-in_err-push_all
+returns-in_err-push_all c =
+    cut_off c.from_residual.result c.from_residual.ensures.0
+    (word_cut (λ w. decimal (wish_id c.args.dossier.now w)) c.args.wishes.now c.loop-wish.wish-index 0 (omega arith)
+    c.loop-wish.invariant (rw c.wish_id-id.ensures at c.in_err-push_all.ensures))
+
+pub loop-wish-preserved : goal.loop-wish-preserved
+loop-wish-preserved c =
+    word_pushed (λ w. decimal (wish_id c.args.dossier.now w)) c.args.wishes.now c.loop-wish.wish-index 0 (omega arith)
+    c.loop-wish.invariant (rw c.wish_id-id.ensures at c.in_ok-push_all.ensures)
 
 pub returns : goal.returns
 returns c =
-    let wishes = c.args.wishes.now in
-    let d = c.args.dossier.now in
-    rw (
-      c.in_ok-push_str.ensures.bytes,
-      c.loop-wish.invariant,
-      take_all c.loop-wish.wish-index wishes (omega arith),
-      further-map 32 (λ w. decimal (wish_id d w)) wishes,
-    )
-    (append_assoc (string_bytes c.args.text.now) (flat_map (λ w. 32 ∷ decimal (wish_id d w)) wishes) (10 ∷ []))
+    words_end (λ w. decimal (wish_id c.args.dossier.now w)) c.args.wishes.now c.push_text.result c.args.text.now
+    c.loop-wish.text c.push_text.new.text c.loop-wish.wish-index (omega arith) c.loop-wish.invariant
+    c.push_text.ensures

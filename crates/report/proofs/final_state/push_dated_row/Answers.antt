@@ -1,24 +1,25 @@
-use Rattle.std.proofs.Common.{◌≡◌, ◌++◌, ◌∷◌, [], ◌∙◌, ℕ, List, ap, string_bytes, subst}
-use Rattle.std.specs.Prelude.{OnOk}
-use Rattle.std.specs.Fmt.{decimal}
-use Rattle.admit_core.specs.Answers.{status_at}
-use Rattle.admit_core.specs.Lines.{status_word}
-use Rattle.admit_core.specs.declared.state.Status.{Status}
+use Rattle.std.proofs.Common.{◌++◌, [], ◌∷◌, append_assoc}
 use Rattle.report.specs.FinalText.{since_word}
-use Rattle.report.proofs.LineLemmas.{after_parts}
+use Rattle.report.proofs.Pushing.{cut_off, cut_off_as, cut_off_first, cut_off_next, pushed_then, pushes_as, pushes_then}
 use Rattle.report.proofs.final_state.push_dated_row.Goals as goal
+
+pub returns-in_err-push_all : goal.returns-in_err-push_all
+returns-in_err-push_all c =
+    let since = since_word c.args.state.now c.args.start c.args.terms.now.before c.args.place in
+    cut_off c.from_residual.result c.from_residual.ensures.0
+    (cut_off_as (cut_off_first (since ++ (10 ∷ [])) (rw c.status.ensures at c.in_err-push_all.ensures))
+    (simp append_assoc))
+
+pub returns-in_err-push_since : goal.returns-in_err-push_since
+returns-in_err-push_since c =
+    cut_off c.from_residual-in_err-push_since.result c.from_residual-in_err-push_since.ensures.0
+    (cut_off_as (cut_off_first (10 ∷ []) (cut_off_next (rw c.status.ensures at c.in_ok-push_all.ensures)
+    c.in_err-push_since.ensures)) (simp append_assoc))
 
 pub returns : goal.returns
 returns c =
-    let s = c.args.state.now in
-    let place = c.args.place in
-    let comma : List ℕ = 44 ∷ [] in
-    let since = since_word s c.args.start c.args.terms.now.before place in
-    let word = c.word.ensures ∙ ap (λ (status : Status). status_word status) c.status.ensures in
-    let status = c.in_ok-push_str-2.ensures.bytes
-    ∙ ap (λ (bytes : List ℕ). string_bytes c.push_str.new.self ++ bytes) word in
-    let parts = after_parts (string_bytes c.args.text.now) (decimal c.args.wish.now.id) comma
-    (status_word (status_at s place)) comma since (10 ∷ [])
-    c.in_ok-push_number.ensures c.in_ok-push_str.ensures.bytes status c.in_ok-push_str-3.ensures.bytes in
-    subst (λ (bytes : List ℕ). OnOk c.push_since.result (string_bytes c.push_since.new.text ≡ bytes)) parts
-    c.push_since.ensures
+    let r = c.push_text.result in
+    let new = c.push_text.new.text in
+    pushes_as r c.args.text.now new (simp append_assoc)
+    (pushes_then r new (10 ∷ []) (pushed_then (rw c.status.ensures at c.in_ok-push_all.ensures)
+    c.in_ok-push_since.ensures) c.push_text.ensures)

@@ -1,11 +1,9 @@
-use Rattle.std.proofs.Common.{◌≡◌, [], ◌∷◌, ◌++◌, codes, flat_map, string_bytes, take}
+use Rattle.std.proofs.Common.{flat_map, take}
 use Rattle.std.specs.List.{enumerate_from}
 use Rattle.report.specs.FinalText.{status_row}
-use Rattle.report.specs.Words.{line, row}
+use Rattle.report.specs.Pushes.{IsPushed}
 use Rattle.report.proofs.final_state.push_final.Given as goal
 
 abbrev pub invariant-loop-place : goal.invariant-loop-place
 invariant-loop-place l =
-    string_bytes l.text
-    ≡ string_bytes l.fn.text ++ line (codes "final" ∷ []) ++ row (codes "wish" ∷ codes "status" ∷ [])
-    ++ flat_map (status_row l.state) (enumerate_from 0 (take l.place l.wishes))
+    IsPushed l.initial.text l.text (flat_map (status_row l.state) (take l.place (enumerate_from 0 l.wishes)))

@@ -1,18 +1,21 @@
-use Rattle.std.proofs.Common.{[], ◌∷◌, flat_map, string_bytes, arith, append_assoc}
-use Rattle.std.proofs.lemmas.List.{take_all}
+use Rattle.std.proofs.Common.{arith}
 use Rattle.admit_core.specs.Lines.{bound_letter}
-use Rattle.report.proofs.LineLemmas.{further-map}
+use Rattle.report.proofs.Pushing.{cut_off}
+use Rattle.report.proofs.PushedWords.{word_cut, word_pushed, words_end}
 use Rattle.report.proofs.words.push_letters.Goals as goal
+
+pub returns-in_err-push_all : goal.returns-in_err-push_all
+returns-in_err-push_all c =
+    cut_off c.from_residual.result c.from_residual.ensures.0
+    (word_cut bound_letter c.args.bounds.now c.loop-bound.bound-index _ (omega arith) c.loop-bound.invariant
+    c.in_err-push_all.ensures)
+
+pub loop-bound-preserved : goal.loop-bound-preserved
+loop-bound-preserved c =
+    word_pushed bound_letter c.args.bounds.now c.loop-bound.bound-index _ (omega arith) c.loop-bound.invariant
+    c.in_ok-push_all.ensures
 
 pub returns : goal.returns
 returns c =
-    let bounds = c.args.bounds.now in
-    let k = c.loop-bound.bound-index in
-    rw (
-      c.in_ok-push_str-3.ensures.bytes,
-      c.loop-bound.invariant,
-      take_all k bounds
-          (omega arith),
-      further-map 32 bound_letter bounds,
-    )
-    (append_assoc (string_bytes c.args.text.now) (flat_map (λ x. 32 ∷ bound_letter x) bounds) (10 ∷ []))
+    words_end bound_letter c.args.bounds.now c.push_text.result c.args.text.now c.loop-bound.text c.push_text.new.text
+    c.loop-bound.bound-index (omega arith) c.loop-bound.invariant c.push_text.ensures

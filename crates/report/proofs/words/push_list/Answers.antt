@@ -1,18 +1,21 @@
-use Rattle.std.proofs.Common.{[], ◌∷◌, flat_map, string_bytes, arith, append_assoc}
+use Rattle.std.proofs.Common.{arith}
 use Rattle.std.specs.Fmt.{decimal}
-use Rattle.std.proofs.lemmas.List.{take_all}
-use Rattle.report.proofs.LineLemmas.{further-map}
+use Rattle.report.proofs.Pushing.{cut_off}
+use Rattle.report.proofs.PushedWords.{word_cut, word_pushed, words_end}
 use Rattle.report.proofs.words.push_list.Goals as goal
+
+pub returns-in_err-push_all : goal.returns-in_err-push_all
+returns-in_err-push_all c =
+    cut_off c.from_residual.result c.from_residual.ensures.0
+    (word_cut decimal c.args.numbers.now c.loop-number.number-index _ (omega arith) c.loop-number.invariant
+    c.in_err-push_all.ensures)
+
+pub loop-number-preserved : goal.loop-number-preserved
+loop-number-preserved c =
+    word_pushed decimal c.args.numbers.now c.loop-number.number-index _ (omega arith) c.loop-number.invariant
+    c.in_ok-push_all.ensures
 
 pub returns : goal.returns
 returns c =
-    let numbers = c.args.numbers.now in
-    let k = c.loop-number.number-index in
-    rw (
-      c.in_ok-push_str.ensures.bytes,
-      c.loop-number.invariant,
-      take_all k numbers
-          (omega arith),
-      further-map 32 decimal numbers,
-    )
-    (append_assoc (string_bytes c.args.text.now) (flat_map (λ x. 32 ∷ decimal x) numbers) (10 ∷ []))
+    words_end decimal c.args.numbers.now c.push_text.result c.args.text.now c.loop-number.text c.push_text.new.text
+    c.loop-number.number-index (omega arith) c.loop-number.invariant c.push_text.ensures

@@ -16,4 +16,4 @@ returns c =
     (ap (λ (xs : List Demand). map (λ (x : Demand). x.wish) (filter (λ (x : Demand). nat_le x.rank c.args.upto) xs))
     demands
     ∙ names_are s orders bars c.args.i c.args.upto)
-    c.names_up_to.ensures
+    c.names_up_to.ensures.names

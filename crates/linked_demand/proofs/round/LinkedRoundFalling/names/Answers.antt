@@ -50,4 +50,4 @@ returns c =
     let P : List ℕ → Type 0 = λ ks. IfOk c.names_up_to.result (λ names. names.items ≡ ks) in
     subst P
     (ap (λ (xs : List Demand). map (λ (x : Demand). x.wish) xs) demands ∙ names_are seen.state seen.orders bars i upto)
-    c.names_up_to.ensures
+    c.names_up_to.ensures.names

@@ -1,6 +1,6 @@
 use Rattle.std.proofs.Common.{[]}
 use Rattle.markets.proofs.Ordering.{OrdersStood}
-use Rattle.markets.proofs.orders.first_bad_order.Given as goal
+use Rattle.markets.proofs.orders.bad_among.Given as goal
 
 abbrev pub invariant-loop-order : goal.invariant-loop-order
 invariant-loop-order l =

@@ -1,0 +1,47 @@
+//! The pieces of a line.
+ghost use Rattle.report.specs.Pieces.{all_text, piece_text};
+ghost use Rattle.report.specs.Pushes.{Pushes};
+
+use admit_core::{Bound, Status};
+use itoa::Buffer;
+use std::alloc::AllocError;
+
+/// A piece of a line.
+#[derive(Clone, Copy)]
+pub(crate) enum Piece<'a> {
+    Text(&'a str),
+    Number(u32),
+    Count(usize),
+    Word(Status),
+    Letter(Bound),
+}
+
+/// Adds some text.
+pub(crate) fn push_text(text: &mut String, added: &str) -> Result<(), AllocError>
+    ensures { Pushes result text.old text.new added.now }
+{
+    text.push_str(added)
+}
+
+/// Adds a piece.
+fn push_piece(text: &mut String, piece: Piece<'_>) -> Result<(), AllocError>
+    ensures { Pushes result text.old text.new (piece_text piece.entry) }
+{
+    match piece {
+        Piece::Text(added) => push_text(text, added),
+        Piece::Number(number) => push_text(text, Buffer::new().format(number)),
+        Piece::Count(count) => push_text(text, Buffer::new().format(count)),
+        Piece::Word(status) => push_text(text, status.word()),
+        Piece::Letter(bound) => push_text(text, bound.letter()),
+    }
+}
+
+/// Adds pieces, one after another.
+pub(crate) fn push_all(text: &mut String, pieces: &[Piece<'_>]) -> Result<(), AllocError>
+    ensures { Pushes result text.old text.new (all_text pieces.now) }
+{
+    for piece in pieces {
+        push_piece(text, *piece)?;
+    }
+    Ok(())
+}
