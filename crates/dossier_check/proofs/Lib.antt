@@ -4,7 +4,8 @@
 -- Scans of a slot: Scans, LastRow, AcceptedRows, Outcomes.
 -- Faults shown to be none without a scan: Faultless, WishTests; ranks: DealtRows; wishes: Runs,
 -- InOrder, TwiceWished, TwicePreferred, WhoIsRanked.
--- What tables without a fault are: FaultFree, NoFault, RowFacts, Pairs.
+-- What tables without a fault are: FaultFree, NoFault, RowFacts, Pairs; wishes in another order:
+-- Reordered, which stands on WishesApart.
 -- What is made of them: MadeItems, Buckets, BuiltGroups, PutStatuses, Undated.
 -- The dossier is valid, part by part: ValidSizes, ValidItems, ValidRankings, ValidWishes,
 -- WishesApart, OneAccepted, ValidAnswers; Valid puts them together and is the end of it.
@@ -31,6 +32,7 @@ pub mod Places
 pub mod TwicePreferred
 pub mod Rising
 pub mod PutStatuses
+pub mod Reordered
 pub mod RisingIds
 pub mod RowFacts
 pub mod Runs

@@ -89,6 +89,17 @@ module _ (rows : List WishRow) (fine : Passes preference_mixed rows) where
           let same : row ≡ first = same_Some _ _ (rw (not_found test (take k rows) none, here) at both) in
           ap (λ r. nat_eq r.preference 0) same
 
+  -- of two wishes of a candidate both have a preference, or neither has
+  pub alike : (i j : ℕ) (d : WishRow) → i < length rows → j < length rows
+      → (get_or rows i d).candidate ≡ (get_or rows j d).candidate
+      → nat_eq (get_or rows i d).preference 0 ≡ nat_eq (get_or rows j d).preference 0
+  alike i j d in_i in_j candidates =
+      let own : WishRow → Bool = λ r. nat_eq (get_or rows j d).candidate r.candidate in
+      let any : list_any own rows ≡ true =
+      list_any_at own rows j d in_j (nat_eq_self (get_or rows j d).candidate) in
+      let (first, is) = any_some own rows any in
+      like_first i d first in_i (rw candidates is) ∙ sym (like_first j d first in_j is)
+
 true_parts : (a b c : Bool) → a ≡ true → b ≡ true → c ≡ true → (a && b && c) ≡ false → ⊥
 true_parts true true true ea eb ec e = cc
 true_parts false b c ea eb ec e = cc
@@ -186,15 +197,7 @@ module _ (t : Tables) (fine : HasNoFault t) where
 
     -- both have a preference, or neither has
     like : v.candidate ≡ w.candidate → nat_eq v.preference 0 ≡ nat_eq w.preference 0
-    like candidates =
-        let own : WishRow → Bool = λ r. nat_eq w.candidate r.candidate in
-        let any : list_any own t.wishes ≡ true = list_any_at own t.wishes j d in_j (nat_eq_self w.candidate) in
-        let (first, is) = any_some own t.wishes any in
-        let at_w : nat_eq w.preference 0 ≡ nat_eq first.preference 0 =
-        like_first t.wishes fine.wishes.like_first j d first in_j is in
-        let at_v : nat_eq v.preference 0 ≡ nat_eq first.preference 0 =
-        like_first t.wishes fine.wishes.like_first i d first in_i (rw candidates is) in
-        at_v ∙ sym at_w
+    like candidates = alike t.wishes fine.wishes.like_first i j d in_i in_j candidates
 
     twice : v.candidate ≡ w.candidate → v.preference ≡ w.preference → v.preference ≡ 0
     twice candidates same = by (nat_lt 0 w.preference) refl

@@ -1,10 +1,12 @@
 -- What a scan keeps of the rows before.
-use Rattle.std.specs.Prelude.{◌≡◌, ℕ, Bool, ◌&&◌, nat_eq, nat_lt, List, map, Option, Some, IfSome, option_map}
+use Rattle.std.specs.Prelude.{◌≡◌, ℕ, Bool, ◌&&◌, nat_eq, nat_lt, List, map, Option, Some, IfSome, is_some}
+use Rattle.std.specs.Prelude.{option_map}
 use Rattle.std.specs.Option.{option_map_or}
 use Rattle.admit_core.specs.declared.tables.StateRow.{StateRow}
 use Rattle.admit_core.specs.declared.tables.WishRow.{WishRow}
 use Rattle.admit_core.specs.declared.tables.Tables.{Tables}
 use Rattle.admit_core.specs.Faults.{first_row}
+use Rattle.admit_core.specs.Lists.{is_among}
 use Rattle.admit_core.specs.Relations.{first_wish_of, last_row, is_accepted, same_candidate, candidate_with}
 use Rattle.dossier_check.specs.declared.noted.FirstWish.{FirstWish}
 use Rattle.dossier_check.specs.declared.wishes.LastCandidate.{LastCandidate}
@@ -35,6 +37,11 @@ noted_wish first = record { row = first.0; preference = first.1.preference }
 abbrev pub AreFirstWishes : (ℕ → Option FirstWish) → List WishRow → Type 0
 AreFirstWishes found before =
     (candidate : ℕ) → found candidate ≡ option_map noted_wish (first_wish_of before candidate)
+
+-- `found` gives something for exactly those who have a wish
+abbrev pub KnowsCandidates : (ℕ → Option FirstWish) → List WishRow → Type 0
+KnowsCandidates found rows =
+    (candidate : ℕ) → is_some (found candidate) ≡ is_among candidate (map (λ w. w.candidate) rows)
 
 -- what is kept of the last row's candidate is their first wish
 abbrev pub IsLastCandidate : (ℕ → Option FirstWish) → Option LastCandidate → Type 0

@@ -8,11 +8,22 @@ use Rattle.admit_core.specs.Lists.{is_among}
 use Rattle.admit_core.specs.Relations.{same_wish, programme_ids, school_ids, unranked, no_boarding_rank}
 use Rattle.admit_core.specs.Relations.{preference_mixed, preference_taken}
 
--- the tests of wishes, where that of the same wish and that of the same preference may be left out
-abbrev pub tests_unless : Bool → Bool → Tables → List (Test WishRow)
-tests_unless apart distinct t =
-    repeats (λ row r. nat_eq row.id r.id)
-    ∷ (λ before row. if apart then None else repeats same_wish before row)
+-- the tests of wishes but that of ids
+abbrev pub other_tests : Tables → List (Test WishRow)
+other_tests t =
+    repeats same_wish
+    ∷ names_unknown 3 (λ row. is_among row.programme (programme_ids t))
+    ∷ names_unknown 4 (λ row. option_map_or (λ h. is_among h (school_ids t)) row.school true)
+    ∷ unranked t
+    ∷ no_boarding_rank t
+    ∷ preference_mixed
+    ∷ preference_taken
+    ∷ []
+
+-- the same, where that of the same wish and that of the same preference may be left out
+abbrev pub others_unless : Bool → Bool → Tables → List (Test WishRow)
+others_unless apart distinct t =
+    (λ before row. if apart then None else repeats same_wish before row)
     ∷ names_unknown 3 (λ row. is_among row.programme (programme_ids t))
     ∷ names_unknown 4 (λ row. option_map_or (λ h. is_among h (school_ids t)) row.school true)
     ∷ unranked t
@@ -20,3 +31,11 @@ tests_unless apart distinct t =
     ∷ preference_mixed
     ∷ (λ before row. if distinct then None else preference_taken before row)
     ∷ []
+
+-- whether an earlier row has the same id
+abbrev pub id_repeats : Test WishRow
+id_repeats = repeats (λ row r. nat_eq row.id r.id)
+
+-- the tests of wishes, where those two may be left out
+abbrev pub tests_unless : Bool → Bool → Tables → List (Test WishRow)
+tests_unless apart distinct t = id_repeats ∷ others_unless apart distinct t

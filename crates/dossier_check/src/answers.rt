@@ -5,7 +5,7 @@ ghost use Rattle.admit_core.specs.declared.slot.Slot.TheVariants as slots;
 ghost use Rattle.admit_core.specs.Faults.{first_in};
 ghost use Rattle.admit_core.specs.Relations.{answer_tests, wish_ids};
 ghost use Rattle.dossier_check.specs.Outcome.{AnswersFault, MayLack};
-ghost use Rattle.dossier_check.specs.Seen.{AreFirstWishes};
+ghost use Rattle.dossier_check.specs.Seen.{KnowsCandidates};
 
 use crate::day_falls::{DayFalls, ItsDay};
 use crate::noted::FirstWish;
@@ -30,7 +30,7 @@ impl<'a> TargetUnknown<'a> {
     /// Whether a row's target is there.
     fn knows(&self, row: &AnswerRow) -> bool
         ensures { self.now.wishes.now.keys ≡ wish_ids self.now.tables.now →
-            AreFirstWishes (get nat_eq self.now.candidates.now) self.now.tables.now.wishes →
+            KnowsCandidates (get nat_eq self.now.candidates.now) self.now.tables.now.wishes →
             result ≡ is_target self.now.tables.now row.now.kind row.now.target }
     {
         match row.kind {
@@ -47,12 +47,12 @@ impl<'a> RowTest<AnswerRow> for TargetUnknown<'a> {
     ghost use Rattle.indexmap.specs.IndexMap.{get};
     ghost use Rattle.admit_core.specs.Faults.{names_unknown};
     ghost use Rattle.admit_core.specs.Relations.{is_target, wish_ids};
-    ghost use Rattle.dossier_check.specs.Seen.{AreFirstWishes};
+    ghost use Rattle.dossier_check.specs.Seen.{KnowsCandidates};
 
     ghost test = { λ c. names_unknown 3 (λ row. is_target c.tables.now row.kind row.target) };
 
     ghost has_seen = { λ c before. (c.wishes.now.keys ≡ wish_ids c.tables.now)
-        × AreFirstWishes (get nat_eq c.candidates.now) c.tables.now.wishes };
+        × KnowsCandidates (get nat_eq c.candidates.now) c.tables.now.wishes };
 
     ghost takes_memory = { ⊥ };
 
@@ -71,7 +71,7 @@ pub(crate) fn check_answers<'a>(
     candidates: &'a IndexMap<u32, FirstWish, Keyed>,
 ) -> Result<(), InFault>
     requires wishes { wishes.now.keys ≡ wish_ids tables.now }
-    requires candidates { AreFirstWishes (get nat_eq candidates.now) tables.now.wishes }
+    requires candidates { KnowsCandidates (get nat_eq candidates.now) tables.now.wishes }
     requires small { length tables.now.answers < 2 ^ 32 }
     ensures fault { AnswersFault result
         (first_in slots.Answers (answer_tests tables.now) tables.now.answers) }

@@ -27,7 +27,7 @@ pub(crate) struct Keys {
     pub(crate) boarding: IndexSet<(u32, u32), Keyed>,
     pub(crate) wishes: RowIds,
     pub(crate) state: RowIds,
-    /// For each wish where its programme is looked for first: at the place that the tests found.
+    /// For each wish where its programme is looked for first, if its tests kept the place.
     pub(crate) near: Vec<usize>,
 }
 

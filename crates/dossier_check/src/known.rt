@@ -6,7 +6,7 @@ use indexmap::IndexSet;
 use keyed_hash::Keyed;
 
 /// What the rows before the wishes are found by.
-#[derive(Drop)]
+#[derive(Clone, Copy)]
 pub(crate) struct Known<'a> {
     /// The key is of all rows.
     pub(crate) keyed: Keyed,

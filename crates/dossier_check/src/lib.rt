@@ -15,6 +15,7 @@ mod items;
 mod known;
 mod made;
 mod noted;
+mod ordered;
 mod placed;
 mod preferred;
 mod ranks;

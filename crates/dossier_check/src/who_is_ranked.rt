@@ -86,7 +86,7 @@ pub(crate) struct Near {
 }
 
 /// Who is ranked in each group, by the groups' places.
-#[derive(Drop)]
+#[derive(Clone, Copy)]
 pub(crate) struct WhoIsRanked<'a> {
     pub(crate) groups: &'a RowIds,
     pub(crate) candidates: &'a [Vec<u32>],

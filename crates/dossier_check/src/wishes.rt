@@ -9,14 +9,15 @@ ghost use Rattle.dossier_check.specs.Hashing.{numbers_of_wishes};
 ghost use Rattle.dossier_check.specs.Known.{IsKnown};
 ghost use Rattle.dossier_check.specs.Outcome.{AnswersFault};
 ghost use Rattle.dossier_check.specs.Pairs.{pair_eq};
-ghost use Rattle.dossier_check.specs.WishTests.{tests_unless};
-ghost use Rattle.dossier_check.specs.Seen.{has_preference, AreFirstRows, AreFirstWishes, IsLastCandidate};
+ghost use Rattle.dossier_check.specs.WishTests.{others_unless, tests_unless};
+ghost use Rattle.dossier_check.specs.Seen.{has_preference, AreFirstRows, AreFirstWishes, IsLastCandidate, KnowsCandidates};
 ghost use Rattle.keyed_hash.specs.Keys.{keyed_by};
 
 use crate::apart::{Apart, shown_apart};
 use crate::hashing::hashing_of_wishes;
 use crate::known::Known;
 use crate::noted::{FirstWish, note_first, placed_row_of};
+use crate::ordered::{candidates_rise, shown_in_order};
 use crate::row_ids::RowIds;
 use crate::row_tests::{NamesUnknown, NoTest, Repeats, RepeatsId, RowTest, Shared, Then, Unless};
 use crate::rules::{ItsProgramme, ItsSchool, OwnId, WhatIsWished};
@@ -223,11 +224,12 @@ impl RowTest<WishRow> for PreferenceTaken {
     }
 }
 
-/// The ids of the wishes by place, and each candidate's first wish.
+/// The ids of the wishes by place, and who has a wish.
 pub(crate) struct WishKeys {
     pub(crate) ids: RowIds,
+    /// What is kept of the first wish that was tested of each candidate.
     pub(crate) firsts: IndexMap<u32, FirstWish, Keyed>,
-    /// The place of each wish's programme. Nothing depends on it but how long a look takes.
+    /// The places of the wishes' programmes, or none. Only how long a look takes depends on it.
     pub(crate) programmes: Vec<usize>,
 }
 
@@ -258,14 +260,14 @@ impl WishKeys {
 }
 
 /// The tests of wishes, in their order.
-type WishTests<'a> = Then<
-    RepeatsId<OwnId>,
+type WishTests<'a> = Then<RepeatsId<OwnId>, OtherTests<'a>>;
+
+/// The tests of wishes but that of ids.
+pub(crate) type OtherTests<'a> = Then<
+    Unless<Repeats<(u32, u32, Option<u32>), WhatIsWished>>,
     Then<
-        Unless<Repeats<(u32, u32, Option<u32>), WhatIsWished>>,
-        Then<
-            NamesUnknown<'a, ItsProgramme>,
-            Then<NamesUnknown<'a, ItsSchool>, Then<Unranked<'a>, RankedTests<'a>>>,
-        >,
+        NamesUnknown<'a, ItsProgramme>,
+        Then<NamesUnknown<'a, ItsSchool>, Then<Unranked<'a>, RankedTests<'a>>>,
     >,
 >;
 
@@ -275,22 +277,18 @@ type RankedTests<'a> = Then<NoBoardingRank<'a>, PreferenceTests>;
 /// The tests of preferences.
 type PreferenceTests = Then<PreferenceMixed, Then<Unless<PreferenceTaken>, NoTest>>;
 
-/// No ids, with room for those of the wishes, and for each programme and each group where to look
-/// first.
-fn wish_rooms(
+/// For each programme and each group where to look first, with room for a place of each wish.
+fn near_places(
     alloc: Global,
     wishes: usize,
     programmes: usize,
     groups: usize,
-) -> Result<(RowIds, Near), OutOfMemory>
-    ensures { IfOk result (λ rooms. rooms.0.keys ≡ []) }
-{
-    let near = Near {
+) -> Result<Near, OutOfMemory> {
+    Ok(Near {
         groups: vec![in alloc; 0; programmes]?,
         candidates: vec![in alloc; 0; groups]?,
         programmes: Vec::with_capacity(alloc, wishes)?,
-    };
-    Ok((RowIds::with_room(alloc, wishes)?, near))
+    })
 }
 
 /// The hashing of what wishes are of and of the preferences, which has a key of its own where order
@@ -337,13 +335,11 @@ fn firsts_in(tests: PreferenceTests) -> IndexMap<u32, FirstWish, Keyed>
     first.into_firsts()
 }
 
-/// What the tests of wishes keep.
-fn keys_in(tests: WishTests<'_>) -> WishKeys
-    ensures ids { result.ids ≡ tests.entry.first.ids }
-    ensures firsts { result.firsts ≡ (past_two (past_two (past_two tests.entry))).first.firsts }
+/// What the tests but that of ids keep: of the candidates, and the places of the programmes.
+pub(crate) fn kept_in(tests: OtherTests<'_>) -> (IndexMap<u32, FirstWish, Keyed>, Vec<usize>)
+    ensures { result.0 ≡ (past_two (past_two tests.entry)).rest.first.firsts }
 {
-    let Then { first: own, rest } = tests;
-    let Then { first: _, rest } = rest;
+    let Then { first: _, rest } = tests;
     let Then { first: _, rest } = rest;
     let Then { first: _, rest } = rest;
     let Then {
@@ -354,26 +350,36 @@ fn keys_in(tests: WishTests<'_>) -> WishKeys
         first: _,
         rest: preferences,
     } = rest;
+    (firsts_in(preferences), unranked.near.programmes)
+}
+
+/// What the tests of wishes keep.
+fn keys_in(tests: WishTests<'_>) -> WishKeys
+    ensures ids { result.ids ≡ tests.entry.first.ids }
+    ensures firsts { result.firsts ≡ (past_two (past_two tests.entry.rest)).rest.first.firsts }
+{
+    let Then { first: own, rest } = tests;
+    let (firsts, programmes) = kept_in(rest);
     WishKeys {
         ids: own.ids,
-        firsts: firsts_in(preferences),
-        programmes: unranked.near.programmes,
+        firsts,
+        programmes,
     }
 }
 
-/// The tests of wishes, before the first row.
-fn fresh_tests<'a>(
+/// The tests of wishes but that of ids, before the first row.
+pub(crate) fn other_tests<'a>(
     alloc: Global,
     apart: Apart,
     tables: &'a Tables,
     known: Known<'a>,
-) -> Result<WishTests<'a>, OutOfMemory>
+) -> Result<OtherTests<'a>, OutOfMemory>
     requires { IsKnown tables.now known }
     ensures fresh { IfOk result (λ tests.
-        ⟦<WishTests<'a> as RowChecks<WishRow>>⟧.has_seen tests []) }
+        ⟦<OtherTests<'a> as RowChecks<WishRow>>⟧.has_seen tests []) }
     ensures tests { IfOk result (λ tests.
-        ⟦<WishTests<'a> as RowChecks<WishRow>>⟧.tests tests
-        ≡ tests_unless apart.wishes apart.preferences tables.now) }
+        ⟦<OtherTests<'a> as RowChecks<WishRow>>⟧.tests tests
+        ≡ others_unless apart.wishes apart.preferences tables.now) }
 {
     let Known {
         keyed,
@@ -384,7 +390,7 @@ fn fresh_tests<'a>(
     } = known;
     let rows = tables.wishes.as_slice();
     let by_wish = hashing_by(keyed, apart, rows);
-    let (own_ids, near) = wish_rooms(
+    let near = near_places(
         alloc,
         rows.len(),
         tables.programmes.len(),
@@ -402,48 +408,61 @@ fn fresh_tests<'a>(
             rest: preference_tests(alloc, keyed, by_wish, apart),
         },
     };
-    let names = Then {
-        first: NamesUnknown {
-            field: 3,
-            ids: programmes,
-            rule: ItsProgramme,
+    Ok(Then {
+        first: Unless {
+            is_known: apart.wishes,
+            test: Repeats {
+                keys: IndexSet::with_hasher(alloc, by_wish),
+                rule: WhatIsWished,
+                shared: Shared::Item,
+            },
         },
         rest: Then {
             first: NamesUnknown {
-                field: 4,
-                ids: schools,
-                rule: ItsSchool,
+                field: 3,
+                ids: programmes,
+                rule: ItsProgramme,
             },
-            rest: ranks,
-        },
-    };
-    Ok(Then {
-        first: RepeatsId {
-            alloc,
-            keyed,
-            ids: own_ids,
-            rule: OwnId,
-        },
-        rest: Then {
-            first: Unless {
-                is_known: apart.wishes,
-                test: Repeats {
-                    keys: IndexSet::with_hasher(alloc, by_wish),
-                    rule: WhatIsWished,
-                    shared: Shared::Item,
+            rest: Then {
+                first: NamesUnknown {
+                    field: 4,
+                    ids: schools,
+                    rule: ItsSchool,
                 },
+                rest: ranks,
             },
-            rest: names,
         },
     })
 }
 
-/// Checks the wishes.
-pub(crate) fn check_wishes<'a>(
+/// The tests of wishes, before the first row.
+fn fresh_tests<'a>(
     alloc: Global,
+    apart: Apart,
     tables: &'a Tables,
     known: Known<'a>,
-) -> Result<WishKeys, InFault>
+) -> Result<WishTests<'a>, OutOfMemory>
+    requires { IsKnown tables.now known }
+    ensures fresh { IfOk result (λ tests.
+        ⟦<WishTests<'a> as RowChecks<WishRow>>⟧.has_seen tests []) }
+    ensures tests { IfOk result (λ tests.
+        ⟦<WishTests<'a> as RowChecks<WishRow>>⟧.tests tests
+        ≡ tests_unless apart.wishes apart.preferences tables.now) }
+{
+    let ids = RowIds::with_room(alloc, tables.wishes.len())?;
+    Ok(Then {
+        first: RepeatsId {
+            alloc,
+            keyed: known.keyed,
+            ids,
+            rule: OwnId,
+        },
+        rest: other_tests(alloc, apart, tables, known)?,
+    })
+}
+
+/// Checks the wishes, row by row.
+fn check_rows<'a>(alloc: Global, tables: &'a Tables, known: Known<'a>) -> Result<WishKeys, InFault>
     requires known { IsKnown tables.now known }
     requires small { length tables.now.wishes < 2 ^ 32 }
     ensures fault { AnswersFault result
@@ -456,4 +475,27 @@ pub(crate) fn check_wishes<'a>(
     let apart = shown_apart(alloc, rows)?;
     let tests = fresh_tests(alloc, apart, tables, known)?;
     Ok(keys_in(scanned(Slot::Wishes, tests, rows)?))
+}
+
+/// Checks the wishes. Those whose candidates don't rise are put in order first, and tested row by
+/// row only where that shows a fault, to find the first.
+pub(crate) fn check_wishes<'a>(
+    alloc: Global,
+    tables: &'a Tables,
+    known: Known<'a>,
+) -> Result<WishKeys, InFault>
+    requires known { IsKnown tables.now known }
+    requires small { length tables.now.wishes < 2 ^ 32 }
+    ensures fault { AnswersFault result
+        (first_in slots.Wishes (wish_tests tables.now) tables.now.wishes) }
+    ensures ids { IfOk result (λ keys. keys.ids.keys ≡ wish_ids tables.now) }
+    ensures candidates { IfOk result (λ keys.
+        KnowsCandidates (get nat_eq keys.firsts) tables.now.wishes) }
+{
+    if !candidates_rise(tables.wishes.as_slice()) {
+        if let Some(keys) = shown_in_order(alloc, tables, known)? {
+            return Ok(keys);
+        }
+    }
+    check_rows(alloc, tables, known)
 }

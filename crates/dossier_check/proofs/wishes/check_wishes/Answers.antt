@@ -1,22 +1,13 @@
-use Rattle.std.proofs.Common.{subst, ◌∙◌, sym}
-use Rattle.dossier_check.specs.Outcome.{AnswersFault}
-use Rattle.dossier_check.proofs.Outcomes.{handed_on}
-use Rattle.dossier_check.proofs.WishTests.{found_same}
+use Rattle.std.proofs.Common.{nat_eq}
+use Rattle.std.proofs.lemmas.Result.{IfOk-weaker}
+use Rattle.indexmap.specs.IndexMap.{get}
+use Rattle.dossier_check.specs.Seen.{AreFirstWishes, KnowsCandidates}
+use Rattle.dossier_check.proofs.FirstRows.{kept_candidates}
 use Rattle.dossier_check.proofs.wishes.check_wishes.Goals as goal
 
-pub returns-in_err-scanned-clause-fault : goal.returns-in_err-scanned-clause-fault
-returns-in_err-scanned-clause-fault c =
-    let t = c.args.tables.now in
-    let e = c.from_residual-in_err-scanned in
-    let h = c.in_ok-apart in
-    subst (AnswersFault e.result)
-    (found_same t c.as_slice-rows.result.now h.apart.wishes h.apart.preferences _ c.as_slice-rows.ensures
-    c.in_ok-tests.ensures.tests h.ensures.wishes h.ensures.preferences)
-    (handed_on _ _ _ e.ensures.1 c.in_err-scanned.ensures.fault)
-
-pub returns-clause-fault : goal.returns-clause-fault
-returns-clause-fault c =
-    let h = c.in_ok-apart in
-    sym (found_same c.args.tables.now c.as_slice-rows.result.now h.apart.wishes h.apart.preferences _
-    c.as_slice-rows.ensures c.in_ok-tests.ensures.tests h.ensures.wishes h.ensures.preferences)
-    ∙ c.in_ok-scanned.ensures.fault
+pub returns-clause-candidates : goal.returns-clause-candidates
+returns-clause-candidates c =
+    let rows = c.args.tables.now.wishes in
+    IfOk-weaker c.check_rows.result (λ keys. AreFirstWishes (get nat_eq keys.firsts) rows)
+    (λ keys. KnowsCandidates (get nat_eq keys.firsts) rows)
+    (λ keys firsts. kept_candidates (get nat_eq keys.firsts) rows firsts) c.check_rows.ensures.firsts

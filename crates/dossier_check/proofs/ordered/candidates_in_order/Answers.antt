@@ -1,0 +1,36 @@
+use Rattle.std.proofs.Common.{◌≡◌, ◌∙◌, nat_eq, Ok, subst, sym}
+use Rattle.std.specs.List.Sorted.{IsPermutation}
+use Rattle.indexmap.specs.IndexMap.{get}
+use Rattle.dossier_check.specs.Seen.{AreFirstWishes}
+use Rattle.dossier_check.proofs.FirstRows.{kept_candidates}
+use Rattle.dossier_check.proofs.Reordered.{candidates_moved, no_fault_moved}
+use Rattle.dossier_check.proofs.WishTests.{found_others}
+use Rattle.dossier_check.proofs.ordered.candidates_in_order.Goals as goal
+
+pub returns-clause-fault : goal.returns-clause-fault
+returns-clause-fault c there =
+    let t = c.args.tables.now in
+    let rows = c.as_slice-rows.result.now in
+    let h = c.in_ok-apart in
+    let moved : IsPermutation t.wishes rows =
+    subst (λ xs. IsPermutation xs rows) c.as_slice.ensures
+    (subst (IsPermutation c.as_slice.result.now) (sym c.as_slice-rows.ensures.value) c.in_ok-ordered.ensures.moved) in
+    let ok : c.scanned.result ≡ Ok c.in-Some.tests = rw c.in-Some.is at c.in_ok-tests-2.ensures in
+    no_fault_moved t t.wishes rows moved
+    (sym (found_others t rows h.apart.wishes h.apart.preferences _ h.ensures.wishes h.ensures.preferences
+    c.in_ok-tests.ensures.tests)
+    ∙ (rw ok at c.scanned.ensures.fault))
+
+pub returns-clause-candidates : goal.returns-clause-candidates
+returns-clause-candidates c =
+    let t = c.args.tables.now in
+    let rows = c.as_slice-rows.result.now in
+    let moved : IsPermutation t.wishes rows =
+    subst (λ xs. IsPermutation xs rows) c.as_slice.ensures
+    (subst (IsPermutation c.as_slice.result.now) (sym c.as_slice-rows.ensures.value) c.in_ok-ordered.ensures.moved) in
+    let ok : c.scanned.result ≡ Ok c.in-Some.tests = rw c.in-Some.is at c.in_ok-tests-2.ensures in
+    let seen = rw ok at c.scanned.ensures.seen in
+    let firsts : AreFirstWishes (get nat_eq c.kept_in-firsts.result.0) rows =
+    subst (λ m. AreFirstWishes (get nat_eq m) rows) (sym c.kept_in-firsts.ensures) seen.1.1.1.1.1.0.0 in
+    candidates_moved (get nat_eq c.kept_in-firsts.result.0) t.wishes rows moved
+    (kept_candidates (get nat_eq c.kept_in-firsts.result.0) rows firsts)

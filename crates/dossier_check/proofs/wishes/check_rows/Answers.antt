@@ -1,0 +1,22 @@
+use Rattle.std.proofs.Common.{subst, ◌∙◌, sym}
+use Rattle.dossier_check.specs.Outcome.{AnswersFault}
+use Rattle.dossier_check.proofs.Outcomes.{handed_on}
+use Rattle.dossier_check.proofs.WishTests.{found_same}
+use Rattle.dossier_check.proofs.wishes.check_rows.Goals as goal
+
+pub returns-in_err-scanned-clause-fault : goal.returns-in_err-scanned-clause-fault
+returns-in_err-scanned-clause-fault c =
+    let t = c.args.tables.now in
+    let e = c.from_residual-in_err-scanned in
+    let h = c.in_ok-apart in
+    subst (AnswersFault e.result)
+    (found_same t c.as_slice-rows.result.now h.apart.wishes h.apart.preferences _ h.ensures.wishes
+    h.ensures.preferences c.as_slice-rows.ensures c.in_ok-tests.ensures.tests)
+    (handed_on _ _ _ e.ensures.1 c.in_err-scanned.ensures.fault)
+
+pub returns-clause-fault : goal.returns-clause-fault
+returns-clause-fault c =
+    let h = c.in_ok-apart in
+    sym (found_same c.args.tables.now c.as_slice-rows.result.now h.apart.wishes h.apart.preferences _ h.ensures.wishes
+    h.ensures.preferences c.as_slice-rows.ensures c.in_ok-tests.ensures.tests)
+    ∙ c.in_ok-scanned.ensures.fault

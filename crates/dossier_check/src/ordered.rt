@@ -1,0 +1,112 @@
+//! Wishes that are shown to have no fault by a look at them in order by candidate.
+ghost use Rattle.std.specs.Prelude.{◌≡◌, ◌<◌, ◌^◌, ◌∷◌, [], IfOk, IfSome, IsSome, None, Ok, length, nat_eq};
+ghost use Rattle.std.specs.List.Sorted.{IsPermutation};
+ghost use Rattle.indexmap.specs.IndexMap.{get};
+ghost use Rattle.admit_core.specs.declared.slot.Slot.TheVariants as slots;
+ghost use Rattle.admit_core.specs.Faults.{first_in};
+ghost use Rattle.admit_core.specs.Relations.{wish_tests, wish_ids};
+ghost use Rattle.dossier_check.specs.Known.{IsKnown};
+ghost use Rattle.dossier_check.specs.Seen.{KnowsCandidates};
+ghost use Rattle.dossier_check.specs.WishTests.{id_repeats, other_tests};
+
+use crate::apart::shown_apart;
+use crate::known::Known;
+use crate::noted::FirstWish;
+use crate::row_ids::RowIds;
+use crate::rules::OwnId;
+use crate::scan::scanned;
+use crate::slots::check_ids;
+use crate::wishes::{WishKeys, kept_in, other_tests};
+use admit_core::{InFault, OutOfMemory, Slot, Tables, WishRow};
+use indexmap::IndexMap;
+use keyed_hash::Keyed;
+use std::alloc::Global;
+
+/// Whether no wish's candidate has a lesser id than that of the wish before it.
+pub(crate) fn candidates_rise(rows: &[WishRow]) -> bool {
+    rows.is_sorted_by(|one, next| one.candidate <= next.candidate)
+}
+
+/// The wishes in order by candidate.
+fn in_order(alloc: Global, rows: &[WishRow]) -> Result<Vec<WishRow>, OutOfMemory>
+    ensures moved { IfOk result (λ ordered. IsPermutation rows.now ordered.items) }
+    ensures len { IfOk result (λ ordered. length ordered.items ≡ length rows.now) }
+{
+    let mut ordered = Vec::from_slice(alloc, rows)?;
+    ordered.sort_unstable_by_key(|row| row.candidate);
+    Ok(ordered)
+}
+
+/// What a check answers, or nothing where it refuses a row.
+fn unless_refused<T>(checked: Result<T, InFault>) -> Result<Option<T>, OutOfMemory>
+    ensures { IfOk result (λ found. IfSome found (λ value. checked ≡ Ok value)) }
+{
+    match checked {
+        Ok(value) => Ok(Some(value)),
+        Err(InFault::Refused(_)) => Ok(None),
+        Err(InFault::OutOfMemory) => Err(OutOfMemory),
+    }
+}
+
+/// The ids of the wishes, where none stands twice.
+fn ids_apart(alloc: Global, keyed: Keyed, tables: &Tables) -> Result<Option<RowIds>, OutOfMemory>
+    requires { length tables.now.wishes < 2 ^ 32 }
+    ensures fault { IfOk result (λ found. IsSome found →
+        first_in slots.Wishes (id_repeats ∷ []) tables.now.wishes ≡ None) }
+    ensures ids { IfOk result (λ found. IfSome found (λ ids. ids.keys ≡ wish_ids tables.now)) }
+{
+    unless_refused(check_ids(alloc, keyed, Slot::Wishes, OwnId, &tables.wishes))
+}
+
+/// Who has a wish, where the tests but that of ids stand at no wish. They are tried in order by
+/// candidate, in which each looks near where the one before found something.
+fn candidates_in_order<'a>(
+    alloc: Global,
+    tables: &'a Tables,
+    known: Known<'a>,
+) -> Result<Option<IndexMap<u32, FirstWish, Keyed>>, OutOfMemory>
+    requires known { IsKnown tables.now known }
+    requires small { length tables.now.wishes < 2 ^ 32 }
+    ensures fault { IfOk result (λ found. IsSome found →
+        first_in slots.Wishes (other_tests tables.now) tables.now.wishes ≡ None) }
+    ensures candidates { IfOk result (λ found. IfSome found (λ firsts.
+        KnowsCandidates (get nat_eq firsts) tables.now.wishes)) }
+{
+    let ordered = in_order(alloc, tables.wishes.as_slice())?;
+    let rows = ordered.as_slice();
+    let apart = shown_apart(alloc, rows)?;
+    let tests = other_tests(alloc, apart, tables, known)?;
+    let Some(tests) = unless_refused(scanned(Slot::Wishes, tests, rows))? else {
+        return Ok(None);
+    };
+    let (firsts, _) = kept_in(tests);
+    Ok(Some(firsts))
+}
+
+/// What the wishes are found by, where their order by candidate shows that they have no fault.
+pub(crate) fn shown_in_order<'a>(
+    alloc: Global,
+    tables: &'a Tables,
+    known: Known<'a>,
+) -> Result<Option<WishKeys>, OutOfMemory>
+    requires known { IsKnown tables.now known }
+    requires small { length tables.now.wishes < 2 ^ 32 }
+    ensures fault { IfOk result (λ found. IsSome found →
+        first_in slots.Wishes (wish_tests tables.now) tables.now.wishes ≡ None) }
+    ensures ids { IfOk result (λ found.
+        IfSome found (λ keys. keys.ids.keys ≡ wish_ids tables.now)) }
+    ensures candidates { IfOk result (λ found. IfSome found (λ keys.
+        KnowsCandidates (get nat_eq keys.firsts) tables.now.wishes)) }
+{
+    let Some(firsts) = candidates_in_order(alloc, tables, known)? else {
+        return Ok(None);
+    };
+    let Some(ids) = ids_apart(alloc, known.keyed, tables)? else {
+        return Ok(None);
+    };
+    Ok(Some(WishKeys {
+        ids,
+        firsts,
+        programmes: Vec::new(alloc),
+    }))
+}
