@@ -74,7 +74,7 @@ pub fn house_all(
     Ok(all)
 }
 
-/// Takes the beds of a school past a bar away.
+/// Takes away the beds of a school of those who rank past a bar.
 pub fn cut_school(housed: &mut Vec<Housed>, overfilled: &mut Overfilled, school: u32, to: u32)
     requires housed { school < length housed.old.items }
     requires overfilled { school < length overfilled.old }
