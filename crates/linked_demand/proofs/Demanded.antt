@@ -34,7 +34,7 @@ at_least : (x : RowWish) (xs : List RowWish)
 at_least x [] h = tt
 at_least x (y ∷ xs) h = (h 0 y refl, at_least x xs (λ k z at. h (suc k) z at))
 
-rises_row : (xs : List RowWish)
+pub rises_row : (xs : List RowWish)
     → ((j k : ℕ) (x y : RowWish) → j ≤ k → slice_get xs j ≡ Some x → slice_get xs k ≡ Some y → x.rank ≤ y.rank)
     → Rises xs
 rises_row [] h = tt
@@ -56,7 +56,7 @@ above_counted p low last (x ∷ xs) le =
       | inr not_so ↦ rw not_so (above_counted p low last xs le)
     ]
 
-ascends_counted : (p : ℕ → Bool) (last : ℕ) (xs : List RowWish) → Ascends (counted p last xs)
+pub ascends_counted : (p : ℕ → Bool) (last : ℕ) (xs : List RowWish) → Ascends (counted p last xs)
 ascends_counted p last [] = tt
 ascends_counted p last (x ∷ xs) =
     elim (cases_Bool (nat_lt last x.rank && p x.wish)) [
@@ -65,7 +65,7 @@ ascends_counted p last (x ∷ xs) =
     ]
 
 -- who passes at a rank
-abbrev passes : (ℕ → Bool) → ℕ → RowWish → Bool
+abbrev pub passes : (ℕ → Bool) → ℕ → RowWish → Bool
 passes p r x = p x.wish && nat_eq r x.rank
 
 none_below : (p : ℕ → Bool) (r n : ℕ) (xs : List RowWish) → r < n → AllByRecursion (λ y. n ≤ y.rank) xs
@@ -83,7 +83,7 @@ skip true later false h = refl
 skip true later true h = absurd (h refl refl)
 
 -- a rank is counted where it is above the last one and some wish passes at it
-among_counted : (p : ℕ → Bool) (r last : ℕ) (xs : List RowWish) → Rises xs
+pub among_counted : (p : ℕ → Bool) (r last : ℕ) (xs : List RowWish) → Rises xs
     → is_among r (counted p last xs) ≡ (nat_lt last r && list_any (passes p r) xs)
 among_counted p r last [] rises = sym (and_right (nat_lt last r) false refl)
 among_counted p r last (x ∷ xs) rises =
@@ -112,7 +112,7 @@ among_counted p r last (x ∷ xs) rises =
           (lt-ltb last x.rank (omega (arith, same, ltb-true last r above))) parts.0)))
     ]
 
-any_place : {X : Type 0} (q : X → Bool) (xs : List X) → list_any q xs ≡ true
+pub any_place : {X : Type 0} (q : X → Bool) (xs : List X) → list_any q xs ≡ true
     → (k : ℕ) × (x : X) × (slice_get xs k ≡ Some x) × (q x ≡ true)
 any_place q [] t = absurd (false≢true t)
 any_place q (x ∷ xs) t =

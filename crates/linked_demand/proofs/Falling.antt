@@ -91,7 +91,7 @@ in_front (y ∷ row) zero k x at = absurd (omega (arith, slice_get_within [] k x
 in_front (y ∷ row) (suc end) zero x at = (omega arith, at)
 in_front (y ∷ row) (suc end) (suc k) x at = let (lt, found) = in_front row end k x at in (omega arith, found)
 
-front_at : (row : List RowWish) (end k : ℕ) (x : RowWish) → k < end → slice_get row k ≡ Some x
+pub front_at : (row : List RowWish) (end k : ℕ) (x : RowWish) → k < end → slice_get row k ≡ Some x
     → slice_get (take end row) k ≡ Some x
 front_at [] end k x lt at = absurd (omega (arith, slice_get_within [] k x at))
 front_at (y ∷ row) zero k x lt at = absurd (omega arith)

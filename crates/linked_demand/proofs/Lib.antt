@@ -6,11 +6,12 @@
 -- How far seats reach: Reach, Leaving; the proposed wishes: Walking, Fronting, Listing, Fronted.
 -- Rows of the schools: Filling, Items, RowSteps, RowFronts, Demanded, Naming.
 -- A wish is closed: Moving, Ticking, Marking, Staying; the end of a row falls: Cutting, Telling.
--- A bar falls: OneFall, Asking, Asked, Answered, RoundFalls, TickLaw, Spending.
+-- A bar falls: OneFall, Answered, RoundFalls, TickLaw, Spending.
+-- Who has a bed: Rungs, HousedRows, HousedFronts, HousedAll, HousedWishes, HousedMarks, HousedFalls;
+-- the answers: Asking.
 -- The system as a whole: BarEach, Rounding, and last Lowered.
 pub mod Answered
 pub mod AnyOpen
-pub mod Asked
 pub mod Askings
 pub mod Asking
 pub mod BarEach
@@ -27,6 +28,12 @@ pub mod Filling
 pub mod Flagging
 pub mod Fronted
 pub mod Fronting
+pub mod HousedAll
+pub mod HousedFalls
+pub mod HousedFronts
+pub mod HousedMarks
+pub mod HousedRows
+pub mod HousedWishes
 pub mod Items
 pub mod Keeping
 pub mod Keyed
@@ -49,6 +56,7 @@ pub mod RoundFalls
 pub mod RowFronts
 pub mod RowSteps
 pub mod Rounding
+pub mod Rungs
 pub mod Seating
 pub mod Spending
 pub mod Staying

@@ -1,14 +1,13 @@
 -- Marks of places and the list of those that are marked.
-use Rattle.std.proofs.Common.{ℕ, zero, suc, ◌+◌, ◌-◌, ◌≤◌, ◌<◌, ◌≡◌, Bool, true, false, cond, List, [], ◌∷◌, ◌++◌}
+use Rattle.std.proofs.Common.{ℕ, zero, suc, ◌+◌, ◌≤◌, ◌<◌, ◌≡◌, Bool, true, false, cond, List, [], ◌∷◌, ◌++◌}
 use Rattle.std.proofs.Common.{length, reverse, get_or, refl, sym, ◌∙◌, ap, arith, count_by, subst}
 use Rattle.std.specs.Prelude.{replicate}
 use Rattle.std.proofs.Math.ListN.{set}
 use Rattle.std.proofs.lemmas.Bool.{false≢true}
-use Rattle.std.proofs.lemmas.List.{length-append, length-replicate, length-set, get_or-set_same, reverse-append}
+use Rattle.std.proofs.lemmas.List.{length-set, get_or-set_same, reverse-append}
 use Rattle.std.proofs.lemmas.List.{length-reverse}
 use Rattle.std.proofs.lemmas.List.Sums.{count_by-le-length, sum_by-set}
 use Rattle.linked_demand.specs.Listed.{AreMarked, MarksAreListed}
-use Rattle.linked_demand.proofs.Keeping.{add_none}
 
 -- a mark that is set where there was none, and taken away again
 set_back : (flags : List Bool) (h : ℕ) → get_or flags h false ≡ false → set (set flags h true) h false ≡ flags
@@ -83,35 +82,3 @@ module _ (flags : List Bool) (places : List ℕ) (room : ℕ) (right : MarksAreL
     listed = (last_listed new h is).1;
     room = omega (arith, length-set flags h false, right.room, same);
   }
-
--- the places are marked from the last one on
-set_before : (i m : ℕ)
-    → set (replicate (suc i) false ++ replicate m true) i true ≡ replicate i false ++ replicate (suc m) true
-set_before zero m = refl
-set_before (suc i) m = ap (λ (bs : List Bool). false ∷ bs) (set_before i m)
-
-pub all_more : (n i j : ℕ) → i ≤ n → i ≡ j + 1
-    → set (replicate i false ++ replicate (n - i) true) j true ≡ replicate j false ++ replicate (n - j) true
-all_more n i j le next =
-    let more : i ≡ suc j = omega (arith, next) in
-    let rest : n - j ≡ suc (n - suc j) = omega (arith, le, next) in
-    rw (more, rest) (set_before j (n - suc j))
-
-pub none_more : (n : ℕ) → replicate n false ≡ replicate n false ++ replicate (n - n) true
-none_more n =
-    let none : n - n ≡ 0 = omega arith in
-    rw none (add_none (replicate n false))
-
-pub all_done : (n i : ℕ) → i ≡ 0 → replicate i false ++ replicate (n - i) true ≡ replicate n true
-all_done n i done =
-    let all : n - i ≡ n = omega (arith, done) in
-    rw (all, done) refl
-
-pub all_long : (n i : ℕ) → i ≤ n → length (replicate i false ++ replicate (n - i) true) ≡ n
-all_long n i le = omega (
-  arith,
-  le,
-  length-append (replicate i false) (replicate (n - i) true),
-  length-replicate i false,
-  length-replicate (n - i) true,
-)

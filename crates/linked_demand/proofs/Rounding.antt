@@ -19,6 +19,7 @@ use Rattle.bar_fixpoint.proofs.Listing.{overfilled_by_rank}
 use Rattle.day_state.specs.Kept.{mark_in, wish_in}
 use Rattle.day_state.proofs.Places.{entry_in, entries_by_place}
 use Rattle.linked_demand.specs.declared.rows.RowWish.{RowWish}
+use Rattle.linked_demand.specs.declared.housed.Rung.{Rung}
 use Rattle.linked_demand.specs.Links.{LinksRow, WaitsAt, AllOpenWait}
 use Rattle.linked_demand.specs.Listed.{answered}
 use Rattle.linked_demand.proofs.Answered.{filter_agree}
@@ -60,8 +61,8 @@ proposed_by_place s orders bars long =
     (filter (λ (x : ℕ × (Wish × Mark)). test x.1) (enumerate_from 0 es))) (sym (entries_by_place s long))
 
 module _ (links : LinksRow) (ceilings bars free : List ℕ) (rows : List (Vec RowWish Global))
-    (overfilled : List (Option ℕ)) (marked : List Bool) (seen : Round)
-    (right : IsRoundUnder links ceilings bars free rows overfilled marked)
+    (overfilled : List (Option ℕ)) (marked : List Bool) (housed : List (List Rung)) (seen : Round)
+    (right : IsRoundUnder links ceilings bars free rows overfilled marked housed)
     (is : record { state = links.state; orders = links.orders; ceilings = ceilings; bars = bars } ≡ seen) where
   as_long : length bars ≡ length ceilings
   as_long = right.round.bars_each ∙ sym right.ceilings_each

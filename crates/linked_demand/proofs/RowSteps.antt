@@ -1,12 +1,12 @@
 -- A row is gone along item by item.
-use Rattle.std.proofs.Common.{ℕ, ◌+◌, ◌-◌, ◌<◌, ◌≤◌, ◌≡◌, Bool, true, false, ◌&&◌, List, ◌∷◌, ◌++◌, [], length, drop}
-use Rattle.std.proofs.Common.{get_or, sym, ◌∙◌, ap, arith, nat_lt, Some, None, suc}
-use Rattle.std.specs.Prelude.{slice_get, if◌then◌else◌}
+use Rattle.std.proofs.Common.{ℕ, ◌+◌, ◌<◌, ◌≤◌, ◌≡◌, Bool, true, false, ◌&&◌, List, ◌∷◌, ◌++◌, [], length, drop}
+use Rattle.std.proofs.Common.{get_or, sym, ◌∙◌, ap, nat_lt}
+use Rattle.std.specs.Prelude.{if◌then◌else◌}
 use Rattle.std.proofs.lemmas.Bool.{and_from, le-ltb, lt-ltb, and_right}
 use Rattle.std.proofs.lemmas.List.{append_assoc, append-nil, at_drop_more, at_drop_all}
 use Rattle.proposals.specs.declared.demands.Demand.{Demand}
 use Rattle.linked_demand.specs.declared.rows.RowWish.{RowWish}
-use Rattle.linked_demand.specs.Demand.{counted, firsts}
+use Rattle.linked_demand.specs.Demand.{firsts}
 
 module _ (p : ℕ → Bool) (row : List RowWish) where
   -- the walk ends with the row
@@ -14,12 +14,6 @@ module _ (p : ℕ → Bool) (row : List RowWish) where
       → firsts p 0 row ≡ found ++ firsts p last (drop i row) → found ≡ firsts p 0 row
   firsts_all i last found le are =
       sym (are ∙ ap (λ (ys : List Demand). found ++ ys) (at_drop_all (firsts p last) row i le) ∙ append-nil found)
-
-  pub over_none : (i last free found : ℕ) → length row ≤ i
-      → slice_get (counted p 0 row) free ≡ slice_get (counted p last (drop i row)) (free - found)
-      → None ≡ slice_get (counted p 0 row) free
-  over_none i last free found le rest =
-      sym (rest ∙ ap (λ (ks : List ℕ). slice_get ks (free - found)) (at_drop_all (counted p last) row i le))
 
   module _ (i : ℕ) (d : RowWish) (lt : i < length row) (last : ℕ) where
     -- one who passes is the next demand
@@ -56,47 +50,6 @@ module _ (p : ℕ → Bool) (row : List RowWish) where
         ∙ ap (λ b. if b then (here ∷ firsts p x.rank rest) else firsts p last rest) fails)
         ∙ ap (λ (ys : List Demand). ys ++ firsts p last rest) (sym new_is)
         ∙ ap (λ (k : ℕ). new ++ firsts p k rest) (sym named_is)
-
-    -- the demanded ranks are counted alike
-    pub counted_more : last < (get_or row i d).rank → p (get_or row i d).wish ≡ true
-        → counted p last (drop i row) ≡ (get_or row i d).rank ∷ counted p (get_or row i d).rank (drop (i + 1) row)
-    counted_more above passes =
-        let x = get_or row i d in
-        let rest = drop (i + 1) row in
-        at_drop_more (counted p last) row i d lt
-        ∙ ap (λ b. if b then (x.rank ∷ counted p x.rank rest) else counted p last rest)
-        (and_from (nat_lt last x.rank) (p x.wish) (lt-ltb last x.rank above) passes)
-
-    pub counted_same : (nat_lt last (get_or row i d).rank && p (get_or row i d).wish) ≡ false
-        → counted p last (drop i row) ≡ counted p last (drop (i + 1) row)
-    counted_same fails =
-        let x = get_or row i d in
-        let rest = drop (i + 1) row in
-        at_drop_more (counted p last) row i d lt
-        ∙ ap (λ b. if b then (x.rank ∷ counted p x.rank rest) else counted p last rest) fails
-
-    -- the one that is the first to have no bed
-    pub over_here : (free found : ℕ) → found ≡ free → last < (get_or row i d).rank → p (get_or row i d).wish ≡ true
-        → slice_get (counted p 0 row) free ≡ slice_get (counted p last (drop i row)) (free - found)
-        → Some (get_or row i d).rank ≡ slice_get (counted p 0 row) free
-    over_here free found is above passes so_far =
-        let x = get_or row i d in
-        let rest = counted p x.rank (drop (i + 1) row) in
-        let none : free - found ≡ 0 = omega (arith, is) in
-        sym (so_far ∙ ap (λ (ks : List ℕ). slice_get ks (free - found)) (counted_more above passes)
-        ∙ ap (λ (n : ℕ). slice_get (x.rank ∷ rest) n) none)
-
-    -- one who has a bed
-    pub over_later : (free found : ℕ) → found < free → last < (get_or row i d).rank → p (get_or row i d).wish ≡ true
-        → slice_get (counted p 0 row) free ≡ slice_get (counted p last (drop i row)) (free - found)
-        → slice_get (counted p 0 row) free
-        ≡ slice_get (counted p (get_or row i d).rank (drop (i + 1) row)) (free - (found + 1))
-    over_later free found few above passes so_far =
-        let x = get_or row i d in
-        let rest = counted p x.rank (drop (i + 1) row) in
-        let less : free - found ≡ suc (free - (found + 1)) = omega (arith, few) in
-        so_far ∙ ap (λ (ks : List ℕ). slice_get ks (free - found)) (counted_more above passes)
-        ∙ ap (λ (n : ℕ). slice_get (x.rank ∷ rest) n) less
 
     pub not_above : (get_or row i d).rank ≤ last
         → (nat_lt last (get_or row i d).rank && p (get_or row i d).wish) ≡ false

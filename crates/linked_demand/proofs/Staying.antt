@@ -14,7 +14,7 @@ use Rattle.admit_core.proofs.Tests.{count_implied}
 use Rattle.linked_demand.specs.Opens.{flagged, is_flagged_in, wants_by, ahead_by, is_proposed_by}
 use Rattle.linked_demand.specs.Links.{LinksRow}
 use Rattle.linked_demand.specs.Demand.{is_proposed_at}
-use Rattle.linked_demand.specs.Marks.{is_new, MarksSchools}
+use Rattle.linked_demand.specs.Marks.{is_new, MarksWishes}
 use Rattle.linked_demand.proofs.Counting.{count_sum, count_nothing}
 use Rattle.linked_demand.proofs.Marking.{marks_both, marks_nothing}
 
@@ -132,7 +132,7 @@ module _ (start : LinksRow) (bars : List ℕ) where
       (λ j e at. nothing_bits (is_proposed_at links j) (is_open start.state bars e.0 e.1))
 
   pub none_marked : (links : LinksRow) (marked : List Bool)
-      → MarksSchools start.state (is_new start.state bars links links) marked marked
+      → MarksWishes start.state (is_new start.state bars links links) marked marked
   none_marked links marked =
       marks_nothing start.state (is_new start.state bars links links) marked
       (λ j e at. nothing_bits (is_proposed_at links j) (is_open start.state bars e.0 e.1))
@@ -155,9 +155,9 @@ module _ (start : LinksRow) (bars : List ℕ) where
 
   -- so do the marks
   pub marks_add : (now new : LinksRow) (marked then after : List Bool)
-      → MarksSchools start.state (is_new start.state bars start now) marked then
-      → MarksSchools start.state (is_new start.state bars now new) then after
-      → MarksSchools start.state (is_new start.state bars start new) marked after
+      → MarksWishes start.state (is_new start.state bars start now) marked then
+      → MarksWishes start.state (is_new start.state bars now new) then after
+      → MarksWishes start.state (is_new start.state bars start new) marked after
   marks_add now new marked then after =
       marks_both start.state (is_new start.state bars start now) (is_new start.state bars now new)
       (is_new start.state bars start new) marked then after

@@ -13,7 +13,7 @@ use Rattle.admit_core.specs.Proposals.{is_open}
 use Rattle.linked_demand.specs.declared.rows.RowWish.{RowWish}
 use Rattle.linked_demand.specs.Links.{LinksRow}
 use Rattle.linked_demand.specs.Rows.{closed, StayOpen}
-use Rattle.linked_demand.specs.Marks.{is_new, MarksSchools}
+use Rattle.linked_demand.specs.Marks.{is_new, MarksWishes}
 use Rattle.linked_demand.proofs.Cutting.{SoFar}
 use Rattle.linked_demand.proofs.Falling.{is_wish_of, flag_closed, found_behind}
 use Rattle.linked_demand.proofs.Staying.{AreFewer, with_opens, places, new_adds, marks_add}
@@ -103,11 +103,11 @@ module _ (start : LinksRow) (bars : List ℕ) (to : ℕ) (row : List RowWish)
 
   -- and the marks
   pub marks_told : (marked then after : List Bool)
-      → MarksSchools start.state (is_new start.state bars start now) marked then
-      → MarksSchools now.state (is_new now.state bars now new) then after
-      → MarksSchools start.state (is_new start.state bars start new) marked after
+      → MarksWishes start.state (is_new start.state bars start now) marked then
+      → MarksWishes now.state (is_new now.state bars now new) then after
+      → MarksWishes start.state (is_new start.state bars start new) marked after
   marks_told marked then after so_far more =
-      let P = λ (t : State). MarksSchools t (is_new t bars now new) then after in
+      let P = λ (t : State). MarksWishes t (is_new t bars now new) then after in
       marks_add start bars now new marked then after so_far (subst P (ap (λ (r : LinksRow). r.state) far.now_is) more)
 
 pub steps_end : (row kept : List RowWish) (end after sum : ℕ) → end ≤ length row → kept ≡ take end row

@@ -16,7 +16,7 @@ use Rattle.day_state.specs.Kept.{wish_in}
 use Rattle.linked_demand.specs.Line.{LineRow}
 use Rattle.linked_demand.specs.Links.{LinksRow, claim_of}
 use Rattle.linked_demand.specs.Demand.{is_proposed_at}
-use Rattle.linked_demand.specs.Marks.{is_new, is_fresh, MarksSchools}
+use Rattle.linked_demand.specs.Marks.{is_new, is_fresh, MarksWishes}
 use Rattle.linked_demand.proofs.Closing.{Closes, wish_of, places_below}
 use Rattle.linked_demand.proofs.Counting.{count_claim, count_entries, count_nothing}
 use Rattle.linked_demand.proofs.Filling.{entry_is}
@@ -43,7 +43,7 @@ claim_fits {s} k p c claim is n each =
 -- what a closing counts and marks, as the call says it
 pub record Told (seen new : LinksRow) (bars : List ℕ) (count after : ℕ) (old now : List Bool) : Type 0 where
   pub steps : after ≡ count + count_by (is_new seen.state bars seen new) (enumerate_from 0 (entries seen.state))
-  pub marked : MarksSchools seen.state (is_new seen.state bars seen new) old now
+  pub marked : MarksWishes seen.state (is_new seen.state bars seen new) old now
 
 -- nothing, where nothing becomes proposed
 pub told_none : (s : State) (orders : List CallOrder) (opens : List Bool) (i : ℕ) (seen : LinksRow)
@@ -86,7 +86,7 @@ pub told_some : (s : State) (orders : List CallOrder) (opens sure : List Bool) (
     → length s.marks ≡ length s.dossier.wishes → (bars claim : List ℕ) → claim ≡ claim_of s.dossier p c
     → (flags sures : List Bool) → flags ≡ set opens i false → sures ≡ sure → (count after : ℕ) (old now : List Bool)
     → after ≡ count + count_by (is_fresh s bars flags sures) claim
-    → MarksSchools s (λ x. is_among x.0 claim && is_fresh s bars flags sures x.0) old now
+    → MarksWishes s (λ x. is_among x.0 claim && is_fresh s bars flags sures x.0) old now
     → Told seen (before s orders (set opens i false)) bars count after old now
 told_some s orders opens sure i p c seen is each marks_each bars claim claim_is flags sures flags_are
     sures_are count after old now sum marks =
@@ -104,7 +104,7 @@ told_some s orders opens sure i p c seen is each marks_each bars claim claim_is 
     (ap (λ (v : Wish). is_open s bars v e.1) (sym entry.0)
     ∙ ap (λ (m : Mark). is_open s bars (wish_in s.dossier.wishes j) m) (sym entry.1)) in
     let own_sum : after ≡ count + count_by q (claim_of s.dossier p c) = rw (← claim_is, ← flags_are, ← sures_are) sum in
-    let own_marks : MarksSchools s (λ x. is_among x.0 (claim_of s.dossier p c) && q x.0) old now =
+    let own_marks : MarksWishes s (λ x. is_among x.0 (claim_of s.dossier p c) && q x.0) old now =
     rw (← claim_is, ← flags_are, ← sures_are) marks in
     subst P is (record {
       steps = omega (

@@ -1,7 +1,6 @@
 -- The demanded ranks of a school, as its row tells them.
-use Rattle.std.specs.Prelude.{◌≡◌, ℕ, Bool, false, ◌&&◌, List, [], ◌∷◌, length, Option, Some, None, option_map}
-use Rattle.std.specs.Prelude.{unwrap_or, nat_lt, slice_get, slice_index, slice_index_or, if◌then◌else◌, Vec}
-use Rattle.std.specs.declared.alloc.Global.{Global}
+use Rattle.std.specs.Prelude.{ℕ, Bool, false, ◌&&◌, List, [], ◌∷◌, Option, option_map}
+use Rattle.std.specs.Prelude.{unwrap_or, nat_lt, slice_get, slice_index_or, if◌then◌else◌}
 use Rattle.admit_core.specs.declared.ranking.CallOrder.{CallOrder}
 use Rattle.admit_core.specs.State.{State, entries, free_beds}
 use Rattle.admit_core.specs.Proposals.{demanded_ranks}
@@ -30,21 +29,6 @@ counted p last [] = []
 counted p last (x ∷ xs) =
     if nat_lt last x.rank && p x.wish then (x.rank ∷ counted p x.rank xs) else counted p last xs
 
--- the demanded rank of a row that is the first to have no bed, where so many are free
-abbrev pub row_over : LinksRow → List RowWish → ℕ → Option ℕ
-row_over l row beds = slice_get (counted (is_proposed_at l) 0 row) beds
-
--- and that of a school under bars
+-- the demanded rank of a school under bars that is the first to have no bed
 abbrev pub over_at : State → List CallOrder → List ℕ → ℕ → Option ℕ
 over_at s orders bars h = slice_get (demanded_ranks s orders bars h) (free_beds s h)
-
--- the answers of the schools that pass a test are those of their rows, and the others stay
-pub record IsAsked (l : LinksRow) (rows : List (Vec RowWish Global)) (free : List ℕ)
-    (test : ℕ → Bool)
-    (old new : List (Option ℕ)) : Type 0 where
-  pub as_long : length new ≡ length old
-  pub each :
-      (h : ℕ) (row : Vec RowWish Global)
-      → slice_get rows h ≡ Some row
-      → slice_index_or new h None ≡ (if test h then row_over l row.items (slice_index free h)
-      else slice_index_or old h None)

@@ -6,7 +6,9 @@ use Rattle.day_state.specs.Kept.{has_bed_there, wish_in}
 use Rattle.admit_core.specs.declared.ranking.CallOrder.{CallOrder}
 use Rattle.admit_core.specs.State.{State, is_school}
 use Rattle.linked_demand.specs.declared.rows.RowWish.{RowWish}
+use Rattle.linked_demand.specs.Demand.{is_proposed_at}
 use Rattle.linked_demand.specs.Keyed.{AreRowsOf}
+use Rattle.linked_demand.specs.Links.{LinksRow}
 use Rattle.linked_demand.specs.Rows.{is_sure, row_item}
 
 -- the wish at a place is open by its flag, and its candidate has no bed in its school
@@ -16,6 +18,12 @@ wants_bed s opens k = slice_index_or opens k false && not (has_bed_there s k)
 -- where it does, whether its candidate needs no seat
 abbrev pub bed_wish : State → List CallOrder → List Bool → ℕ → Option Bool
 bed_wish s orders opens k = if wants_bed s opens k then Some (is_sure s orders k) else None
+
+-- the school in which it demands a bed
+abbrev pub bed_sought : LinksRow → ℕ → Option ℕ
+bed_sought l k =
+    if wants_bed l.state l.opens k && is_proposed_at l k
+    then (wish_in l.state.dossier.wishes k).school else None
 
 -- it wants a bed and has this school, in whose row it stands
 abbrev pub is_in_row : State → List Bool → ℕ → ℕ → Bool

@@ -4,6 +4,7 @@ pub mod Claims
 pub mod Demand
 pub mod Filled
 pub mod Fronts
+pub mod Housed
 pub mod Keyed
 pub mod Line
 pub mod Lineups

@@ -1,9 +1,9 @@
--- Which wishes become proposed where wishes are closed, and the marks of their schools.
-use Rattle.std.specs.Prelude.{◌≡◌, ℕ, ◌<◌, Bool, true, false, not, ◌&&◌, List, length, Option, Some, None, slice_get}
-use Rattle.std.specs.Prelude.{slice_set, slice_index_or}
+-- Which wishes become proposed where wishes are closed, and their marks.
+use Rattle.std.specs.Prelude.{◌≡◌, ℕ, ◌<◌, Bool, true, false, not, ◌&&◌, List, length, Some, slice_get}
+use Rattle.std.specs.Prelude.{slice_index_or}
 use Rattle.admit_core.specs.declared.dossier.Wish.{Wish}
 use Rattle.admit_core.specs.declared.state.Mark.{Mark}
-use Rattle.admit_core.specs.State.{State, entries, has_school}
+use Rattle.admit_core.specs.State.{State, entries}
 use Rattle.admit_core.specs.Proposals.{is_open}
 use Rattle.day_state.specs.Kept.{mark_in, wish_in}
 use Rattle.linked_demand.specs.Links.{LinksRow}
@@ -20,19 +20,12 @@ is_fresh s bars opens sure k =
     (slice_index_or opens k false && not (slice_index_or sure k false)) && is_open s bars
     (wish_in s.dossier.wishes k) (mark_in s.marks k)
 
--- the flags with that of a school set, if there is one
-abbrev pub with_mark : Option ℕ → List Bool → List Bool
-with_mark None marked = marked
-with_mark (Some h) marked = slice_set marked h true
-
--- marks of schools: those that were set stay, and the school of each wish that passes a test is
--- marked
-pub record MarksSchools (s : State) (test : ℕ × (Wish × Mark) → Bool)
+-- marks of wishes: those that were set stay, and each wish that passes a test is marked
+pub record MarksWishes (s : State) (test : ℕ × (Wish × Mark) → Bool)
     (old new : List Bool) : Type 0 where
   pub as_long : length new ≡ length old
-  pub grows : (h : ℕ) → slice_index_or old h false ≡ true → slice_index_or new h false ≡ true
+  pub grows : (k : ℕ) → slice_index_or old k false ≡ true → slice_index_or new k false ≡ true
   pub each :
-      (k : ℕ) (e : Wish × Mark) (h : ℕ)
-      → slice_get (entries s) k ≡ Some e → test (k, e) ≡ true → has_school e.0 h ≡ true
-      → h < length old
-      → slice_index_or new h false ≡ true
+      (k : ℕ) (e : Wish × Mark)
+      → slice_get (entries s) k ≡ Some e → test (k, e) ≡ true → k < length old
+      → slice_index_or new k false ≡ true

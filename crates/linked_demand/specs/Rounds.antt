@@ -1,5 +1,5 @@
 -- A round of falls that keeps the links of the programmes and the rows of the schools.
-use Rattle.std.specs.Prelude.{◌≡◌, ℕ, Bool, List, length, map, Option, Some, slice_get, slice_index, Vec}
+use Rattle.std.specs.Prelude.{◌≡◌, ℕ, Bool, false, List, length, map, Option, Some, slice_get, slice_index, Vec}
 use Rattle.std.specs.List.{range_with_len}
 use Rattle.std.specs.declared.alloc.Global.{Global}
 use Rattle.std.proofs.lemmas.List.FromFn.{length-map-range_with_len}
@@ -12,6 +12,8 @@ use Rattle.linked_demand.specs.Links.{LinksRow}
 use Rattle.linked_demand.specs.Opens.{opens_of}
 use Rattle.linked_demand.specs.Rows.{IsRow, AllItems}
 use Rattle.linked_demand.specs.Demand.{over_at}
+use Rattle.linked_demand.specs.declared.housed.Rung.{Rung}
+use Rattle.linked_demand.specs.Housed.{AllHoused}
 
 -- what a round is seen as
 pub record Round : Type 0 where
@@ -32,16 +34,18 @@ pub record IsRound (links : LinksRow) (bars free : List ℕ)
       → IsRow links.state bars h row.items
   pub items_are : AllItems links.state links.orders rows
 
--- what holds of the parts of a round: with the answers of the schools, and a mark each
+-- what holds of the parts of a round: with the answers of the schools, who has a bed in each, and no
+-- mark of a wish
 pub record IsRoundUnder (links : LinksRow) (ceilings bars free : List ℕ)
     (rows : List (Vec RowWish Global))
-    (overfilled : List (Option ℕ)) (marked : List Bool) : Type 0 where
+    (overfilled : List (Option ℕ)) (marked : List Bool) (housed : List (List Rung)) : Type 0 where
   pub round : IsRound links bars free rows
   pub ceilings_each : length ceilings ≡ length links.state.dossier.schools
   pub overfilled_are : overfilled
       ≡ map (over_at links.state links.orders bars)
       (range_with_len 0 (length links.state.dossier.schools))
-  pub marked_each : length marked ≡ length links.state.dossier.schools
+  pub marked_each : length marked ≡ length links.state.dossier.wishes
+  pub housed_are : AllHoused links (λ k. false) rows free overfilled housed
 
 -- one bar for each ceiling
 abbrev pub bar_each : List ℕ → List ℕ → List ℕ

@@ -53,11 +53,15 @@ pub record WaitsFor (s : State) (h : ℕ) (x : RowWish) (w : Wish) (m : Mark) : 
   pub no_bed : not (holds_bed s w.candidate h) ≡ true
   pub rank : x.rank ≡ w.board_rank
 
+-- the ranks of a row do not fall
+abbrev pub RanksRise : List RowWish → Type 0
+RanksRise row = (j k : ℕ) (x y : RowWish) → j ≤ k → slice_get row j ≡ Some x
+    → slice_get row k ≡ Some y → x.rank ≤ y.rank
+
 -- the row of a school: those who wait for it and rank at most at the bar, by rank, and those of one
 -- rank by place
 pub record IsRow (s : State) (bars : List ℕ) (h : ℕ) (row : List RowWish) : Type 0 where
-  pub rises : (j k : ℕ) (x y : RowWish) → j ≤ k → slice_get row j ≡ Some x
-      → slice_get row k ≡ Some y → x.rank ≤ y.rank
+  pub rises : RanksRise row
   pub in_order : (j k : ℕ) (x y : RowWish) → j < k → slice_get row j ≡ Some x
       → slice_get row k ≡ Some y
       → x.rank ≡ y.rank → x.wish < y.wish

@@ -1,18 +1,17 @@
 //! Wishes that become proposed.
 ghost use Rattle.std.specs.Prelude.{◌≡◌, ℕ, ◌+◌, ◌<◌, ◌&&◌, length, count_by, All};
-ghost use Rattle.std.specs.Option.{ForSome};
 ghost use Rattle.admit_core.specs.declared.dossier.Wish.{Wish};
 ghost use Rattle.admit_core.specs.declared.state.Mark.{Mark};
 ghost use Rattle.admit_core.specs.Lists.{is_among};
 ghost use Rattle.linked_demand.specs.Opens.{all_sure};
-ghost use Rattle.linked_demand.specs.Marks.{is_fresh, with_mark, MarksSchools};
+ghost use Rattle.linked_demand.specs.Marks.{is_fresh, MarksWishes};
 
 use crate::marks::Marks;
 use crate::open_wishes::OpenWishes;
 use crate::seats::needs_no_seat;
 use admit_core::Steps;
 use day_state::DayState;
-use proposals::{is_open, wish_at};
+use proposals::is_open;
 use std::sync::ledger::Ledger;
 
 /// Whether a wish is open, by its flag and under bars, and is called by its turn alone.
@@ -32,17 +31,7 @@ fn is_fresh(
     opens.get(wish) && !needs_no_seat(state, early, wish) && is_open(state, bars, wish)
 }
 
-/// Marks a school, if there is one.
-fn mark(marked: &mut Marks, school: Option<u32>)
-    requires { ForSome school (λ h. h < length marked.old) }
-    ensures { marked.new ≡ with_mark school marked.old }
-{
-    if let Some(school) = school {
-        marked.set(school);
-    }
-}
-
-/// Ticks once for each wish of a claim that is fresh, and marks its school.
+/// Ticks once for each wish of a claim that is fresh, and marks it.
 pub fn note_fresh<L: Ledger>(
     state: &DayState<'_>,
     bars: &[u32],
@@ -56,17 +45,17 @@ pub fn note_fresh<L: Ledger>(
     requires bars { length bars.now ≡ length state.now.dossier.schools }
     requires opens { length opens.now ≡ length state.now.dossier.wishes }
     requires early { length early.now ≡ length state.now.dossier.wishes }
-    requires marked { length marked.old ≡ length state.now.dossier.schools }
+    requires marked { length marked.old ≡ length state.now.dossier.wishes }
     ensures steps { steps.new
         ≡ steps.old + count_by (is_fresh state.now bars.now opens.now
         (all_sure state.now early.now)) claim.now }
-    ensures marked { MarksSchools state.now (λ x. is_among x.0 claim.now && is_fresh state.now
+    ensures marked { MarksWishes state.now (λ x. is_among x.0 claim.now && is_fresh state.now
         bars.now opens.now (all_sure state.now early.now) x.0) marked.old marked.new }
 {
     for wish in claim {
         if is_fresh(state, bars, opens, early, *wish) {
             steps.tick();
-            mark(marked, wish_at(state, *wish).school);
+            marked.set(*wish);
         }
     }
 }

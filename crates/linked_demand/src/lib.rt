@@ -1,6 +1,7 @@
-//! The boarding schools of a state as a system of falling bars that keeps who is served and which
-//! schools are overfilled: a fall costs the rows of the schools whose demand it changes, not a look
-//! at all schools or all wishes. The plain form is `demand`. The `Lineup` is shared by all passes.
+//! The boarding schools of a state as a system of falling bars that keeps who is served, who has a
+//! bed and which schools are overfilled: a fall costs the wishes that it closes and those that
+//! become proposed, not a look at all schools or all wishes. The plain form is `demand`. The
+//! `Lineup` is shared by all passes.
 //!
 //! `let schools = LinkedRound::build(alloc, &state, &orders, &lineup, ceilings)?;`
 #![tactic(auto)]
@@ -15,6 +16,8 @@ mod fill;
 mod fresh;
 mod fronts;
 mod guesses;
+mod housed;
+mod housing;
 mod law;
 mod line;
 mod lineup;

@@ -30,17 +30,26 @@ fn line_once(state: &DayState<'_>, orders: &CallOrders)
     let _ = &dossier.wishes; // learns the invariant
 }
 
+/// What is known of each wish, by place: the place of its candidate in the line of its programme,
+/// and whether they are called by the programme's limit.
+#[derive(Drop)]
+struct Notes {
+    places: Vec<u32>,
+    early: Vec<bool>,
+}
+
 /// Notes for the wishes of a claim their candidate's place in the line, and whether they are called
 /// by the programme's limit.
-fn note(places: &mut Vec<u32>, early: &mut Vec<bool>, claim: &[u32], place: u32, is_early: bool)
-    requires places { All (λ k. k < length places.old.items) claim.now }
-    requires early { length early.old.items ≡ length places.old.items }
-    ensures places { PutAt ℕ 0 claim.now place places.old.items places.new.items }
-    ensures early { PutAt Bool false claim.now is_early early.old.items early.new.items }
+fn note(notes: &mut Notes, claim: &[u32], place: u32, is_early: bool)
+    requires places { All (λ k. k < length notes.old.places.items) claim.now }
+    requires early { length notes.old.early.items ≡ length notes.old.places.items }
+    ensures places { PutAt ℕ 0 claim.now place notes.old.places.items notes.new.places.items }
+    ensures early { PutAt Bool false claim.now is_early notes.old.early.items
+        notes.new.early.items }
 {
     for wish in claim {
-        places[*wish as usize] = place;
-        early[*wish as usize] = is_early;
+        notes.places[*wish as usize] = place;
+        notes.early[*wish as usize] = is_early;
     }
 }
 
@@ -75,8 +84,7 @@ fn line_up(
     programme: u32,
     wishes: Vec<u32>,
     before: &[u32],
-    places: &mut Vec<u32>,
-    early: &mut Vec<bool>,
+    notes: &mut Notes,
 ) -> Result<Claims, OutOfMemory>
     requires programme { programme < length state.now.dossier.programmes }
     requires once { IsDistinct nat_eq (line_of state.now.dossier orders.now.orders programme) }
@@ -85,12 +93,12 @@ fn line_up(
     requires before { before.now ≡ map (before_at state.now.dossier orders.now.orders)
         wishes.items }
     requires seated { AreSeated state.now.dossier orders.now.orders (is_below programme)
-        places.old.items early.old.items }
+        notes.old.places.items notes.old.early.items }
     ensures claims { IfOk result (λ x. x ≡ map (claim_of state.now.dossier programme)
         (line_of state.now.dossier orders.now.orders programme)) }
     ensures seated { OnOk result (AreSeated state.now.dossier orders.now.orders
         (is_passed programme (line_of state.now.dossier orders.now.orders programme))
-        places.new.items early.new.items) }
+        notes.new.places.items notes.new.early.items) }
 {
     let mut spans = Vec::with_capacity(alloc, wishes.len())?;
     let limit = limit_of(state, programme);
@@ -102,13 +110,7 @@ fn line_up(
             to: to as u32,
         };
         let is_early = is_early(before[from], limit);
-        note(
-            places,
-            early,
-            part(&wishes, span),
-            spans.len() as u32,
-            is_early,
-        );
+        note(notes, part(&wishes, span), spans.len() as u32, is_early);
         spans.push(span)?;
         from = to;
     }
@@ -121,14 +123,13 @@ fn claims_of(
     alloc: Global,
     state: &DayState<'_>,
     orders: &CallOrders,
-    places: &mut Vec<u32>,
-    early: &mut Vec<bool>,
+    notes: &mut Notes,
 ) -> Result<Vec<Claims>, OutOfMemory>
     requires orders { AreCallOrders state.now.dossier.groups orders.now.orders }
-    requires places { length places.old.items ≡ length state.now.dossier.wishes }
-    requires early { length early.old.items ≡ length state.now.dossier.wishes }
+    requires places { length notes.old.places.items ≡ length state.now.dossier.wishes }
+    requires early { length notes.old.early.items ≡ length state.now.dossier.wishes }
     ensures { IfOk result (λ v. IsLineup state.now.dossier orders.now.orders v.items
-        places.new.items early.new.items) }
+        notes.new.places.items notes.new.early.items) }
 {
     call_everyone(state, orders);
     line_once(state, orders);
@@ -139,9 +140,7 @@ fn claims_of(
         let place = programme as usize;
         let wishes = mem::replace(&mut called.wishes[place], Vec::new(alloc));
         let before = mem::replace(&mut called.before[place], Vec::new(alloc));
-        let own = line_up(
-            alloc, state, orders, programme, wishes, &before, places, early,
-        )?;
+        let own = line_up(alloc, state, orders, programme, wishes, &before, notes)?;
         claims.push(own)?;
     }
     Ok(claims)
@@ -184,9 +183,11 @@ impl Lineup {
         ensures { IfOk result (IsLineupOf state.now.dossier orders.now.orders) }
     {
         let count = state.dossier().wishes.len();
-        let mut places = vec![in alloc; 0; count]?;
-        let mut early = vec![in alloc; false; count]?;
-        let claims = claims_of(alloc, state, orders, &mut places, &mut early)?;
+        let places = vec![in alloc; 0; count]?;
+        let early = vec![in alloc; false; count]?;
+        let mut notes = Notes { places, early };
+        let claims = claims_of(alloc, state, orders, &mut notes)?;
+        let Notes { places, early } = notes;
         let boarders = boarders_by_rank(alloc, state)?;
         let maybe_sure = maybe_sure_of(alloc, state, orders, &claims, &places, &early)?;
         Ok(Lineup {

@@ -4,7 +4,7 @@ ghost use Rattle.std.specs.List.{enumerate_from, range_with_len};
 ghost use Rattle.admit_core.specs.Proposals.{is_behind_bar};
 ghost use Rattle.admit_core.specs.State.{entries};
 ghost use Rattle.day_state.specs.Kept.{wish_in};
-ghost use Rattle.linked_demand.specs.Marks.{is_new, MarksSchools};
+ghost use Rattle.linked_demand.specs.Marks.{is_new, MarksWishes};
 ghost use Rattle.linked_demand.specs.Lineups.{IsLineupOf};
 ghost use Rattle.linked_demand.specs.Opens.{all_sure, opens_of};
 ghost use Rattle.linked_demand.specs.Boarders.{AreBoarders, IsBoarder};
@@ -12,7 +12,8 @@ ghost use Rattle.admit_core.specs.declared.dossier.Wish.{Wish};
 ghost use Rattle.admit_core.specs.declared.state.Mark.{Mark};
 ghost use Rattle.linked_demand.specs.Links.{LinksRow, WaitsAt, AllOpenWait};
 ghost use Rattle.linked_demand.specs.Demand.{is_proposed_at};
-ghost use Rattle.linked_demand.specs.Filled.{bed_wish, wants_bed};
+ghost use Rattle.std.specs.Option.{ForSome};
+ghost use Rattle.linked_demand.specs.Filled.{bed_sought, bed_wish, wants_bed};
 ghost use Rattle.linked_demand.specs.Rows.{is_sure, row_item, IsOpenItem};
 
 use crate::boarders::Boarder;
@@ -183,7 +184,7 @@ impl<'a, 'd> SeatLinks<'a, 'd> {
     }
 
     /// Closes a waiting wish. It ticks once for each wish that becomes proposed and is open under
-    /// these bars, and marks its school.
+    /// these bars, and marks it.
     pub fn close<L: Ledger>(
         &mut self,
         item: RowWish,
@@ -194,13 +195,13 @@ impl<'a, 'd> SeatLinks<'a, 'd> {
         requires waits { (w : Wish) × (m : Mark) × WaitsAt self.old.state item.wish w m }
         requires item { item ≡ row_item self.old.state self.old.orders item.wish }
         requires bars { length bars.now ≡ length self.old.state.dossier.schools }
-        requires marked { length marked.old ≡ length self.old.state.dossier.schools }
+        requires marked { length marked.old ≡ length self.old.state.dossier.wishes }
         ensures value { self.new ≡ record self.old
             { opens = slice_set self.old.opens item.wish false } }
         ensures steps { steps.new
             ≡ steps.old + count_by (is_new self.old.state bars.now self.old self.new)
             (enumerate_from 0 (entries self.old.state)) }
-        ensures marked { MarksSchools self.old.state (is_new self.old.state bars.now self.old
+        ensures marked { MarksWishes self.old.state (is_new self.old.state bars.now self.old
             self.new) marked.old marked.new }
     {
         let lineup = self.lineup;
@@ -267,6 +268,19 @@ impl<'a, 'd> SeatLinks<'a, 'd> {
         } else {
             None
         }
+    }
+
+    /// The school in which a wish demands a bed: it is proposed, and its candidate has none there.
+    pub fn bed_sought(&self, wish: u32) -> Option<u32>
+        requires wish { wish < length self.now.state.dossier.wishes }
+        requires waits { AllOpenWait self.now.state self.now.opens }
+        ensures sought { result ≡ bed_sought self.now wish }
+        ensures school { ForSome result (λ h. h < length self.now.state.dossier.schools) }
+    {
+        if self.wants_bed(wish) && self.is_proposed(wish) {
+            return wish_at(self.state, wish).school;
+        }
+        None
     }
 
     /// Whether a wish is open.

@@ -35,26 +35,12 @@ impl Model for Marks {
 
 impl Marks {
     /// So many places without a mark. All room that the other calls need is made here.
-    fn none(alloc: Global, count: u32) -> Result<Marks, OutOfMemory>
+    pub fn none(alloc: Global, count: u32) -> Result<Marks, OutOfMemory>
         ensures { IfOk result (λ m. m ≡ replicate count false) }
     {
         let flags = vec![in alloc; false; count as usize]?;
         let places = Vec::with_capacity(alloc, count as usize)?;
         Ok(Marks { flags, places })
-    }
-
-    /// So many places, each with a mark. They are marked from the last one on, so that the first
-    /// one's mark is taken away first.
-    pub fn all(alloc: Global, count: u32) -> Result<Marks, OutOfMemory>
-        ensures { IfOk result (λ m. m ≡ replicate count true) }
-    {
-        let mut marks = Marks::none(alloc, count)?;
-        let mut left = count;
-        while left > 0 {
-            left -= 1;
-            marks.set(left);
-        }
-        Ok(marks)
     }
 
     /// Marks a place.

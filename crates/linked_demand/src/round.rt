@@ -9,10 +9,12 @@ ghost use Rattle.linked_demand.specs.Rounds.{bar_each, is_proposed_in};
 ghost use Rattle.linked_demand.specs.Ticks.{changes_between};
 
 use crate::cut::close_past;
+use crate::housed::Housed;
+use crate::housing::{cut_school, house_marked};
 use crate::lineup::Lineup;
 use crate::links::SeatLinks;
 use crate::marks::Marks;
-use crate::over::{ask_marked, demands_in, front_of};
+use crate::over::{demands_in, front_of};
 use crate::overfilled::Overfilled;
 use crate::rows::RowWish;
 use crate::schools::{Schools, school_count, schools_of};
@@ -25,8 +27,8 @@ use std::marker::Model;
 use std::sync::ledger::Ledger;
 
 /// The boarding schools (*internats*) of a state, with their ceilings and their present bars. It
-/// keeps who is served in each programme and which schools are overfilled: a fall costs the rows of
-/// the schools whose demand it changes.
+/// keeps who is served in each programme, who has a bed in each school, and which are overfilled: a
+/// fall costs the wishes that it closes and those that become proposed.
 pub struct LinkedRound<'a, 'd> {
     links: SeatLinks<'a, 'd>,
     ceilings: Vec<u32>,
@@ -35,6 +37,7 @@ pub struct LinkedRound<'a, 'd> {
     rows: Vec<Vec<RowWish>>,
     overfilled: Overfilled,
     marked: Marks,
+    housed: Vec<Housed>,
 }
 
 // Not derived: so a round is dropped in one step where it is held, and not by each list.
@@ -48,6 +51,7 @@ impl Drop for LinkedRound<'_, '_> {
             rows: _,
             overfilled: _,
             marked: _,
+            housed: _,
         } = self;
     }
 }
@@ -65,7 +69,7 @@ impl<'a, 'd> Model for LinkedRound<'a, 'd> {
     } };
 
     ghost invariant = { λ r. IsRoundUnder r.links r.ceilings.items r.bars.items r.free.items
-        r.rows.items r.overfilled r.marked };
+        r.rows.items r.overfilled r.marked r.housed.items };
 }
 
 impl<'a, 'd> LinkedRound<'a, 'd> {
@@ -102,6 +106,7 @@ impl<'a, 'd> LinkedRound<'a, 'd> {
             rows,
             overfilled,
             marked,
+            housed,
         } = schools_of(alloc, &links, &lineup.boarders, ceilings)?;
         Ok(LinkedRound {
             links,
@@ -111,6 +116,7 @@ impl<'a, 'd> LinkedRound<'a, 'd> {
             rows,
             overfilled,
             marked,
+            housed,
         })
     }
 
@@ -222,12 +228,12 @@ impl Falling for LinkedRound<'_, '_> {
             &mut self.marked,
             steps,
         );
-        self.marked.set(i);
-        ask_marked(
+        cut_school(&mut self.housed, &mut self.overfilled, i, to);
+        house_marked(
             &self.links,
-            &self.rows,
             &self.free,
             &mut self.marked,
+            &mut self.housed,
             &mut self.overfilled,
         );
     }

@@ -49,7 +49,8 @@ close-requires g c =
       item = item_still c.args.to c.args.row.now.items c.args.links.now c.loop-end.links c.loop-end.end
           (c.loop-end.end - 1) c.index-last.result.now far (omega arith) c.index-last.ensures c.requires.items;
       bars = c.requires.bars ∙ schools;
-      marked = c.loop-end.invariant.marked.as_long ∙ c.requires.marked ∙ schools;
+      marked = c.loop-end.invariant.marked.as_long ∙ c.requires.marked
+          ∙ ap (λ (r : LinksRow). length r.state.dossier.wishes) (sym far.now_is);
     }
 
 pub returns : goal.returns

@@ -1,7 +1,7 @@
 use Rattle.std.proofs.Common.{◌≡◌, ◌+◌, length, count_by}
 use Rattle.std.specs.List.{enumerate_from}
 use Rattle.admit_core.specs.State.{entries}
-use Rattle.linked_demand.specs.Marks.{is_new, MarksSchools}
+use Rattle.linked_demand.specs.Marks.{is_new, MarksWishes}
 use Rattle.linked_demand.proofs.Cutting.{SoFar}
 use Rattle.linked_demand.proofs.cut.close_past.Given as goal
 
@@ -12,7 +12,7 @@ invariant-loop-end g l =
       steps : l.steps + l.end ≡ l.initial.steps + length l.row.items + count_by
           (is_new l.initial.links.state l.bars l.initial.links l.links)
           (enumerate_from 0 (entries l.initial.links.state));
-      marked : MarksSchools l.initial.links.state
+      marked : MarksWishes l.initial.links.state
           (is_new l.initial.links.state l.bars l.initial.links l.links) l.initial.marked l.marked;
     }
 

@@ -1,7 +1,6 @@
 use Rattle.std.proofs.Common.{◌≡◌, ◌<◌, ◌&&◌, true, false, arith, refl, take, get_or, sym, ◌∙◌}
 use Rattle.std.proofs.lemmas.List.Sums.{count_by_more_yes, count_by_more_no}
-use Rattle.admit_core.specs.declared.dossier.Wish.{Wish}
-use Rattle.std.proofs.Common.{ap, length}
+use Rattle.std.proofs.Common.{length}
 use Rattle.admit_core.specs.Lists.{is_among}
 use Rattle.linked_demand.specs.Marks.{is_fresh}
 use Rattle.linked_demand.specs.Opens.{all_sure}
@@ -31,8 +30,7 @@ loop-wish-preserved g c =
           rw (w.steps-is, w.marked-is) (record {
             steps = omega (arith, w.tick.ensures, c.loop-wish.invariant.steps, count_by_more_yes q claim i 0 lt passes);
             marked = marks_more s claim q i lt c.args.marked.now c.loop-wish.marked
-                c.loop-wish.invariant.marked w.wish_at.result.school
-                (ap (λ (v : Wish). v.school) w.wish_at.ensures.wish) w.mark.new.marked w.mark.ensures;
+                c.loop-wish.invariant.marked w.set.new.self w.set.ensures;
           })
       | else-is_fresh w ↦
           let fails : q (get_or claim i 0) ≡ false = sym c.is_fresh.ensures ∙ w.if-is_fresh.false in

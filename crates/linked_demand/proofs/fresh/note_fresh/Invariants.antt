@@ -1,6 +1,6 @@
 use Rattle.std.proofs.Common.{◌≡◌, ◌+◌, ◌&&◌, count_by, take}
 use Rattle.admit_core.specs.Lists.{is_among}
-use Rattle.linked_demand.specs.Marks.{is_fresh, MarksSchools}
+use Rattle.linked_demand.specs.Marks.{is_fresh, MarksWishes}
 use Rattle.linked_demand.specs.Opens.{all_sure}
 use Rattle.linked_demand.proofs.fresh.note_fresh.Given as goal
 
@@ -9,7 +9,7 @@ invariant-loop-wish g l =
     record {
       steps : l.steps ≡ l.initial.steps + count_by
           (is_fresh l.state l.bars l.opens (all_sure l.state l.early)) (take l.wish-index l.claim);
-      marked : MarksSchools l.state
+      marked : MarksWishes l.state
           (λ x. is_among x.0 (take l.wish-index l.claim) && is_fresh l.state l.bars l.opens
           (all_sure l.state l.early) x.0) l.initial.marked l.marked;
     }

@@ -15,7 +15,7 @@ pub loop-from-init : goal.loop-from-init
 loop-from-init c =
     lined_none c.args.state.now.dossier c.args.orders.now.orders c.args.programme c.args.wishes.items
     c.in_ok-spans.spans.items
-    c.args.places.now.items c.args.early.now.items c.in_ok-spans.ensures.items c.requires.seated
+    c.args.notes.now.places.items c.args.notes.now.early.items c.in_ok-spans.ensures.items c.requires.seated
 
 pub overflow_cast-len : goal.overflow_cast-len
 overflow_cast-len c =
@@ -28,7 +28,7 @@ overflow_cast-len c =
     let few = spans_fit c.args.state.now.dossier c.args.orders.now.orders c.args.programme c.args.wishes.items
     c.args.before.now
     c.requires.wishes c.requires.before c.requires.once
-    c.loop-from.from c.loop-from.spans.items c.loop-from.places.items c.loop-from.early.items c.loop-from.invariant
+    c.loop-from.from c.loop-from.spans.items c.loop-from.notes.places.items c.loop-from.notes.early.items c.loop-from.invariant
     lt in
     omega (arith, c.len-in-loop-from.ensures, few, lt, c.requires.few)
 
@@ -47,13 +47,13 @@ note-requires-clause-places c =
     let part = part_read c.args.state.now.dossier c.args.orders.now.orders c.args.programme c.args.wishes.items
     c.args.before.now
     c.requires.wishes c.requires.before c.requires.once
-    c.loop-from.from c.end_of_claim-to.result span c.loop-from.spans.items c.loop-from.places.items
-    c.loop-from.early.items
+    c.loop-from.from c.end_of_claim-to.result span c.loop-from.spans.items c.loop-from.notes.places.items
+    c.loop-from.notes.early.items
     c.loop-from.invariant lt c.end_of_claim-to.ensures.further c.end_of_claim-to.ensures.within
     c.end_of_claim-to.ensures.run refl refl in
     let read : c.part.result.now ≡ part_of wishes span =
     c.part.ensures ∙ ap (λ (l : List ℕ). part_of l span) c.deref.ensures.value in
-    let n = length c.loop-from.places.items in
+    let n = length c.loop-from.notes.places.items in
     let P = λ (ks : List ℕ). All (λ k. k < n) ks in
     subst P (sym (read ∙ part))
     (claim_within d p (get_or (line_of d c.args.orders.now.orders p) (length c.loop-from.spans.items) 0) n
@@ -72,14 +72,14 @@ loop-from-preserved c =
     ) in
     let read : c.part.result.now ≡ part_of wishes span =
     c.part.ensures ∙ ap (λ (l : List ℕ). part_of l span) c.deref.ensures.value in
-    let Q = λ (ks : List ℕ). PutAt ℕ 0 ks c.len-in-loop-from.result c.loop-from.places.items c.note.new.places.items in
-    let R = λ (ks : List ℕ). PutAt Bool false ks c.is_early-is_early.result c.loop-from.early.items
-    c.note.new.early.items in
+    let Q = λ (ks : List ℕ). PutAt ℕ 0 ks c.len-in-loop-from.result c.loop-from.notes.places.items c.note.new.notes.places.items in
+    let R = λ (ks : List ℕ). PutAt Bool false ks c.is_early-is_early.result c.loop-from.notes.early.items
+    c.note.new.notes.early.items in
     lined_more c.args.state.now.dossier c.args.orders.now.orders c.args.programme c.args.wishes.items c.args.before.now
     c.requires.wishes c.requires.before c.requires.once
     c.loop-from.from c.end_of_claim-to.result span c.loop-from.spans.items c.push.new.self.items
-    c.loop-from.places.items
-    c.note.new.places.items c.loop-from.early.items c.note.new.early.items c.len-in-loop-from.result
+    c.loop-from.notes.places.items
+    c.note.new.notes.places.items c.loop-from.notes.early.items c.note.new.notes.early.items c.len-in-loop-from.result
     c.is_early-is_early.result
     c.loop-from.invariant lt c.end_of_claim-to.ensures.further c.end_of_claim-to.ensures.within
     c.end_of_claim-to.ensures.run refl refl
@@ -99,7 +99,7 @@ returns-clause-claims c =
     ∙ (lined_all c.args.state.now.dossier c.args.orders.now.orders c.args.programme c.args.wishes.items
     c.args.before.now
     c.requires.wishes c.requires.before c.requires.once
-    c.loop-from.from c.loop-from.spans.items c.loop-from.places.items c.loop-from.early.items c.loop-from.invariant
+    c.loop-from.from c.loop-from.spans.items c.loop-from.notes.places.items c.loop-from.notes.early.items c.loop-from.invariant
     le).0
 
 pub returns-clause-seated : goal.returns-clause-seated
@@ -112,5 +112,5 @@ returns-clause-seated c =
     ) in
     (lined_all c.args.state.now.dossier c.args.orders.now.orders c.args.programme c.args.wishes.items c.args.before.now
     c.requires.wishes c.requires.before c.requires.once
-    c.loop-from.from c.loop-from.spans.items c.loop-from.places.items c.loop-from.early.items c.loop-from.invariant
+    c.loop-from.from c.loop-from.spans.items c.loop-from.notes.places.items c.loop-from.notes.early.items c.loop-from.invariant
     le).1

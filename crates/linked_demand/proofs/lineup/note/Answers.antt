@@ -4,17 +4,17 @@ use Rattle.linked_demand.proofs.lineup.note.Goals as goal
 
 pub loop-wish-init : goal.loop-wish-init
 loop-wish-init c = record {
-  places = put_none ℕ 0 c.args.claim.now c.args.place c.args.places.now.items;
-  early = put_none Bool false c.args.claim.now c.args.is_early c.args.early.now.items;
+  places = put_none ℕ 0 c.args.claim.now c.args.place c.args.notes.now.places.items;
+  early = put_none Bool false c.args.claim.now c.args.is_early c.args.notes.now.early.items;
 }
 
 pub returns-clause-places : goal.returns-clause-places
 returns-clause-places c = put_all ℕ 0 c.args.claim.now c.loop-wish.wish-index c.args.place
-    c.args.places.now.items c.loop-wish.places.items (omega arith) c.loop-wish.invariant.places
+    c.args.notes.now.places.items c.loop-wish.notes.places.items (omega arith) c.loop-wish.invariant.places
 
 pub returns-clause-early : goal.returns-clause-early
 returns-clause-early c = put_all Bool false c.args.claim.now c.loop-wish.wish-index c.args.is_early
-    c.args.early.now.items c.loop-wish.early.items (omega arith) c.loop-wish.invariant.early
+    c.args.notes.now.early.items c.loop-wish.notes.early.items (omega arith) c.loop-wish.invariant.early
 
 pub loop-wish-preserved : goal.loop-wish-preserved
 loop-wish-preserved c =
@@ -24,8 +24,8 @@ loop-wish-preserved c =
     let within = c.requires.places i 0 lt in
     let P = λ (n : ℕ). get_or claim i 0 < n in
     record {
-      places = put_more ℕ 0 claim i c.args.place c.args.places.now.items c.loop-wish.places.items _ lt within
+      places = put_more ℕ 0 claim i c.args.place c.args.notes.now.places.items c.loop-wish.notes.places.items _ lt within
           c.loop-wish.invariant.places refl;
-      early = put_more Bool false claim i c.args.is_early c.args.early.now.items c.loop-wish.early.items _ lt
+      early = put_more Bool false claim i c.args.is_early c.args.notes.now.early.items c.loop-wish.notes.early.items _ lt
           (subst P (sym c.requires.early) within) c.loop-wish.invariant.early refl;
     }

@@ -182,7 +182,7 @@ note_fresh-requires g c =
         c.self.invariant.reach.links.opens_each,
       );
       early = omega (arith, c.deref.ensures.len, c.self.invariant.early_each);
-      marked = c.requires.marked ∙ schools;
+      marked = c.requires.marked ∙ ap (λ (r : LinksRow). length r.state.dossier.wishes) (sym c.self.view_is);
     }
 
 pub returns-else-leaves : goal.returns-else-leaves

@@ -16,7 +16,7 @@ pub demands_in-requires : goal.demands_in-requires
 demands_in-requires c =
     let r = c.self.inside in
     let within = seen_within_bars r.links r.ceilings.items r.bars.items r.free.items r.rows.items r.overfilled
-    r.marked c.args.self.now c.self.invariant c.self.view_is c.args.i c.requires in
+    r.marked r.housed.items c.args.self.now c.self.invariant c.self.view_is c.args.i c.requires in
     front_open r.links c.args.upto c.deref.result.now c.front_of-front.result.now c.front_of-front.ensures
     (scan_open r.links r.bars.items r.free.items r.rows.items r.ceilings.items c.args.self.now
     c.self.invariant.round c.self.view_is c.args.i within
@@ -29,10 +29,10 @@ returns c =
     let i = c.args.i in
     let upto = c.args.upto in
     let bars = bar_each seen.ceilings seen.bars in
-    let within = bar_within r.links r.ceilings.items r.bars.items r.free.items r.rows.items r.overfilled r.marked
+    let within = bar_within r.links r.ceilings.items r.bars.items r.free.items r.rows.items r.overfilled r.marked r.housed.items
     seen c.self.invariant c.self.view_is i c.requires in
     let same : bars ≡ seen.bars = bars_seen r.links r.ceilings.items r.bars.items r.free.items r.rows.items
-    r.overfilled r.marked seen c.self.invariant c.self.view_is in
+    r.overfilled r.marked r.housed.items seen c.self.invariant c.self.view_is in
     let row = c.index.result.now in
     let found : slice_get r.rows.items i ≡ Some row = slice_get_read r.rows.items (length r.rows.items) i row refl
     (omega (arith, within, c.self.invariant.round.rows_each)) c.index.ensures in

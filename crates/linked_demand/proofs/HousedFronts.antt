@@ -1,0 +1,296 @@
+-- The ranks of a row are housed one after another.
+use Rattle.std.proofs.Common.{ℕ, ◌+◌, ◌≤◌, ◌<◌, ◌≡◌, ◌⊎◌, Bool, true, false, List, [], ◌∷◌}
+use Rattle.std.proofs.Common.{length, take, inl, inr, refl, sym, ◌∙◌, ap, arith, get_or, nat_eq, nat_lt, Some, None, Option}
+use Rattle.std.proofs.Common.{subst, unwrap_or, is_some}
+use Rattle.std.specs.Prelude.{slice_get}
+use Rattle.std.specs.Option.{option_or}
+use Rattle.std.proofs.lemmas.Bool.{cases_Bool, cases_lt, cases_eq, false≢true, or_left, or_right, eq-eqb, eqb-true}
+use Rattle.std.proofs.lemmas.Bool.{ltb-true, ltb-false, or_cases}
+use Rattle.std.proofs.lemmas.List.{take_all}
+use Rattle.std.proofs.lemmas.Option.{slice_get-get_or}
+use Rattle.admit_core.specs.Lists.{is_among}
+use Rattle.admit_core.proofs.Tests.{Ascends}
+use Rattle.linked_demand.specs.declared.rows.RowWish.{RowWish}
+use Rattle.linked_demand.specs.declared.housed.Rung.{Rung}
+use Rattle.linked_demand.specs.Demand.{counted, is_proposed_at}
+use Rattle.linked_demand.specs.Housed.{ranks_of, housed_in, reached, last_rank, AreNoted, AreHoused}
+use Rattle.linked_demand.specs.Links.{LinksRow}
+use Rattle.linked_demand.specs.Rows.{AreOpen, RanksRise, row_item}
+use Rattle.linked_demand.proofs.Demanded.{Rises, rises_row}
+use Rattle.linked_demand.proofs.Falling.{in_front, front_at}
+use Rattle.linked_demand.proofs.HousedRows.{left_others, housed_by, demands_rank, demander_of}
+use Rattle.linked_demand.proofs.HousedWishes.{Houses}
+use Rattle.linked_demand.proofs.Rungs.{among_push, housed_same, last_known, ranks_noted, rises_push}
+
+-- a rank that is reached
+module _ (r : ℕ) (xs : List Rung) where
+  abbrev one : Rung
+  one = record { rank = r; housed = false }
+
+  pub reached_housed : housed_in (reached r xs) ≡ housed_in xs
+  reached_housed =
+      elim (cases_Bool (nat_lt (last_rank xs) r)) [
+        | inl above ↦ rw above (housed_same xs one refl)
+        | inr not_above ↦ rw not_above refl
+      ]
+
+  pub reached_rises : Ascends (0 ∷ ranks_of xs) → Ascends (0 ∷ ranks_of (reached r xs))
+  reached_rises rises =
+      elim (cases_Bool (nat_lt (last_rank xs) r)) [
+        | inl above ↦ rw above (rises_push xs one rises (ltb-true (last_rank xs) r above))
+        | inr not_above ↦ rw not_above rises
+      ]
+
+  pub reached_known : (q : ℕ) → is_among q (ranks_of xs) ≡ true → is_among q (ranks_of (reached r xs)) ≡ true
+  reached_known q t =
+      elim (cases_Bool (nat_lt (last_rank xs) r)) [
+        | inl above ↦ rw above (among_push q xs one ∙ or_left (is_among q (ranks_of xs)) (nat_eq q r) t)
+        | inr not_above ↦ rw not_above t
+      ]
+
+  pub reached_own : 0 < r → last_rank xs ≤ r → is_among r (ranks_of (reached r xs)) ≡ true
+  reached_own some le =
+      elim (cases_Bool (nat_lt (last_rank xs) r)) [
+        | inl above ↦ rw above (among_push r xs one
+            ∙ or_right (is_among r (ranks_of xs)) (nat_eq r r) (eq-eqb r r refl))
+        | inr not_above ↦ rw not_above (
+            let high = ltb-false (last_rank xs) r not_above in
+            let same : last_rank xs ≡ r = omega (arith, high, le) in
+            ap (λ n. is_among n (ranks_of xs)) (sym same) ∙ last_known xs (omega (arith, same, some)))
+      ]
+
+  pub reached_from : (q : ℕ) → is_among q (ranks_of (reached r xs)) ≡ true
+      → (is_among q (ranks_of xs) ≡ true) ⊎ (q ≡ r)
+  reached_from q t =
+      elim (cases_Bool (nat_lt (last_rank xs) r)) [
+        | inl above ↦ elim (or_cases (is_among q (ranks_of xs)) (nat_eq q r)
+            (sym (among_push q xs one) ∙ (rw above at t))) [
+              | inl was ↦ inl was
+              | inr now ↦ inr (eqb-true q r now)
+            ]
+        | inr not_above ↦ inl (rw not_above at t)
+      ]
+
+abbrev pub nobody : ℕ → Bool
+nobody k = false
+
+-- the front of a row is housed, and no rank is known that is past the rest
+pub record IsHousedTo (p : ℕ → Bool) (row : List RowWish) (free i : ℕ) (xs : List Rung) : Type 0 where
+  pub are : AreHoused p nobody (take i row) free None xs
+  pub most : (k : ℕ) (x : RowWish) → i ≤ k → slice_get row k ≡ Some x → (r : ℕ)
+      → is_among r (ranks_of xs) ≡ true → r ≤ x.rank
+
+module _ (p : ℕ → Bool) (row : List RowWish) (rises : RanksRise row) (free : ℕ) where
+  front_rises : (i : ℕ) → Rises (take i row)
+  front_rises i = rises_row (take i row) (λ j k x y le a b.
+      rises j k x y le (in_front row i j x a).1 (in_front row i k y b).1)
+
+  pub none_housed : IsHousedTo p row free 0 []
+  none_housed = record {
+    are = record {
+      noted_are = record {
+        rises = (tt, tt);
+        sound = λ r t. absurd (false≢true t);
+        complete = λ k x at pass none some low. absurd (omega (arith, (in_front row 0 k x at).0));
+        known = λ k x at some low. absurd (omega (arith, (in_front row 0 k x at).0));
+        below = λ r t. refl;
+      };
+      few = omega arith;
+      demanded = λ o is. absurd (false≢true (ap is_some is));
+      full = λ o is. absurd (false≢true (ap is_some is));
+    };
+    most = λ k x le at r t. absurd (false≢true t);
+  }
+
+  pub all_housed : (i : ℕ) (xs : List Rung) → length row ≤ i → IsHousedTo p row free i xs
+      → AreHoused p nobody row free None xs
+  all_housed i xs le to =
+      let P = λ (ys : List RowWish). AreHoused p nobody ys free None xs in
+      subst P (take_all i row le) to.are
+
+  module _ (i : ℕ) (y : RowWish) (here : slice_get row i ≡ Some y) (xs : List Rung) (to : IsHousedTo p row free i xs)
+      (one_rank : (j : ℕ) (x : RowWish) → slice_get row j ≡ Some x → x.wish ≡ y.wish → x.rank ≡ y.rank) where
+    abbrev now : List Rung
+    now = reached y.rank xs
+
+    abbrev own : ℕ → Bool
+    own k = nat_eq k y.wish
+
+    at_last : (k : ℕ) (x : RowWish) → slice_get row k ≡ Some x → k < i + 1 → (k < i) ⊎ (x ≡ y)
+    at_last k x at lt =
+        elim (cases_eq k i) [
+          | inl same ↦
+              let P = λ (n : ℕ). slice_get row n ≡ Some x in
+              inr (ap (λ (o : Option RowWish). unwrap_or o x) (sym (subst P same at) ∙ here))
+          | inr other ↦ inl (omega (arith, lt, other))
+        ]
+
+    last_low : last_rank xs ≤ y.rank
+    last_low =
+        elim (cases_lt 0 (last_rank xs)) [
+          | inl some ↦ to.most i y (omega arith) here (last_rank xs) (last_known xs some)
+          | inr none ↦ omega (arith, none)
+        ]
+
+    -- a further item is reached
+    reach_noted : AreNoted p own (take (i + 1) row) None now
+    reach_noted =
+        let was = to.are.noted_are in
+        record {
+          rises = reached_rises y.rank xs was.rises;
+          sound = λ r t.
+              let before : is_among r (housed_in xs) ≡ true = ap (is_among r) (sym (reached_housed y.rank xs)) ∙ t in
+              let by = demander_of p (take i row) (front_rises i) r (was.sound r before) in
+              let (lt, at) = in_front row i by.place by.item by.there in
+              ap (λ n. is_among n (counted p 0 (take (i + 1) row))) (sym by.rank)
+              ∙ demands_rank p (take (i + 1) row) (front_rises (i + 1)) by.place by.item
+              (front_at row (i + 1) by.place by.item (omega (arith, lt)) at) by.pass (omega (arith, by.rank, by.some));
+          complete = λ k x at pass none some low.
+              let (lt, there) = in_front row (i + 1) k x at in
+              elim (at_last k x there lt) [
+                | inl before ↦ ap (is_among x.rank) (reached_housed y.rank xs)
+                    ∙ was.complete k x (front_at row i k x before there) pass refl some refl
+                | inr same ↦ absurd (false≢true (sym none ∙ eq-eqb x.wish y.wish (ap (λ (z : RowWish). z.wish) same)))
+              ];
+          known = λ k x at some low.
+              let (lt, there) = in_front row (i + 1) k x at in
+              elim (at_last k x there lt) [
+                | inl before ↦ reached_known y.rank xs x.rank
+                    (was.known k x (front_at row i k x before there) some refl)
+                | inr same ↦
+                    let rank : x.rank ≡ y.rank = ap (λ (z : RowWish). z.rank) same in
+                    ap (λ n. is_among n (ranks_of now)) rank
+                    ∙ reached_own y.rank xs (omega (arith, some, rank)) last_low
+              ];
+          below = λ r t. refl;
+        }
+
+    reach_housed : AreHoused p own (take (i + 1) row) free None now
+    reach_housed = record {
+      noted_are = reach_noted;
+      few = omega (arith, to.are.few, ap (λ (ns : List ℕ). length ns) (reached_housed y.rank xs));
+      demanded = λ o is. absurd (false≢true (ap is_some is));
+      full = λ o is. absurd (false≢true (ap is_some is));
+    }
+
+    reach_most : (k : ℕ) (x : RowWish) → i + 1 ≤ k → slice_get row k ≡ Some x → (r : ℕ)
+        → is_among r (ranks_of now) ≡ true → r ≤ x.rank
+    reach_most k x le at r t =
+        elim (reached_from y.rank xs r t) [
+          | inl was ↦ to.most k x (omega (arith, le)) at r was
+          | inr same ↦ omega (arith, same, rises i k y x (omega (arith, le)) here at)
+        ]
+
+    -- one who is not proposed is passed over
+    pub passed_over : p y.wish ≡ false → IsHousedTo p row free (i + 1) now
+    passed_over fails = record {
+      are = record {
+        noted_are = left_others p (take (i + 1) row) None now own nobody reach_noted (λ k x at pass none some.
+            elim (cases_Bool (nat_eq x.wish y.wish)) [
+              | inl same ↦ absurd (false≢true (sym fails ∙ ap p (sym (eqb-true x.wish y.wish same)) ∙ pass))
+              | inr other ↦ other
+            ]);
+        few = reach_housed.few;
+        demanded = reach_housed.demanded;
+        full = reach_housed.full;
+      };
+      most = reach_most;
+    }
+
+    housed_now : p y.wish ≡ true → (o : Option ℕ) (ys : List Rung) → Houses free y.rank now ys o
+        → AreHoused p nobody (take (i + 1) row) free (option_or o None) ys
+    housed_now pass o ys houses =
+        housed_by p own nobody (take (i + 1) row) free None now y.rank reach_housed
+        (λ some. demands_rank p (take (i + 1) row) (front_rises (i + 1)) i y
+        (front_at row (i + 1) i y (omega arith) here) pass some)
+        (λ k x at passes none some. elim (cases_Bool (nat_eq x.wish y.wish)) [
+          | inl same ↦ inr (one_rank k x (in_front row (i + 1) k x at).1 (eqb-true x.wish y.wish same))
+          | inr other ↦ inl other
+        ]) o ys houses.stays houses.few houses.gives_up houses.many
+
+    -- one who is has a bed
+    pub has_bed : p y.wish ≡ true → (o : Option ℕ) (ys : List Rung) → is_some o ≡ false → Houses free y.rank now ys o
+        → IsHousedTo p row free (i + 1) ys
+    has_bed pass None ys none houses =
+        record {
+          are = housed_now pass None ys houses;
+          most = λ k x le at r t. reach_most k x le at r
+              (ap (is_among r) (sym (ranks_noted y.rank now))
+              ∙ ap (λ (zs : List Rung). is_among r (ranks_of zs)) (sym houses.stays) ∙ t);
+        }
+    has_bed pass (Some o) ys none houses = absurd (false≢true (sym none))
+
+    -- or is the first that has none, or takes the bed of the last
+    pub has_none : p y.wish ≡ true → (o : Option ℕ) (ys : List Rung) → is_some o ≡ true → Houses free y.rank now ys o
+        → AreHoused p nobody row free o ys
+    has_none pass None ys some houses = absurd (false≢true some)
+    has_none pass (Some o) ys some houses =
+        let to_here = housed_now pass (Some o) ys houses in
+        let front = take (i + 1) row in
+        let was = to_here.noted_are in
+        let row_rises = rises_row row rises in
+        let further : (r : ℕ) → is_among r (counted p 0 front) ≡ true → is_among r (counted p 0 row) ≡ true =
+        λ r t.
+        let by = demander_of p front (front_rises (i + 1)) r t in
+        ap (λ n. is_among n (counted p 0 row)) (sym by.rank)
+        ∙ demands_rank p row row_rises by.place by.item (in_front row (i + 1) by.place by.item by.there).1 by.pass
+        (omega (arith, by.rank, by.some)) in
+        let high : o ≤ y.rank =
+        let by = demander_of p front (front_rises (i + 1)) o (to_here.demanded o refl) in
+        let (lt, at) = in_front row (i + 1) by.place by.item by.there in
+        omega (arith, by.rank, rises by.place i by.item y (omega (arith, lt)) at here) in
+        let in_part : (k : ℕ) (x : RowWish) → slice_get row k ≡ Some x → nat_lt x.rank o ≡ true
+        → slice_get front k ≡ Some x =
+        λ k x at low. elim (cases_lt k (i + 1)) [
+          | inl before ↦ front_at row (i + 1) k x before at
+          | inr behind ↦ absurd (omega (
+            arith,
+            ltb-true x.rank o low,
+            high,
+            rises i k y x (omega (arith, behind)) here at,
+          ))
+        ] in
+        record {
+          noted_are = record {
+            rises = was.rises;
+            sound = λ r t. further r (was.sound r t);
+            complete = λ k x at passes none up low. was.complete k x (in_part k x at low) passes none up low;
+            known = λ k x at up low. was.known k x (in_part k x at low) up low;
+            below = was.below;
+          };
+          few = to_here.few;
+          demanded = λ m is. further m (to_here.demanded m is);
+          full = to_here.full;
+        }
+
+-- the same of an item that is read of an open row
+module _ (links : LinksRow) (row : List RowWish) (items : AreOpen links row) (rises : RanksRise row) (free i : ℕ)
+    (d : RowWish) (lt : i < length row) (xs now : List Rung)
+    (to : IsHousedTo (is_proposed_at links) row free i xs) (now_is : now ≡ reached (get_or row i d).rank xs) where
+  abbrev y : RowWish
+  y = get_or row i d
+
+  here : slice_get row i ≡ Some y
+  here = slice_get-get_or row i d lt
+
+  one_rank : (j : ℕ) (x : RowWish) → slice_get row j ≡ Some x → x.wish ≡ y.wish → x.rank ≡ y.rank
+  one_rank j x at same =
+      ap (λ (z : RowWish). z.rank) (items j x at).item
+      ∙ ap (λ (k : ℕ). (row_item links.state links.orders k).rank) same
+      ∙ sym (ap (λ (z : RowWish). z.rank) (items i y here).item)
+
+  pub read_over : is_proposed_at links y.wish ≡ false → IsHousedTo (is_proposed_at links) row free (i + 1) now
+  read_over fails =
+      let P = λ (zs : List Rung). IsHousedTo (is_proposed_at links) row free (i + 1) zs in
+      subst P (sym now_is) (passed_over (is_proposed_at links) row rises free i y here xs to one_rank fails)
+
+  module _ (pass : is_proposed_at links y.wish ≡ true) (o : Option ℕ) (ys : List Rung)
+      (houses : Houses free y.rank now ys o) where
+    houses_now : Houses free y.rank (reached y.rank xs) ys o
+    houses_now = let P = λ (zs : List Rung). Houses free y.rank zs ys o in subst P now_is houses
+
+    pub read_has : is_some o ≡ false → IsHousedTo (is_proposed_at links) row free (i + 1) ys
+    read_has none = has_bed (is_proposed_at links) row rises free i y here xs to one_rank pass o ys none houses_now
+
+    pub read_none : is_some o ≡ true → AreHoused (is_proposed_at links) nobody row free o ys
+    read_none some = has_none (is_proposed_at links) row rises free i y here xs to one_rank pass o ys some houses_now

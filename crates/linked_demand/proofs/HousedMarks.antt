@@ -1,0 +1,92 @@
+-- The marked wishes are looked at one after another.
+use Rattle.std.proofs.Common.{ℕ, zero, suc, ◌≡◌, Bool, true, false, not, ◌&&◌, List, [], length, inl, inr, refl, sym, ◌∙◌}
+use Rattle.std.proofs.Common.{ap, get_or, nat_eq, Option, None, Vec, replicate}
+use Rattle.std.specs.declared.alloc.Global.{Global}
+use Rattle.std.proofs.Math.ListN.{set}
+use Rattle.std.proofs.lemmas.Bool.{cases_Bool, eqb-false, and_left, and_right}
+use Rattle.std.proofs.lemmas.List.{get_or-set_other, length-set}
+use Rattle.linked_demand.specs.declared.rows.RowWish.{RowWish}
+use Rattle.linked_demand.specs.declared.housed.Rung.{Rung}
+use Rattle.linked_demand.specs.Demand.{is_proposed_at}
+use Rattle.linked_demand.specs.Housed.{AllHoused}
+use Rattle.linked_demand.specs.Links.{LinksRow}
+use Rattle.linked_demand.specs.Rounds.{IsRound}
+use Rattle.linked_demand.proofs.HousedRows.{left_others}
+
+-- other wishes are left in all schools
+pub all_left : (l : LinksRow) (left other : ℕ → Bool) (rows : List (Vec RowWish Global)) (free : List ℕ)
+    (overs : List (Option ℕ)) (housed : List (List Rung)) → ((k : ℕ) → other k ≡ false → left k ≡ false)
+    → AllHoused l left rows free overs housed → AllHoused l other rows free overs housed
+all_left l left other rows free overs housed each all = record {
+  one_each = all.one_each;
+  answer_each = all.answer_each;
+  each = λ h row at.
+      let are = all.each h row at in
+      record {
+        noted_are = left_others (is_proposed_at l) row.items (get_or overs h None) (get_or housed h []) left other
+            are.noted_are (λ k x there pass none some. each x.wish none);
+        few = are.few;
+        demanded = are.demanded;
+        full = are.full;
+      };
+}
+
+-- those whose marks were taken away are looked at
+pub record IsWalked (l : LinksRow) (free : List ℕ) (old now : List Bool) (overs overs_now : List (Option ℕ))
+    (housed housed_now : List (List Rung)) : Type 0 where
+  pub marks_long : length now ≡ length old
+  pub overs_long : length overs_now ≡ length overs
+  pub housed_long : length housed_now ≡ length housed
+  pub all : (bars : List ℕ) (rows : List (Vec RowWish Global)) → IsRound l bars free rows
+      → AllHoused l (λ k. get_or old k false) rows free overs housed
+      → AllHoused l (λ k. get_or now k false) rows free overs_now housed_now
+
+pub walk_start : (l : LinksRow) (free : List ℕ) (marks : List Bool) (overs : List (Option ℕ))
+    (housed : List (List Rung)) → IsWalked l free marks marks overs overs housed housed
+walk_start l free marks overs housed = record {
+  marks_long = refl;
+  overs_long = refl;
+  housed_long = refl;
+  all = λ bars rows right all. all;
+}
+
+taken_away : (marks : List Bool) (w k : ℕ) → get_or marks w false ≡ true → get_or (set marks w false) k false ≡ false
+    → (get_or marks k false && not (nat_eq k w)) ≡ false
+taken_away marks w k marked none =
+    elim (cases_Bool (nat_eq k w)) [
+      | inl here ↦ and_right (get_or marks k false) (not (nat_eq k w)) (ap not here)
+      | inr other ↦ and_left (get_or marks k false) (not (nat_eq k w))
+          (sym (get_or-set_other marks w k false false (eqb-false k w other)) ∙ none)
+    ]
+
+module _ (l : LinksRow) (free : List ℕ) (old now : List Bool) (overs overs_now : List (Option ℕ))
+    (housed housed_now : List (List Rung)) (so_far : IsWalked l free old now overs overs_now housed housed_now) where
+  pub walk_step : (w : ℕ) → get_or now w false ≡ true → (marks : List Bool) → marks ≡ set now w false
+      → (overs_then : List (Option ℕ)) (housed_then : List (List Rung)) → length overs_then ≡ length overs_now
+      → length housed_then ≡ length housed_now
+      → ((bars : List ℕ) (rows : List (Vec RowWish Global)) (left : ℕ → Bool) → IsRound l bars free rows
+      → AllHoused l left rows free overs_now housed_now
+      → AllHoused l (λ k. left k && not (nat_eq k w)) rows free overs_then housed_then)
+      → IsWalked l free old marks overs overs_then housed housed_then
+  walk_step w marked marks marks_are overs_then housed_then overs_long housed_long more = rw marks_are (record {
+    marks_long = length-set now w false ∙ so_far.marks_long;
+    overs_long = overs_long ∙ so_far.overs_long;
+    housed_long = housed_long ∙ so_far.housed_long;
+    all = λ bars rows right all.
+        all_left l (λ k. get_or now k false && not (nat_eq k w)) (λ k. get_or (set now w false) k false) rows free
+        overs_then housed_then (λ k. taken_away now w k marked)
+        (more bars rows (λ k. get_or now k false) right (so_far.all bars rows right all));
+  })
+
+  none_set : (n h : ℕ) → get_or (replicate n false) h false ≡ false
+  none_set zero h = refl
+  none_set (suc n) zero = refl
+  none_set (suc n) (suc h) = none_set n h
+
+  pub walk_end : now ≡ replicate (length now) false → (bars : List ℕ) (rows : List (Vec RowWish Global))
+      → IsRound l bars free rows → AllHoused l (λ k. get_or old k false) rows free overs housed
+      → AllHoused l (λ k. false) rows free overs_now housed_now
+  walk_end none bars rows right all =
+      all_left l (λ k. get_or now k false) (λ k. false) rows free overs_now housed_now
+      (λ k unmarked. ap (λ (bs : List Bool). get_or bs k false) none ∙ none_set (length now) k)
+      (so_far.all bars rows right all)

@@ -1,0 +1,145 @@
+//! Who has a bed in each school.
+ghost use Rattle.std.specs.Prelude.{◌≡◌, ℕ, ◌<◌, ◌&&◌, Bool, List, None, [], false, length, nat_eq, nat_le, not, replicate, slice_index_or, slice_set, IfOk, OnOk, Vec};
+ghost use Rattle.std.specs.declared.alloc.Global.{Global};
+ghost use Rattle.linked_demand.specs.declared.rows.RowWish.{RowWish};
+ghost use Rattle.linked_demand.specs.Demand.{is_proposed_at};
+ghost use Rattle.linked_demand.specs.Housed.{kept, within, AllHoused, AreHoused};
+ghost use Rattle.linked_demand.specs.Links.{AllOpenWait};
+ghost use Rattle.linked_demand.specs.Rounds.{IsRound};
+ghost use Rattle.linked_demand.specs.Rows.{AreOpen, RanksRise};
+
+use crate::housed::Housed;
+use crate::links::SeatLinks;
+use crate::marks::Marks;
+use crate::overfilled::Overfilled;
+use crate::rows::RowWish;
+use crate::schools::school_count;
+use admit_core::OutOfMemory;
+use proposals::wish_at;
+use std::alloc::Global;
+
+/// The ranks of a row that have a bed, and the first demanded one that has none, if there is one.
+#[derive(Drop)]
+struct Housing {
+    housed: Housed,
+    over: Option<u32>,
+}
+
+/// Houses the demanded ranks of a row, from the least, as far as there are beds.
+fn house_row(
+    alloc: Global,
+    links: &SeatLinks<'_, '_>,
+    row: &[RowWish],
+    beds: u32,
+) -> Result<Housing, OutOfMemory>
+    requires items { AreOpen links.now row.now }
+    requires rises { RanksRise row.now }
+    ensures { IfOk result (λ v. AreHoused (is_proposed_at links.now) (λ k. false) row.now beds
+        v.over v.housed) }
+{
+    let mut housed = Housed::none(alloc);
+    for item in row {
+        housed.reach(item.rank)?;
+        if links.proposes(*item) {
+            let over = housed.house(item.rank, beds);
+            if over.is_some() {
+                return Ok(Housing { housed, over });
+            }
+        }
+    }
+    Ok(Housing { housed, over: None })
+}
+
+/// Houses the demanded ranks of all schools, of which none is overfilled yet.
+pub fn house_all(
+    alloc: Global,
+    links: &SeatLinks<'_, '_>,
+    rows: &[Vec<RowWish>],
+    free: &[u32],
+    overfilled: &mut Overfilled,
+) -> Result<Vec<Housed>, OutOfMemory>
+    requires rows { (bars : List ℕ) × IsRound links.now bars free.now rows.now }
+    requires overfilled { length overfilled.old ≡ length rows.now }
+    ensures { IfOk result (λ v. AllHoused links.now (λ k. false) rows.now free.now overfilled.new
+        v.items) }
+{
+    let count = school_count(links.state());
+    let mut all = Vec::with_capacity(alloc, count as usize)?;
+    for school in 0..count {
+        let place = school as usize;
+        let Housing { housed, over } = house_row(alloc, links, &rows[place], free[place])?;
+        all.push(housed)?;
+        overfilled.put(school, over);
+    }
+    Ok(all)
+}
+
+/// Takes away the beds of a school of those who rank past a bar.
+pub fn cut_school(housed: &mut Vec<Housed>, overfilled: &mut Overfilled, school: u32, to: u32)
+    requires housed { school < length housed.old.items }
+    requires overfilled { school < length overfilled.old }
+    ensures housed { housed.new.items ≡ slice_set housed.old.items school
+        (kept (λ r. nat_le r to) (slice_index_or housed.old.items school [])) }
+    ensures overfilled { overfilled.new ≡ slice_set overfilled.old school
+        (within (λ r. nat_le r to) (slice_index_or overfilled.old school None)) }
+{
+    housed[school as usize].cut(to);
+    let over = overfilled.get(school);
+    overfilled.put(school, over.filter(|rank| *rank <= to));
+}
+
+/// Houses a wish where it demands a bed.
+fn house_wish(
+    links: &SeatLinks<'_, '_>,
+    free: &[u32],
+    wish: u32,
+    housed: &mut Vec<Housed>,
+    overfilled: &mut Overfilled,
+)
+    requires wish { wish < length links.now.state.dossier.wishes }
+    requires waits { AllOpenWait links.now.state links.now.opens }
+    requires free { length free.now ≡ length links.now.state.dossier.schools }
+    requires housed { length housed.old.items ≡ length links.now.state.dossier.schools }
+    requires overfilled { length overfilled.old ≡ length links.now.state.dossier.schools }
+    ensures as_many { length housed.new.items ≡ length housed.old.items }
+    ensures as_long { length overfilled.new ≡ length overfilled.old }
+    ensures all { (bars : List ℕ) (rows : List (Vec RowWish Global)) (left : ℕ → Bool)
+        → IsRound links.now bars free.now rows
+        → AllHoused links.now left rows free.now overfilled.old housed.old.items
+        → AllHoused links.now (λ k. left k && not (nat_eq k wish)) rows free.now overfilled.new
+        housed.new.items }
+{
+    if let Some(school) = links.bed_sought(wish) {
+        let place = school as usize;
+        let rank = wish_at(links.state(), wish).board_rank;
+        let over = housed[place].house(rank, free[place]);
+        if over.is_some() {
+            overfilled.put(school, over);
+        }
+    }
+}
+
+/// Houses the marked wishes that demand a bed, and takes the marks away.
+pub fn house_marked(
+    links: &SeatLinks<'_, '_>,
+    free: &[u32],
+    marked: &mut Marks,
+    housed: &mut Vec<Housed>,
+    overfilled: &mut Overfilled,
+)
+    requires marked { length marked.old ≡ length links.now.state.dossier.wishes }
+    requires waits { AllOpenWait links.now.state links.now.opens }
+    requires free { length free.now ≡ length links.now.state.dossier.schools }
+    requires housed { length housed.old.items ≡ length links.now.state.dossier.schools }
+    requires overfilled { length overfilled.old ≡ length links.now.state.dossier.schools }
+    ensures unmarked { marked.new ≡ replicate (length marked.old) false }
+    ensures all { (bars : List ℕ) (rows : List (Vec RowWish Global))
+        → IsRound links.now bars free.now rows
+        → AllHoused links.now (λ k. slice_index_or marked.old k false) rows free.now overfilled.old
+        housed.old.items
+        → AllHoused links.now (λ k. false) rows free.now overfilled.new housed.new.items }
+{
+    while let Some(wish) = marked.take() {
+        house_wish(links, free, wish, housed, overfilled);
+    }
+}
