@@ -165,7 +165,8 @@ module _ (t : Tables) (ordered rows : List WishRow) (moved : IsPermutation order
       let after : AllPairs (λ r row. takes row r ≡ false) rows =
       pairs_moved takes (λ a b. taken_flips a.candidate b.candidate a.preference b.preference) ordered rows moved
       (λ i j d lt within. when_false _ _ (before i j d lt within)) in
-      differ_when has_preference shares PreferenceTaken rows (λ i j d lt within. second_false _ _ (after i j d lt within))
+      differ_when has_preference shares PreferenceTaken rows
+      (λ i j d lt within. second_false _ _ (after i j d lt within))
 
   mixed_moved : Passes preference_mixed ordered → Passes preference_mixed rows
   mixed_moved fine = like_passes rows (pairs_moved unlike unlike_flips ordered rows moved (like_pairs ordered fine))
@@ -179,7 +180,8 @@ module _ (t : Tables) (ordered rows : List WishRow) (moved : IsPermutation order
       let from_mixed = rest_pass from_boarded in
       let from_taken = rest_pass from_mixed in
       and_then (once_moved (first_passes from_once))
-      (and_then (known_moved (λ row. is_among row.programme (programme_ids t)) (Unknown 3) (first_passes from_programmes))
+      (and_then (known_moved (λ row. is_among row.programme (programme_ids t)) (Unknown 3)
+      (first_passes from_programmes))
       (and_then (known_moved (λ row. option_map_or (λ h. is_among h (school_ids t)) row.school true) (Unknown 4)
       (first_passes from_schools))
       (and_then (known_moved (λ row. is_ranked t row.programme row.candidate) Unranked (first_passes from_ranked))

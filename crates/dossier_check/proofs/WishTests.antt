@@ -17,7 +17,8 @@ use Rattle.dossier_check.proofs.Faultless.{left_out, same_in}
 
 -- where those two are known to stand at no row, each row has the same reason
 module _ (t : Tables) (rows : List WishRow) (apart distinct : Bool)
-    (once : apart ≡ true → Passes (repeats same_wish) rows) (other : distinct ≡ true → Passes preference_taken rows) where
+    (once : apart ≡ true → Passes (repeats same_wish) rows)
+    (other : distinct ≡ true → Passes preference_taken rows) where
   same_reason : (k : ℕ) (d : WishRow) → k < length rows
       → first_reason (others_unless apart distinct t) (take k rows) (get_or rows k d)
       ≡ first_reason (other_tests t) (take k rows) (get_or rows k d)
