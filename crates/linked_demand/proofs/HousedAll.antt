@@ -45,7 +45,8 @@ module _ (l : LinksRow) (rows : List (Vec RowWish Global)) (free : List ℕ) whe
               let P = λ (n : ℕ). slice_get rows n ≡ Some other in
               let row_same : row ≡ other =
               ap (λ (o : Option (Vec RowWish Global)). unwrap_or o row) (sym at ∙ subst P same there) in
-              let Q = λ (v : Vec RowWish Global). AreHoused (is_proposed_at l) nobody v.items (slice_index free i) over xs in
+              let Q = λ (v : Vec RowWish Global). AreHoused (is_proposed_at l) nobody v.items
+              (slice_index free i) over xs in
               let own : get_or (housed ++ xs ∷ []) i [] ≡ xs =
               ap (λ (n : ℕ). get_or (housed ++ xs ∷ []) n []) (sym to.so_many) ∙ last_read housed xs in
               rw (same, get_or-set_same overs i over None (omega (arith, lt, to.answer_each)), own)

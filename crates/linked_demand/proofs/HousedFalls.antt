@@ -1,5 +1,6 @@
 -- Who has a bed where a bar falls.
-use Rattle.std.proofs.Common.{ℕ, ◌≤◌, ◌<◌, ◌≡◌, ◌≢◌, Bool, true, false, not, ◌&&◌, ◌||◌, List, [], length, inl, inr, refl, sym}
+use Rattle.std.proofs.Common.{ℕ, ◌≤◌, ◌<◌, ◌≡◌, ◌≢◌, Bool, true, false, not, ◌&&◌, ◌||◌, List, [], length, inl, inr}
+use Rattle.std.proofs.Common.{refl, sym}
 use Rattle.std.proofs.Common.{◌∙◌, ap, arith, get_or, nat_le, nat_lt, Option, Some, None, Vec, subst}
 use Rattle.std.specs.Prelude.{slice_get, slice_index}
 use Rattle.std.specs.declared.alloc.Global.{Global}
@@ -88,7 +89,12 @@ module _ (old new : LinksRow) (bars free : List ℕ) (rows : List (Vec RowWish G
             marks.each x.wish (w, m) entry
             (and_from (is_proposed_at new x.wish && not (is_proposed_at old x.wish)) (is_open s low w m)
             (and_from (is_proposed_at new x.wish) (not (is_proposed_at old x.wish)) now_is (ap not was)) opens)
-            (omega (arith, long, slice_get_within s.dossier.wishes x.wish w (wish_of s.dossier.wishes s.marks x.wish w m entry)));
+            (omega (
+              arith,
+              long,
+              slice_get_within s.dossier.wishes x.wish w
+                  (wish_of s.dossier.wishes s.marks x.wish w m entry),
+            ));
       }
 
   module _ (overs : List (Option ℕ)) (housed : List (List Rung))
@@ -158,7 +164,8 @@ module _ (old new : LinksRow) (bars free : List ℕ) (rows : List (Vec RowWish G
         let in_overs : i < length overs = omega (arith, slice_get_within rows i row found, all.answer_each) in
         let in_housed : i < length housed = omega (arith, slice_get_within rows i row found, all.one_each) in
         record {
-          one_each = length-set housed i (kept q (get_or housed i [])) ∙ all.one_each ∙ sym (length-set rows i kept_row);
+          one_each = length-set housed i (kept q (get_or housed i [])) ∙ all.one_each
+              ∙ sym (length-set rows i kept_row);
           answer_each = length-set overs i (within q (get_or overs i None)) ∙ all.answer_each
               ∙ sym (length-set rows i kept_row);
           each = λ g own at. elim (cases_eq g i) [

@@ -1,6 +1,7 @@
 -- The ranks of a row are housed one after another.
 use Rattle.std.proofs.Common.{ℕ, ◌+◌, ◌≤◌, ◌<◌, ◌≡◌, ◌⊎◌, Bool, true, false, List, [], ◌∷◌}
-use Rattle.std.proofs.Common.{length, take, inl, inr, refl, sym, ◌∙◌, ap, arith, get_or, nat_eq, nat_lt, Some, None, Option}
+use Rattle.std.proofs.Common.{length, take, inl, inr, refl, sym, ◌∙◌, ap, arith, get_or, nat_eq, nat_lt, Some, None}
+use Rattle.std.proofs.Common.{Option}
 use Rattle.std.proofs.Common.{subst, unwrap_or, is_some}
 use Rattle.std.specs.Prelude.{slice_get}
 use Rattle.std.specs.Option.{option_or}

@@ -1,11 +1,13 @@
 -- The demanded ranks of a row that have a bed, while wishes are looked at and bars fall.
 use Rattle.std.proofs.Common.{ℕ, ◌+◌, ◌≤◌, ◌<◌, ◌≡◌, ◌⊎◌, Bool, true, false, ◌&&◌, List, [], ◌∷◌, ◌++◌}
-use Rattle.std.proofs.Common.{length, filter, inl, inr, refl, sym, ◌∙◌, ap, arith, nat_eq, nat_lt, Some, None, Option, subst}
+use Rattle.std.proofs.Common.{length, filter, inl, inr, refl, sym, ◌∙◌, ap, arith, nat_eq, nat_lt, Some, None, Option}
+use Rattle.std.proofs.Common.{subst}
 use Rattle.std.proofs.Common.{suc, unwrap_or, is_some}
 use Rattle.std.specs.Prelude.{slice_get, IfSome, IfNone}
 use Rattle.std.specs.Option.{option_or}
 use Rattle.std.specs.List.{AllByRecursion}
-use Rattle.std.proofs.lemmas.Bool.{cases_Bool, cases_lt, cases_eq, false≢true, and_parts, and_from, or_cases, or_left, or_right}
+use Rattle.std.proofs.lemmas.Bool.{cases_Bool, cases_lt, cases_eq, false≢true, and_parts, and_from, or_cases, or_left}
+use Rattle.std.proofs.lemmas.Bool.{or_right}
 use Rattle.std.proofs.lemmas.Bool.{eqb-true, eq-eqb, ltb-true, lt-ltb, le-ltb, and_right}
 use Rattle.std.proofs.lemmas.List.{length-append}
 use Rattle.std.proofs.lemmas.Option.{slice_get_past}

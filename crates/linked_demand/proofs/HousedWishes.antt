@@ -1,5 +1,6 @@
 -- A wish is looked at, and houses its rank where it demands a bed.
-use Rattle.std.proofs.Common.{ℕ, ◌<◌, ◌≤◌, ◌≡◌, ◌≢◌, ◌⊎◌, Bool, true, false, not, ◌&&◌, List, [], length, inl, inr, refl, sym, ◌∙◌}
+use Rattle.std.proofs.Common.{ℕ, ◌<◌, ◌≤◌, ◌≡◌, ◌≢◌, ◌⊎◌, Bool, true, false, not, ◌&&◌, List, [], length, inl, inr}
+use Rattle.std.proofs.Common.{refl, sym, ◌∙◌}
 use Rattle.std.proofs.Common.{ap, get_or, nat_eq, Option, Some, None, subst, Vec, is_some, unwrap_or}
 use Rattle.std.specs.Prelude.{slice_get, slice_index, if◌then◌else◌, IfSome, IfNone}
 use Rattle.std.specs.Option.{option_or}

@@ -7,7 +7,7 @@
 -- Rows of the schools: Filling, Items, RowSteps, RowFronts, Demanded, Naming.
 -- A wish is closed: Moving, Ticking, Marking, Staying; the end of a row falls: Cutting, Telling.
 -- A bar falls: OneFall, Answered, RoundFalls, TickLaw, Spending.
--- Who has a bed: Rungs, HousedRows, HousedFronts, HousedAll, HousedWishes, HousedMarks, HousedFalls;
+-- Who has a bed: Rungs, RungSteps, HousedRows, HousedFronts, HousedAll, HousedWishes, HousedMarks, HousedFalls;
 -- the answers: Asking.
 -- The system as a whole: BarEach, Rounding, and last Lowered.
 pub mod Answered
@@ -56,6 +56,7 @@ pub mod RoundFalls
 pub mod RowFronts
 pub mod RowSteps
 pub mod Rounding
+pub mod RungSteps
 pub mod Rungs
 pub mod Seating
 pub mod Spending

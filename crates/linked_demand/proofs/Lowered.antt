@@ -188,7 +188,8 @@ module _ (links : LinksRow) (ceilings bars free : List ℕ) (rows : List (Vec Ro
           → IsRoundUnder new ceilings (set bars i to) free (set rows i kept_row) answers last housed_last
       lowered beds beds_are overs_cut housed_cut overs_are housed_are answers last housed_last looked unmarked =
           let Q = λ (bs : List ℕ). MarksWishes links.state (is_new links.state bs links new) marked after in
-          let fallen = all_fallen links new bars free rows i to within_bars le right.round row kept_row found state orders
+          let fallen = all_fallen links new bars free rows i to within_bars le right.round row kept_row found state
+          orders
           cut round_now marked after right.marked_each (subst Q low_is marks) overfilled housed right.housed_are in
           let P = λ (bs : List ℕ). (cs : List ℕ) (rs : List (Vec RowWish Global)) → IsRound new cs bs rs
           → AllHoused new (λ k. get_or after k false) rs bs overs_cut housed_cut
@@ -202,7 +203,8 @@ module _ (links : LinksRow) (ceilings bars free : List ℕ) (rows : List (Vec Ro
           record {
             round = round_now;
             ceilings_each = right.ceilings_each ∙ schools;
-            overfilled_are = answers_all new (set bars i to) free (set rows i kept_row) round_now answers housed_last all;
+            overfilled_are = answers_all new (set bars i to) free
+                (set rows i kept_row) round_now answers housed_last all;
             marked_each = ap length unmarked ∙ length-replicate (length after) false ∙ marks_long;
             housed_are = all;
           }

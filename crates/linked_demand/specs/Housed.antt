@@ -1,6 +1,8 @@
 -- The ranks of a school's row that are known, and which of them have a bed.
-use Rattle.std.specs.Prelude.{◌≡◌, ℕ, nat_eq, nat_lt, ◌-◌, ◌≤◌, ◌<◌, Bool, true, false, ◌||◌, List, [], ◌∷◌, ◌++◌, length, map, filter}
-use Rattle.std.specs.Prelude.{Option, Some, None, option_map, unwrap_or, if◌then◌else◌, slice_get, slice_index, slice_index_or, Vec}
+use Rattle.std.specs.Prelude.{◌≡◌, ℕ, nat_eq, nat_lt, ◌-◌, ◌≤◌, ◌<◌, Bool, true, false, ◌||◌, List, [], ◌∷◌, ◌++◌}
+use Rattle.std.specs.Prelude.{length, map, filter}
+use Rattle.std.specs.Prelude.{Option, Some, None, option_map, unwrap_or, if◌then◌else◌, slice_get, slice_index}
+use Rattle.std.specs.Prelude.{slice_index_or, Vec}
 use Rattle.std.specs.declared.alloc.Global.{Global}
 use Rattle.admit_core.specs.Lists.{is_among}
 use Rattle.admit_core.proofs.Tests.{Ascends}

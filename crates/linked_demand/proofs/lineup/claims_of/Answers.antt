@@ -8,7 +8,8 @@ use Rattle.linked_demand.proofs.lineup.claims_of.Goals as goal
 pub loop-programme-init : goal.loop-programme-init
 loop-programme-init c = record {
   built = built_none c.args.state.now.dossier c.args.orders.now.orders c.in_ok-claims.claims.items
-      c.args.notes.now.places.items c.args.notes.now.early.items c.in_ok-claims.ensures.items c.requires.places c.requires.early;
+      c.args.notes.now.places.items c.args.notes.now.early.items c.in_ok-claims.ensures.items c.requires.places
+      c.requires.early;
   wishes = c.in_ok-called.ensures.wishes;
   before = c.in_ok-called.ensures.before;
 }

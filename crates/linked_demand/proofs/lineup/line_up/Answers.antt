@@ -28,7 +28,8 @@ overflow_cast-len c =
     let few = spans_fit c.args.state.now.dossier c.args.orders.now.orders c.args.programme c.args.wishes.items
     c.args.before.now
     c.requires.wishes c.requires.before c.requires.once
-    c.loop-from.from c.loop-from.spans.items c.loop-from.notes.places.items c.loop-from.notes.early.items c.loop-from.invariant
+    c.loop-from.from c.loop-from.spans.items c.loop-from.notes.places.items c.loop-from.notes.early.items
+    c.loop-from.invariant
     lt in
     omega (arith, c.len-in-loop-from.ensures, few, lt, c.requires.few)
 
@@ -72,7 +73,8 @@ loop-from-preserved c =
     ) in
     let read : c.part.result.now ≡ part_of wishes span =
     c.part.ensures ∙ ap (λ (l : List ℕ). part_of l span) c.deref.ensures.value in
-    let Q = λ (ks : List ℕ). PutAt ℕ 0 ks c.len-in-loop-from.result c.loop-from.notes.places.items c.note.new.notes.places.items in
+    let Q = λ (ks : List ℕ). PutAt ℕ 0 ks c.len-in-loop-from.result c.loop-from.notes.places.items
+    c.note.new.notes.places.items in
     let R = λ (ks : List ℕ). PutAt Bool false ks c.is_early-is_early.result c.loop-from.notes.early.items
     c.note.new.notes.early.items in
     lined_more c.args.state.now.dossier c.args.orders.now.orders c.args.programme c.args.wishes.items c.args.before.now
@@ -99,7 +101,8 @@ returns-clause-claims c =
     ∙ (lined_all c.args.state.now.dossier c.args.orders.now.orders c.args.programme c.args.wishes.items
     c.args.before.now
     c.requires.wishes c.requires.before c.requires.once
-    c.loop-from.from c.loop-from.spans.items c.loop-from.notes.places.items c.loop-from.notes.early.items c.loop-from.invariant
+    c.loop-from.from c.loop-from.spans.items c.loop-from.notes.places.items c.loop-from.notes.early.items
+    c.loop-from.invariant
     le).0
 
 pub returns-clause-seated : goal.returns-clause-seated
@@ -112,5 +115,6 @@ returns-clause-seated c =
     ) in
     (lined_all c.args.state.now.dossier c.args.orders.now.orders c.args.programme c.args.wishes.items c.args.before.now
     c.requires.wishes c.requires.before c.requires.once
-    c.loop-from.from c.loop-from.spans.items c.loop-from.notes.places.items c.loop-from.notes.early.items c.loop-from.invariant
+    c.loop-from.from c.loop-from.spans.items c.loop-from.notes.places.items c.loop-from.notes.early.items
+    c.loop-from.invariant
     le).1

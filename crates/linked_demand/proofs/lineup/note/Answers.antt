@@ -24,8 +24,10 @@ loop-wish-preserved c =
     let within = c.requires.places i 0 lt in
     let P = λ (n : ℕ). get_or claim i 0 < n in
     record {
-      places = put_more ℕ 0 claim i c.args.place c.args.notes.now.places.items c.loop-wish.notes.places.items _ lt within
+      places = put_more ℕ 0 claim i c.args.place c.args.notes.now.places.items c.loop-wish.notes.places.items _ lt
+          within
           c.loop-wish.invariant.places refl;
-      early = put_more Bool false claim i c.args.is_early c.args.notes.now.early.items c.loop-wish.notes.early.items _ lt
+      early = put_more Bool false claim i c.args.is_early c.args.notes.now.early.items c.loop-wish.notes.early.items _
+          lt
           (subst P (sym c.requires.early) within) c.loop-wish.invariant.early refl;
     }

@@ -1,5 +1,5 @@
 use Rattle.std.proofs.Common.{◌∙◌, sym, arith}
-use Rattle.linked_demand.proofs.Rungs.{cut_all, cut_last}
+use Rattle.linked_demand.proofs.RungSteps.{cut_all, cut_last}
 use Rattle.linked_demand.proofs.housed.Housed.cut.Goals as goal
 
 pub loop-self-preserved : goal.loop-self-preserved

@@ -2,7 +2,7 @@ use Rattle.std.proofs.Common.{List, ◌∷◌, subst}
 use Rattle.admit_core.proofs.Tests.{Ascends}
 use Rattle.linked_demand.specs.declared.housed.Rung.{Rung}
 use Rattle.linked_demand.specs.Housed.{ranks_of}
-use Rattle.linked_demand.proofs.Rungs.{front_gives}
+use Rattle.linked_demand.proofs.RungSteps.{front_gives}
 use Rattle.linked_demand.proofs.housed.Housed.give_up.Goals as goal
 
 pub returns-then-rung-clause-rank : goal.returns-then-rung-clause-rank

@@ -1,5 +1,5 @@
 use Rattle.std.proofs.Common.{length}
-use Rattle.linked_demand.proofs.Rungs.{IsFrontOf}
+use Rattle.linked_demand.proofs.RungSteps.{IsFrontOf}
 use Rattle.linked_demand.proofs.housed.Housed.give_up.Given as goal
 
 abbrev pub invariant-loop-rung : goal.invariant-loop-rung

@@ -3,7 +3,8 @@ use Rattle.std.specs.List.Sorted.{IsPartitionPoint}
 use Rattle.std.proofs.lemmas.Option.{slice_get_within}
 use Rattle.linked_demand.specs.declared.housed.Rung.{Rung}
 use Rattle.linked_demand.specs.Housed.{noted}
-use Rattle.linked_demand.proofs.Rungs.{few_housed, rung_at, rungs_rise, not_there, noted_there, noted_twice, rungs_set}
+use Rattle.linked_demand.proofs.RungSteps.{few_housed, rung_at, rungs_rise, not_there, noted_there, noted_twice}
+use Rattle.linked_demand.proofs.RungSteps.{rungs_set}
 use Rattle.linked_demand.proofs.housed.Housed.note.Goals as goal
 use Rattle.linked_demand.proofs.housed.Housed.note.Goals.{else-at-len-via-then-at-len+then-index-rank+else-not-index}
 use Rattle.linked_demand.proofs.housed.Housed.note.Goals.{else-at-len-via-then-at-len+else-index-rank}

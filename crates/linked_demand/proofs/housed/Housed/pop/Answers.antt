@@ -1,4 +1,4 @@
-use Rattle.linked_demand.proofs.Rungs.{popped_housed, popped_bare}
+use Rattle.linked_demand.proofs.RungSteps.{popped_housed, popped_bare}
 use Rattle.linked_demand.proofs.housed.Housed.pop.Goals as goal
 
 -- src/housed.rt:87:13

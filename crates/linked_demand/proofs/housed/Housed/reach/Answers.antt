@@ -1,6 +1,6 @@
 use Rattle.std.proofs.Common.{◌≡◌, ◌∙◌, ap, sym, arith}
 use Rattle.linked_demand.specs.Housed.{last_rank}
-use Rattle.linked_demand.proofs.Rungs.{pushed_rung}
+use Rattle.linked_demand.proofs.RungSteps.{pushed_rung}
 use Rattle.linked_demand.proofs.housed.Housed.reach.Goals as goal
 
 pub invariant_of-self : goal.invariant_of-self

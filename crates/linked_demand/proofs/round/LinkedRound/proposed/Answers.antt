@@ -14,9 +14,11 @@ pub returns : goal.returns
 returns c =
     let r = c.self.inside in
     let seen = c.args.self.now in
-    let right = listed_seen r.links r.ceilings.items r.bars.items r.free.items r.rows.items r.overfilled r.marked r.housed.items seen
+    let right = listed_seen r.links r.ceilings.items r.bars.items r.free.items r.rows.items r.overfilled r.marked
+    r.housed.items seen
     c.self.invariant c.self.view_is in
-    let same = offers_seen r.links r.ceilings.items r.bars.items r.free.items r.rows.items r.overfilled r.marked r.housed.items seen
+    let same = offers_seen r.links r.ceilings.items r.bars.items r.free.items r.rows.items r.overfilled r.marked
+    r.housed.items seen
     c.self.invariant c.self.view_is in
     record {
       places = IfOk-weaker c.proposed_places.result _ _ (λ (v : Vec ℕ Global) are. right v.items are)

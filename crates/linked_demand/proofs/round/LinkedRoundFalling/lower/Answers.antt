@@ -19,7 +19,8 @@ pub index_mut-requires-2 : goal.index_mut-requires-2
 index_mut-requires-2 g c =
     let r = c.self.inside in
     let lt : c.args.i < length r.bars.items = bar_within r.links r.ceilings.items r.bars.items r.free.items
-    r.rows.items r.overfilled r.marked r.housed.items c.args.self.now c.self.invariant c.self.view_is c.args.i c.requires.in_range in
+    r.rows.items r.overfilled r.marked r.housed.items c.args.self.now c.self.invariant c.self.view_is c.args.i
+    c.requires.in_range in
     omega (arith, lt, c.self.invariant.round.rows_each)
 
 pub close_past-requires : goal.close_past-requires
@@ -28,12 +29,14 @@ close_past-requires g c =
     record {
       row = all_wait r.links r.bars.items r.free.items c.args.i c.args.to r.rows.items
           c.index_mut-2.result.now c.self.invariant.round
-          (within_bars r.links r.ceilings.items r.bars.items r.free.items r.rows.items r.overfilled r.marked r.housed.items
+          (within_bars r.links r.ceilings.items r.bars.items r.free.items r.rows.items r.overfilled r.marked
+          r.housed.items
           c.args.self.now c.self.invariant c.self.view_is c.args.i c.args.to c.requires.in_range
           c.requires.lower c.index_mut-2.result.now c.index_mut-2.ensures.value) c.index_mut-2.ensures.value;
       items = items_own r.links r.bars.items r.free.items c.args.i c.args.to r.rows.items
           c.index_mut-2.result.now c.self.invariant.round
-          (within_bars r.links r.ceilings.items r.bars.items r.free.items r.rows.items r.overfilled r.marked r.housed.items
+          (within_bars r.links r.ceilings.items r.bars.items r.free.items r.rows.items r.overfilled r.marked
+          r.housed.items
           c.args.self.now c.self.invariant c.self.view_is c.args.i c.args.to c.requires.in_range
           c.requires.lower c.index_mut-2.result.now c.index_mut-2.ensures.value) c.index_mut-2.ensures.value;
       bars = omega (arith, c.deref.ensures.len, c.self.invariant.round.bars_each);
@@ -75,19 +78,22 @@ house_marked-requires g c =
           c.close_past.new.row c.close_past.ensures.state c.close_past.ensures.orders c.close_past.ensures.cut
           c.deref.result.now c.deref.ensures.value c.close_past.new.marked c.close_past.ensures.marked;
       waits = all_open_wait links.state round.marks_each _ links.opens round.opens_are;
-      free = ap length c.deref-2.ensures.value ∙ now_long r.links r.ceilings.items r.bars.items r.free.items r.rows.items r.overfilled r.marked
+      free = ap length c.deref-2.ensures.value
+          ∙ now_long r.links r.ceilings.items r.bars.items r.free.items r.rows.items r.overfilled r.marked
           r.housed.items c.args.self.now c.self.invariant c.self.view_is c.args.i c.args.to c.requires.in_range
           c.requires.lower c.index_mut-2.result.now c.index_mut-2.ensures.value c.close_past.new.links
           c.close_past.new.row c.close_past.ensures.state c.close_past.ensures.orders c.close_past.ensures.cut
           c.deref.result.now c.deref.ensures.value c.close_past.new.marked c.close_past.ensures.marked r.free.items
           (one_free_each r.links r.bars.items r.free.items r.rows.items c.self.invariant.round);
-      housed = ap length c.cut_school.ensures.housed ∙ length-set r.housed.items c.args.i _ ∙ now_long r.links r.ceilings.items r.bars.items r.free.items r.rows.items r.overfilled r.marked
+      housed = ap length c.cut_school.ensures.housed ∙ length-set r.housed.items c.args.i _
+          ∙ now_long r.links r.ceilings.items r.bars.items r.free.items r.rows.items r.overfilled r.marked
           r.housed.items c.args.self.now c.self.invariant c.self.view_is c.args.i c.args.to c.requires.in_range
           c.requires.lower c.index_mut-2.result.now c.index_mut-2.ensures.value c.close_past.new.links
           c.close_past.new.row c.close_past.ensures.state c.close_past.ensures.orders c.close_past.ensures.cut
           c.deref.result.now c.deref.ensures.value c.close_past.new.marked c.close_past.ensures.marked
           r.housed.items c.self.invariant.housed_are.one_each;
-      overfilled = ap length c.cut_school.ensures.overfilled ∙ length-set r.overfilled c.args.i _ ∙ now_long r.links r.ceilings.items r.bars.items r.free.items r.rows.items r.overfilled r.marked
+      overfilled = ap length c.cut_school.ensures.overfilled ∙ length-set r.overfilled c.args.i _
+          ∙ now_long r.links r.ceilings.items r.bars.items r.free.items r.rows.items r.overfilled r.marked
           r.housed.items c.args.self.now c.self.invariant c.self.view_is c.args.i c.args.to c.requires.in_range
           c.requires.lower c.index_mut-2.result.now c.index_mut-2.ensures.value c.close_past.new.links
           c.close_past.new.row c.close_past.ensures.state c.close_past.ensures.orders c.close_past.ensures.cut
@@ -111,21 +117,26 @@ pub returns : goal.returns
 returns g c =
     let r = c.self.inside in
     record {
-      bars = bars_fallen r.links r.ceilings.items r.bars.items r.free.items r.rows.items r.overfilled r.marked r.housed.items
+      bars = bars_fallen r.links r.ceilings.items r.bars.items r.free.items r.rows.items r.overfilled r.marked
+          r.housed.items
           c.args.self.now c.self.invariant c.self.view_is c.args.i c.args.to;
-      same = system_now r.links r.ceilings.items r.bars.items r.free.items r.rows.items r.overfilled r.marked r.housed.items
+      same = system_now r.links r.ceilings.items r.bars.items r.free.items r.rows.items r.overfilled r.marked
+          r.housed.items
           c.args.self.now c.self.invariant c.self.view_is c.args.i c.args.to c.requires.in_range
           c.requires.lower c.index_mut-2.result.now c.index_mut-2.ensures.value c.close_past.new.links
           c.close_past.new.row c.close_past.ensures.state c.close_past.ensures.orders c.close_past.ensures.cut;
-      offers = offers_now r.links r.ceilings.items r.bars.items r.free.items r.rows.items r.overfilled r.marked r.housed.items
+      offers = offers_now r.links r.ceilings.items r.bars.items r.free.items r.rows.items r.overfilled r.marked
+          r.housed.items
           c.args.self.now c.self.invariant c.self.view_is c.args.i c.args.to c.requires.in_range
           c.requires.lower c.index_mut-2.result.now c.index_mut-2.ensures.value c.close_past.new.links
           c.close_past.new.row c.close_past.ensures.state c.close_past.ensures.orders c.close_past.ensures.cut;
-      round = seen_now r.links r.ceilings.items r.bars.items r.free.items r.rows.items r.overfilled r.marked r.housed.items
+      round = seen_now r.links r.ceilings.items r.bars.items r.free.items r.rows.items r.overfilled r.marked
+          r.housed.items
           c.args.self.now c.self.invariant c.self.view_is c.args.i c.args.to c.requires.in_range
           c.requires.lower c.index_mut-2.result.now c.index_mut-2.ensures.value c.close_past.new.links
           c.close_past.new.row c.close_past.ensures.state c.close_past.ensures.orders c.close_past.ensures.cut;
-      steps = steps_now r.links r.ceilings.items r.bars.items r.free.items r.rows.items r.overfilled r.marked r.housed.items
+      steps = steps_now r.links r.ceilings.items r.bars.items r.free.items r.rows.items r.overfilled r.marked
+          r.housed.items
           c.args.self.now c.self.invariant c.self.view_is c.args.i c.args.to c.requires.in_range
           c.requires.lower c.index_mut-2.result.now c.index_mut-2.ensures.value c.close_past.new.links
           c.close_past.new.row c.close_past.ensures.state c.close_past.ensures.orders

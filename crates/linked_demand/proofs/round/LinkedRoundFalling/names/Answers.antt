@@ -29,7 +29,8 @@ returns c =
     let i = c.args.i in
     let upto = c.args.upto in
     let bars = bar_each seen.ceilings seen.bars in
-    let within = bar_within r.links r.ceilings.items r.bars.items r.free.items r.rows.items r.overfilled r.marked r.housed.items
+    let within = bar_within r.links r.ceilings.items r.bars.items r.free.items r.rows.items r.overfilled r.marked
+    r.housed.items
     seen c.self.invariant c.self.view_is i c.requires in
     let same : bars ≡ seen.bars = bars_seen r.links r.ceilings.items r.bars.items r.free.items r.rows.items
     r.overfilled r.marked r.housed.items seen c.self.invariant c.self.view_is in
