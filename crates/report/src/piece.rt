@@ -17,6 +17,7 @@ pub(crate) enum Piece<'a> {
 }
 
 /// Adds some text.
+#[inline(always)]
 pub(crate) fn push_text(text: &mut String, added: &str) -> Result<(), AllocError>
     ensures { Pushes result text.old text.new added.now }
 {
@@ -24,6 +25,7 @@ pub(crate) fn push_text(text: &mut String, added: &str) -> Result<(), AllocError
 }
 
 /// Adds a piece.
+#[inline(always)]
 fn push_piece(text: &mut String, piece: Piece<'_>) -> Result<(), AllocError>
     ensures { Pushes result text.old text.new (piece_text piece.entry) }
 {
@@ -36,7 +38,9 @@ fn push_piece(text: &mut String, piece: Piece<'_>) -> Result<(), AllocError>
     }
 }
 
-/// Adds pieces, one after another.
+/// Adds pieces, one after another. It is inlined where they are written: there it is known what
+/// each of them is.
+#[inline(always)]
 pub(crate) fn push_all(text: &mut String, pieces: &[Piece<'_>]) -> Result<(), AllocError>
     ensures { Pushes result text.old text.new (all_text pieces.now) }
 {
