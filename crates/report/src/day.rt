@@ -8,7 +8,7 @@ ghost use Rattle.report.specs.Words.{further};
 
 use crate::date::push_date;
 use crate::ids::{push_line, push_numbers, school_id, wish_id};
-use crate::piece::{Piece, push_all, push_text};
+use crate::piece::{Piece, push_after, push_all, push_text};
 use admit_core::{Change, DayRecord, Dossier, Fall, Lapse, OutOfMemory, PassEnd, Terms};
 use calendar::{Civil, deadline, on_day};
 use std::alloc::{AllocError, Global};
@@ -20,8 +20,7 @@ fn push_wishes(text: &mut String, dossier: &Dossier, wishes: &[u32]) -> Result<(
         (further 32 (map (λ w. decimal (wish_id dossier.now w)) wishes.now)) }
 {
     for wish in wishes {
-        let id = wish_id(dossier, *wish);
-        push_all(text, &[Piece::Text(" "), Piece::Number(id)])?;
+        push_after(text, " ", wish_id(dossier, *wish))?;
     }
     push_text(text, "\n")
 }

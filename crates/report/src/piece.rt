@@ -1,4 +1,6 @@
 //! The pieces of a line.
+ghost use Rattle.std.specs.Prelude.{◌++◌};
+ghost use Rattle.std.specs.Fmt.{decimal};
 ghost use Rattle.report.specs.Pieces.{all_text, piece_text};
 ghost use Rattle.report.specs.Pushes.{Pushes};
 
@@ -22,6 +24,23 @@ pub(crate) fn push_text(text: &mut String, added: &str) -> Result<(), AllocError
     ensures { Pushes result text.old text.new added.now }
 {
     text.push_str(added)
+}
+
+/// Adds one text and then another.
+#[inline(always)]
+pub(crate) fn push_both(text: &mut String, one: &str, other: &str) -> Result<(), AllocError>
+    ensures { Pushes result text.old text.new (one.now ++ other.now) }
+{
+    push_text(text, one)?;
+    push_text(text, other)
+}
+
+/// Adds some text and a number.
+#[inline(always)]
+pub(crate) fn push_after(text: &mut String, before: &str, number: u32) -> Result<(), AllocError>
+    ensures { Pushes result text.old text.new (before.now ++ decimal number) }
+{
+    push_both(text, before, Buffer::new().format(number))
 }
 
 /// Adds a piece.

@@ -5,7 +5,7 @@ ghost use Rattle.admit_core.specs.Lines.{bound_letter};
 ghost use Rattle.report.specs.Pushes.{Pushes};
 ghost use Rattle.report.specs.Words.{further};
 
-use crate::piece::{Piece, push_all, push_text};
+use crate::piece::{push_after, push_both, push_text};
 use admit_core::Bound;
 use std::alloc::AllocError;
 
@@ -14,7 +14,7 @@ pub(crate) fn push_letters(text: &mut String, bounds: &[Bound]) -> Result<(), Al
     ensures { Pushes result text.old text.new (further 32 (map bound_letter bounds.now)) }
 {
     for bound in bounds {
-        push_all(text, &[Piece::Text(" "), Piece::Letter(*bound)])?;
+        push_both(text, " ", bound.letter())?;
     }
     push_text(text, "\n")
 }
@@ -24,7 +24,7 @@ pub(crate) fn push_list(text: &mut String, numbers: &[u32]) -> Result<(), AllocE
     ensures { Pushes result text.old text.new (further 32 (map decimal numbers.now)) }
 {
     for number in numbers {
-        push_all(text, &[Piece::Text(" "), Piece::Number(*number)])?;
+        push_after(text, " ", *number)?;
     }
     push_text(text, "\n")
 }

@@ -4,16 +4,16 @@ use Rattle.report.proofs.Pushing.{cut_off}
 use Rattle.report.proofs.PushedWords.{word_cut, word_pushed, words_end}
 use Rattle.report.proofs.day.push_wishes.Goals as goal
 
-pub returns-in_err-push_all : goal.returns-in_err-push_all
-returns-in_err-push_all c =
+pub returns-in_err-push_after : goal.returns-in_err-push_after
+returns-in_err-push_after c =
     cut_off c.from_residual.result c.from_residual.ensures.0
     (word_cut (λ w. decimal (wish_id c.args.dossier.now w)) c.args.wishes.now c.loop-wish.wish-index 0 (omega arith)
-    c.loop-wish.invariant (rw c.wish_id-id.ensures at c.in_err-push_all.ensures))
+    c.loop-wish.invariant (rw c.wish_id.ensures at c.in_err-push_after.ensures))
 
 pub loop-wish-preserved : goal.loop-wish-preserved
 loop-wish-preserved c =
     word_pushed (λ w. decimal (wish_id c.args.dossier.now w)) c.args.wishes.now c.loop-wish.wish-index 0 (omega arith)
-    c.loop-wish.invariant (rw c.wish_id-id.ensures at c.in_ok-push_all.ensures)
+    c.loop-wish.invariant (rw c.wish_id.ensures at c.in_ok-push_after.ensures)
 
 pub returns : goal.returns
 returns c =

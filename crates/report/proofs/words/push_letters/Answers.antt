@@ -4,16 +4,16 @@ use Rattle.report.proofs.Pushing.{cut_off}
 use Rattle.report.proofs.PushedWords.{word_cut, word_pushed, words_end}
 use Rattle.report.proofs.words.push_letters.Goals as goal
 
-pub returns-in_err-push_all : goal.returns-in_err-push_all
-returns-in_err-push_all c =
+pub returns-in_err-push_both : goal.returns-in_err-push_both
+returns-in_err-push_both c =
     cut_off c.from_residual.result c.from_residual.ensures.0
     (word_cut bound_letter c.args.bounds.now c.loop-bound.bound-index _ (omega arith) c.loop-bound.invariant
-    c.in_err-push_all.ensures)
+    (rw c.letter.ensures at c.in_err-push_both.ensures))
 
 pub loop-bound-preserved : goal.loop-bound-preserved
 loop-bound-preserved c =
     word_pushed bound_letter c.args.bounds.now c.loop-bound.bound-index _ (omega arith) c.loop-bound.invariant
-    c.in_ok-push_all.ensures
+    (rw c.letter.ensures at c.in_ok-push_both.ensures)
 
 pub returns : goal.returns
 returns c =

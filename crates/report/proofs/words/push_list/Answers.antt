@@ -4,16 +4,16 @@ use Rattle.report.proofs.Pushing.{cut_off}
 use Rattle.report.proofs.PushedWords.{word_cut, word_pushed, words_end}
 use Rattle.report.proofs.words.push_list.Goals as goal
 
-pub returns-in_err-push_all : goal.returns-in_err-push_all
-returns-in_err-push_all c =
+pub returns-in_err-push_after : goal.returns-in_err-push_after
+returns-in_err-push_after c =
     cut_off c.from_residual.result c.from_residual.ensures.0
     (word_cut decimal c.args.numbers.now c.loop-number.number-index _ (omega arith) c.loop-number.invariant
-    c.in_err-push_all.ensures)
+    c.in_err-push_after.ensures)
 
 pub loop-number-preserved : goal.loop-number-preserved
 loop-number-preserved c =
     word_pushed decimal c.args.numbers.now c.loop-number.number-index _ (omega arith) c.loop-number.invariant
-    c.in_ok-push_all.ensures
+    c.in_ok-push_after.ensures
 
 pub returns : goal.returns
 returns c =
