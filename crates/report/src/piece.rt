@@ -4,7 +4,7 @@ ghost use Rattle.std.specs.Fmt.{decimal};
 ghost use Rattle.report.specs.Pieces.{all_text, piece_text};
 ghost use Rattle.report.specs.Pushes.{Pushes};
 
-use admit_core::{Bound, Status};
+use admit_core::Status;
 use itoa::Buffer;
 use std::alloc::AllocError;
 
@@ -15,7 +15,6 @@ pub(crate) enum Piece<'a> {
     Number(u32),
     Count(usize),
     Word(Status),
-    Letter(Bound),
 }
 
 /// Adds some text.
@@ -53,7 +52,6 @@ fn push_piece(text: &mut String, piece: Piece<'_>) -> Result<(), AllocError>
         Piece::Number(number) => push_text(text, Buffer::new().format(number)),
         Piece::Count(count) => push_text(text, Buffer::new().format(count)),
         Piece::Word(status) => push_text(text, status.word()),
-        Piece::Letter(bound) => push_text(text, bound.letter()),
     }
 }
 
