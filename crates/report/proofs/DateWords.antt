@@ -1,5 +1,6 @@
 -- What the parts of a date are printed as, and what is pushed for them.
-use Rattle.std.proofs.Common.{◌≡◌, ℕ, ◌-◌, ◌/◌, ◌%◌, ◌^◌, ◌<◌, ◌≤◌, ◌∷◌, ◌++◌, [], List, append_assoc, codes, if◌then◌else◌, nat_lt, refl, sym, ⊎_elim, arith}
+use Rattle.std.proofs.Common.{◌≡◌, ℕ, ◌-◌, ◌/◌, ◌%◌, ◌^◌, ◌<◌, ◌≤◌, ◌∷◌, ◌++◌, [], List, append_assoc, codes}
+use Rattle.std.proofs.Common.{if◌then◌else◌, nat_lt, refl, sym, ⊎_elim, arith}
 use Rattle.std.specs.Fmt.{decimal, char_count, format_spec, padded_integral, styled_decimal}
 use Rattle.std.proofs.lemmas.Bool.{cases_lt, le-ltb, lt-ltb}
 use Rattle.std.proofs.lemmas.Fmt.{decimal_digit, decimal_step}

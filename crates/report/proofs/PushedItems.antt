@@ -1,5 +1,6 @@
 -- The lines of items that are known by their place, pushed one after another.
-use Rattle.std.proofs.Common.{◌≡◌, ◌∙◌, ℕ, ◌+◌, ◌<◌, ◌≤◌, List, String, min, ap, arith, flat_map, get_or, length, sym, take, zip}
+use Rattle.std.proofs.Common.{◌≡◌, ◌∙◌, ℕ, ◌+◌, ◌<◌, ◌≤◌, List, String, min, ap, arith, flat_map, get_or, length, sym}
+use Rattle.std.proofs.Common.{take, zip}
 use Rattle.std.specs.List.{enumerate_from}
 use Rattle.std.proofs.lemmas.List.FromFn.{get_or-enumerate_from, length-enumerate_from}
 use Rattle.std.proofs.lemmas.Slice.Zip.{get_or-zip, length-zip}
@@ -28,13 +29,15 @@ module _ {Z X : Type 0} (f : X × ℕ → List ℕ) (xs : List X) (ns : List ℕ
       → IsPushed old mid (flat_map f (take i (zip xs ns))) → IsPushed mid new (f (x, get_or ns i 0))
       → IsPushed old new (flat_map f (take (i + 1) (zip xs ns)))
   pushed_pair i x lt is p q =
-      pushed_item f (zip xs ns) i (x, 0) (omega (arith, length-zip xs ns)) p (pushed_as q (ap f (pair_at xs ns i x lt is)))
+      pushed_item f (zip xs ns) i (x, 0) (omega (arith, length-zip xs ns)) p
+      (pushed_as q (ap f (pair_at xs ns i x lt is)))
 
   pub cut_pair : {old mid new : String Z} (i : ℕ) (x : X) → i < min (length xs) (length ns) → x ≡ get_or xs i x
       → IsPushed old mid (flat_map f (take i (zip xs ns))) → IsCutOff mid new (f (x, get_or ns i 0))
       → IsCutOff old new (flat_map f (zip xs ns))
   cut_pair i x lt is p q =
-      cut_item f (zip xs ns) i (x, 0) (omega (arith, length-zip xs ns)) p (cut_off_as q (ap f (pair_at xs ns i x lt is)))
+      cut_item f (zip xs ns) i (x, 0) (omega (arith, length-zip xs ns)) p
+      (cut_off_as q (ap f (pair_at xs ns i x lt is)))
 
   pub pushed_pairs : {old new : String Z} (i : ℕ) → min (length xs) (length ns) ≤ i
       → IsPushed old new (flat_map f (take i (zip xs ns))) → IsPushed old new (flat_map f (zip xs ns))

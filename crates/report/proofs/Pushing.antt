@@ -1,5 +1,6 @@
 -- Pushes one after another.
-use Rattle.std.proofs.Common.{◌≡◌, ℕ, ◌+◌, ◌<◌, ◌≤◌, List, [], ◌∷◌, ◌++◌, ◌∙◌, Result, Ok, Err, String, drop, get_or, length, take, refl, sym, ap}
+use Rattle.std.proofs.Common.{◌≡◌, ℕ, ◌+◌, ◌<◌, ◌≤◌, List, [], ◌∷◌, ◌++◌, ◌∙◌, Result, Ok, Err, String, drop, get_or}
+use Rattle.std.proofs.Common.{length, take, refl, sym, ap}
 use Rattle.std.proofs.Common.{arith, append_assoc, flat_map, length-append, IsErr, string_bytes, string_len, subst}
 use Rattle.std.proofs.lemmas.Result.{MatchResult-from_err}
 use Rattle.std.proofs.lemmas.List.{take-append-drop, take_all, take_more}

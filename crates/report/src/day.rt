@@ -221,7 +221,8 @@ fn push_lapses(
     term: u32,
 ) -> Result<(), AllocError>
     requires { All (IsLapseOf dossier.now start term) lapses.now }
-    ensures { Pushes result text.old text.new (flat_map (lapse_line dossier.now start term) lapses.now) }
+    ensures { Pushes result text.old text.new
+        (flat_map (lapse_line dossier.now start term) lapses.now) }
 {
     for lapse in lapses {
         push_lapse(text, dossier, *lapse, start, term)?;

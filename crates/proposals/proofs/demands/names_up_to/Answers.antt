@@ -1,4 +1,5 @@
-use Rattle.std.proofs.Common.{◌≡◌, ℕ, ◌+◌, ◌<◌, ◌∙◌, Bool, true, List, arith, ap, drop, filter, get_or, length, le-leb, length-append, nat_le, sym, take}
+use Rattle.std.proofs.Common.{◌≡◌, ℕ, ◌+◌, ◌<◌, ◌∙◌, Bool, true, List, arith, ap, drop, filter, get_or, length, le-leb}
+use Rattle.std.proofs.Common.{length-append, nat_le, sym, take}
 use Rattle.std.proofs.lemmas.List.{take-append-drop}
 use Rattle.std.proofs.lemmas.List.Elements.{filter-append}
 use Rattle.std.proofs.lemmas.List.Filters.{length-filter_more}
@@ -12,7 +13,8 @@ some_pass p xs i d lt t =
     let front = filter p (take (i + 1) xs) in
     let rest = filter p (drop (i + 1) xs) in
     let more = rw t at (length-filter_more p xs i d lt) in
-    let whole = sym (filter-append p (take (i + 1) xs) (drop (i + 1) xs)) ∙ ap (filter p) (take-append-drop (i + 1) xs) in
+    let whole = sym (filter-append p (take (i + 1) xs) (drop (i + 1) xs))
+    ∙ ap (filter p) (take-append-drop (i + 1) xs) in
     omega (arith, more, ap length whole, length-append front rest)
 
 pub returns-in_err-push-clause-always : goal.returns-in_err-push-clause-always

@@ -4,4 +4,5 @@ use Rattle.report.specs.Pushes.{IsPushed}
 use Rattle.report.proofs.day.push_wishes.Given as goal
 
 abbrev pub invariant-loop-wish : goal.invariant-loop-wish
-invariant-loop-wish l = IsPushed l.fn.text l.text (flat_map (λ w. 32 ∷ decimal (wish_id l.dossier w)) (take l.wish-index l.wishes))
+invariant-loop-wish l = IsPushed l.fn.text l.text (flat_map (λ w. 32 ∷ decimal (wish_id l.dossier w))
+    (take l.wish-index l.wishes))

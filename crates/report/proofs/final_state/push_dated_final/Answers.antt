@@ -11,7 +11,8 @@ nobodys = record { id = 0; candidate = 0; programme = 0; school = None; board_ra
 
 pub returns-in_err-push_text : goal.returns-in_err-push_text
 returns-in_err-push_text c =
-    let rows = flat_map (dated_row c.args.state.now c.args.start c.args.terms.now.before) (enumerate_from 0 c.args.state.now.dossier.wishes) in
+    let rows = flat_map (dated_row c.args.state.now c.args.start c.args.terms.now.before)
+    (enumerate_from 0 c.args.state.now.dossier.wishes) in
     cut_off c.from_residual.result c.from_residual.ensures.0 (cut_off_first rows c.in_err-push_text.ensures)
 
 pub returns-in_err-push_dated_row : goal.returns-in_err-push_dated_row
@@ -29,7 +30,8 @@ pub loop-place-preserved : goal.loop-place-preserved
 loop-place-preserved c =
     let k = c.loop-place.place in
     let wishes = c.as_slice-wishes.result.now in
-    pushed_numbered (dated_row c.args.state.now c.args.start c.args.terms.now.before) 0 wishes k k nobodys (omega arith) (omega arith)
+    pushed_numbered (dated_row c.args.state.now c.args.start c.args.terms.now.before) 0 wishes k k nobodys (omega arith)
+    (omega arith)
     c.loop-place.invariant c.in_ok-push_dated_row.ensures
 
 pub returns : goal.returns

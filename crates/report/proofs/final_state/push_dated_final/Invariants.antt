@@ -6,4 +6,5 @@ use Rattle.report.proofs.final_state.push_dated_final.Given as goal
 
 abbrev pub invariant-loop-place : goal.invariant-loop-place
 invariant-loop-place l =
-    IsPushed l.initial.text l.text (flat_map (dated_row l.state l.start l.terms.before) (take l.place (enumerate_from 0 l.wishes)))
+    IsPushed l.initial.text l.text (flat_map (dated_row l.state l.start l.terms.before)
+    (take l.place (enumerate_from 0 l.wishes)))

@@ -23,7 +23,8 @@ returns-in_err-push_row c =
     cut_off c.from_residual-in_err-push_row.result c.from_residual-in_err-push_row.ensures.0
     (cut_off_next c.in_ok-push_text.ensures
     (cut_off_as (cut_numbered f 0 wishes k k nobodys (omega arith) (omega arith) c.loop-place.invariant
-    (rw c.status-status.ensures at c.in_err-push_row.ensures)) (ap (λ (ws : List Wish). flat_map f (enumerate_from 0 ws)) same)))
+    (rw c.status-status.ensures at c.in_err-push_row.ensures))
+    (ap (λ (ws : List Wish). flat_map f (enumerate_from 0 ws)) same)))
 
 pub loop-place-preserved : goal.loop-place-preserved
 loop-place-preserved c =
