@@ -1,25 +1,21 @@
-# Completion for bash of parcours and the tools around it.
+# Completion for bash of parcours and the tools around it. The modes and their options are those of modes.txt.
+_parcours_table=$(dirname -- "$(readlink -f -- "${BASH_SOURCE[0]}")")/modes.txt
+
 _parcours() {
-    local word=${COMP_WORDS[COMP_CWORD]} before=${COMP_WORDS[COMP_CWORD - 1]} each mode=
-    local modes="order replay chain check explain envy beds market sample"
+    local word=${COMP_WORDS[COMP_CWORD]} before=${COMP_WORDS[COMP_CWORD - 1]} name needs options modes='' offered=''
+    local words=" ${COMP_WORDS[*]:1:COMP_CWORD - 1} "
     case $before in
         -C) mapfile -t COMPREPLY < <(compgen -d -- "$word"); return ;;
         --picker) mapfile -t COMPREPLY < <(compgen -W "first last turn each" -- "$word"); return ;;
         --days | --term | --start | --wish | --school | --number) return ;;
     esac
-    for each in "${COMP_WORDS[@]:1:COMP_CWORD - 1}"; do
-        [[ " $modes " != *" $each "* ]] || mode=$each
-    done
-    case $mode in
-        '') mapfile -t COMPREPLY < <(compgen -W "$modes -C --help --version" -- "$word") ;;
-        order) ;;
-        check) mapfile -t COMPREPLY < <(compgen -W "--start --term" -- "$word") ;;
-        market) mapfile -t COMPREPLY < <(compgen -W "--picker" -- "$word") ;;
-        explain) mapfile -t COMPREPLY < <(compgen -W "--wish --days --picker --start --term" -- "$word") ;;
-        beds) mapfile -t COMPREPLY < <(compgen -W "--school --days --picker --start --term" -- "$word") ;;
-        sample) mapfile -t COMPREPLY < <(compgen -W "--number --days --picker" -- "$word") ;;
-        *) mapfile -t COMPREPLY < <(compgen -W "--days --picker --start --term" -- "$word") ;;
-    esac
+    while read -r name needs options _; do
+        [[ $name != \#* ]] || continue
+        modes+=" $name"
+        [[ $words != *" $name "* ]] || offered=$needs,$options
+    done < "$_parcours_table"
+    [[ $offered ]] || offered="$modes -C --help --version"
+    mapfile -t COMPREPLY < <(compgen -X - -W "${offered//,/ }" -- "$word")
 }
 complete -F _parcours parcours
 

@@ -12,7 +12,7 @@ from dossier.program import program
 from dossier.wording import Words
 
 from . import answered, auditing, cutting, days, disks, edits, exporting, hostile, installing, killing, lemmas
-from . import measuring, rechecking, rounds, script, sheets, stored, tabled, whys, workbooks
+from . import measuring, rechecking, rounds, script, sheets, stored, tabled, telling_modes, whys, workbooks
 from .harness import EXAMPLES, Tally, until_told
 
 Checks = Callable[[Tally], None]
@@ -44,6 +44,7 @@ def topics(program: str) -> dict[str, list[Checks]]:
                     partial(rechecking.check_broken, program=program),
                     partial(rechecking.check_large, program=program)],
         "script": [script.check_script],
+        "modes": [telling_modes.check_listed, telling_modes.check_reads],
         "exporting": [exporting.check_round_trips, partial(exporting.check_acceptance, program=program)],
         "days": [partial(days.check_seven_days, program=program), days.check_answers_that_do_not_fit,
                  days.check_unfit_in_the_midst, days.check_stopped_days, days.check_changes_after_a_stop,

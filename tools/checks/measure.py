@@ -12,12 +12,10 @@ from typing import NoReturn
 from dossier.wording import Words
 
 from .harness import TOP, run, scratch, until_told
-from .modes import MODES, Mode, make_sure
+from .modes import MODES, TABLE, Mode, make_sure
 from .national import KINDS
 from .timed import DONE, LEAST, MEGABYTE, Call, Measured, are_well, growth, in_turn, maker, named_program
 
-ORDER = ("order", "replay", "chain", "check", "market", "envy", "beds", "explain", "sample")
-WITHOUT_DAYS = ("order", "market", "sample")
 SIZES = (10_000, 100_000)
 LEAST_SIZE, MOST_SIZE, MOST_DAYS = 100, 1_000_000, 366
 LONGEST = 600.0
@@ -63,6 +61,8 @@ def surroundings(folder: Path) -> dict[str, str]:
     """How the script `parcours` has the C library allocate in this folder, asked of the script itself."""
     with scratch() as tree:
         shutil.copy(TOP / "parcours", tree)
+        (tree / "tools").mkdir()
+        shutil.copy(TABLE, tree / "tools")
         (tree / "installed").touch()
         (tree / "program").write_text(STAND_IN)
         (tree / "program").chmod(0o755)
@@ -132,8 +132,13 @@ def measured(task: Task, made: Made, beside: str | None, asked: argparse.Namespa
 
 def tasks(asked: argparse.Namespace) -> list[Task]:
     """Those that read a dossier, and then `sample`."""
-    return [Task(MODES[name], days) for name in ORDER if not asked.modes or name in asked.modes
-            for days in ([None] if name in WITHOUT_DAYS else asked.days)]
+    return [Task(mode, days) for mode in MODES.values() if not asked.modes or mode.name in asked.modes
+            for days in (asked.days if is_of_days(mode) else [None])]
+
+
+def is_of_days(mode: Mode) -> bool:
+    """Whether it is run for several numbers of days: `check` by its chain, and `sample` for one day alone."""
+    return mode.name == "check" or "--days" in mode.options and mode.files != ()
 
 
 def told(rows: list[Row]) -> bool:
@@ -187,7 +192,7 @@ def arguments() -> OneLine:
                     "memory, how many times the seconds of `wc -l`, and the growth from the first number to the "
                     "second, as a power of the rows. Programs are started as the script `parcours` starts its own. A "
                     "run is never said to take less memory than this script.",
-                    f"Modes: {', '.join(ORDER)}. Status: 0 all texts are the same, 1 some are not or a run did not end "
+                    f"Modes: {', '.join(MODES)}. Status: 0 all texts are the same, 1 some are not or a run did not end "
                     "well, 2 bad words.")
     words.add_argument("modes", nargs="*", metavar="MODE", help="all where none is named")
     words.add_argument("--candidates", nargs=2, type=int, metavar="N", default=SIZES,
@@ -205,7 +210,7 @@ def arguments() -> OneLine:
 def wrong(asked: argparse.Namespace) -> str | None:
     """What is wrong with the words."""
     small, large = asked.candidates
-    if unknown := [name for name in asked.modes if name not in ORDER]:
+    if unknown := [name for name in asked.modes if name not in MODES]:
         return f"no mode {unknown[0]}"
     if not LEAST_SIZE <= small < large <= MOST_SIZE:
         return f"--candidates are two numbers from {LEAST_SIZE} to {MOST_SIZE}, the lesser first"

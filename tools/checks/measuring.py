@@ -5,7 +5,8 @@ from collections import Counter
 from pathlib import Path
 
 from .harness import TOOLS, Ended, Tally, executable, run, scratch
-from .measure import ORDER, WITHOUT_DAYS, surroundings
+from .measure import is_of_days, surroundings
+from .modes import MODES
 from .national import KINDS
 from .timed import maker
 
@@ -32,9 +33,9 @@ def table(ended: Ended) -> list[list[str]]:
 
 def runs_of(days: int) -> list[str]:
     """The modes as the table names them, two rows each."""
-    named = {name: f"{name} --days {days}" for name in ORDER if name not in WITHOUT_DAYS}
+    named = {name: f"{name} --days {days}" for name, mode in MODES.items() if is_of_days(mode)}
     named["check"] = f"check, {days} days"
-    return [named.get(name, name) for name in ORDER for _ in SIZES]
+    return [named.get(name, name) for name in MODES for _ in SIZES]
 
 
 def check_tables(tally: Tally, program: str) -> None:
@@ -46,7 +47,7 @@ def check_tables(tally: Tally, program: str) -> None:
                 ["dossier", "candidates", "rows", "run", "s", "MB", "times wc -l", "s grow", "MB grow",
                  f"{Path(program).name} s", "times", f"{Path(program).name} MB"])
     tally.equal("the runs", [row[-9].strip() for row in rows], runs_of(3))
-    tally.equal("the candidates", [row[-11].strip() for row in rows], list(SIZES) * len(ORDER))
+    tally.equal("the candidates", [row[-11].strip() for row in rows], list(SIZES) * len(MODES))
     tally.check("growth is told at the second number", all(bool(row[-5].strip()) == bool(nth % 2)
                                                            for nth, row in enumerate(rows)), ended)
     tally.check("what reads slots is compared with wc", all(bool(row[-6].strip()) == (row[-9].strip() != "sample")

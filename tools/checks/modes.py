@@ -1,4 +1,4 @@
-"""The nine modes: which slots each reads, what it must be told, and whether the program at hand knows it."""
+"""The modes, by the table of `tools/modes.txt`, and whether the program at hand has them."""
 
 import csv
 import io
@@ -11,37 +11,45 @@ from random import Random
 
 from dossier.program import NOT_BUILT, program
 
-from .harness import EXAMPLES
-from .runs import BAD_WORDS, SLOTS, Files, Job, file_of, run_of
+from .harness import EXAMPLES, TOOLS
+from .runs import BAD_WORDS, Files, Job, file_of, run_of
 
-TABLES = SLOTS[:-1]
+TABLE = TOOLS / "modes.txt"
+ITEMS = {"--wish": "wishes", "--school": "schools"}
+NUMBER_OF_A_SAMPLE = ("--number", "20")
 
 
 @dataclass(frozen=True)
 class Mode:
-    """A mode with the slots that it reads, in order, and the option that names an item of a slot."""
+    """A mode with the options that it must and may have, and the slots that it reads, in order."""
 
     name: str
+    needs: tuple[str, ...]
+    options: tuple[str, ...]
     reads: tuple[str, ...]
-    item: tuple[str, str] | None = None
 
     @property
     def files(self) -> tuple[str, ...]:
         return tuple(map(file_of, self.reads))
 
+    @property
+    def item(self) -> tuple[str, str] | None:
+        """The option that names an item of a slot, and the slot."""
+        return next(((option, ITEMS[option]) for option in self.needs if option in ITEMS), None)
 
-MODES = {mode.name: mode for mode in (
-    Mode("order", ("groups", "rankings")),
-    Mode("replay", TABLES),
-    Mode("chain", TABLES),
-    Mode("check", SLOTS),
-    Mode("explain", TABLES, ("--wish", "wishes")),
-    Mode("beds", TABLES, ("--school", "schools")),
-    Mode("envy", TABLES),
-    Mode("market", ("groups", "programmes", "schools", "rankings", "boarding", "wishes")),
-    Mode("sample", ()),
-)}
-NUMBER_OF_A_SAMPLE = ("--number", "20")
+
+def names_in(cell: str) -> tuple[str, ...]:
+    return () if cell == "-" else tuple(cell.split(","))
+
+
+def modes_of(table: str) -> Iterator[Mode]:
+    for line in table.splitlines():
+        if line and not line.startswith("#"):
+            name, *cells = line.split()
+            yield Mode(name, *map(names_in, cells))
+
+
+MODES = {mode.name: mode for mode in modes_of(TABLE.read_text())}
 NO_CHAIN = b"end\n"
 
 
@@ -60,10 +68,8 @@ def items(files: Files, slot: str) -> list[str]:
 
 def words_of(mode: Mode, files: Files, options: tuple[str, ...], by: Random) -> tuple[str, ...]:
     """The words that run the mode with these options on these slots."""
-    if mode.name == "sample":
-        return (mode.name, *NUMBER_OF_A_SAMPLE, *options)
     if mode.item is None:
-        return (mode.name, *options)
+        return (mode.name, *(NUMBER_OF_A_SAMPLE if mode.needs else ()), *options)
     option, slot = mode.item
     return (mode.name, option, by.choice(items(files, slot)), *options)
 

@@ -10,6 +10,7 @@ from pathlib import Path
 from random import Random
 
 from .harness import EXAMPLES, TOOLS, TOP, Ended, Tally, run, scratch
+from .modes import MODES, words_of
 from .runs import binary
 
 STAND_IN = """#!/bin/sh
@@ -29,15 +30,13 @@ shutil.copy("{top}/stand_in", "{top}/crates/parcours/out/parcours")
 """
 SMALL_TOOLS = ("find", "sort", "xargs", "sha256sum", "cat", "readlink", "dirname", "sleep", "setpriv")
 WORDS_SEED, WORD_LISTS = 5, 120
-MODES = (("replay",), ("order",), ("explain", "--wish", "2"), ("beds", "--school=5"), ("market",), ("envy",),
-         ("explain",))
 PIECES = (
     ("--days", "2"), ("--days=1",), ("--days", "0002"), ("--picker", "each"), ("--start", "2024-02-29", "--term", "0"),
     ("--term", "366", "--start=1901-01-01"), ("--wish", "0000000007"), ("--number", "5"), ("--days", "366"),
     ("--days", "367"), ("--days",), ("--days=",), ("--picker", "any"), ("--start", "2026-02-29", "--term", "1"),
     ("--start", "2026-6-2"), ("--start", "1900-06-02", "--term=1"), ("--term", "367"), ("--wish", "0"), ("--",), ("-",),
     ("",), ("-d",), ("--help=1",), ("--Days", "1"), ("--wish", "12345678901"), ("--number", "1000001"), ("é",),
-    ("--school", "2000000001"), ("--days", "--picker", "last"),
+    ("--school", "2000000001"), ("--days", "--picker", "last"), ("order replay",),
 )
 
 
@@ -49,7 +48,7 @@ def make_tree(folder: Path) -> Path:
         (top / "crates/parcours" / name / "main.rt").write_text("fn main() {}\n")
     (top / "crates.txt").write_text("parcours\n")
     (top / "tools").mkdir()
-    for name in ("help.txt", "version.txt"):
+    for name in ("help.txt", "version.txt", "modes.txt"):
         shutil.copy(TOOLS / name, top / "tools")
     (top / "tools/prove.py").write_text(BUILDER.format(top=top))
     shutil.copy(TOP / "parcours", top)
@@ -166,9 +165,10 @@ def check_words(tally: Tally, script: Path) -> None:
     stand_in = program.rename(program.with_suffix(".stand_in"))
     shutil.copy(binary(), program)
     random = Random(WORDS_SEED)
+    named = [*(words_of(mode, {}, (), random) for mode in MODES.values()), ("explain",)]
     wrong = 0
     for number in range(WORD_LISTS):
-        pieces = [*random.choices(MODES, k=random.choice((1, 1, 1, 1, 0, 2))),
+        pieces = [*random.choices(named, k=random.choice((1, 1, 1, 1, 0, 2))),
                   *random.sample(PIECES, random.randint(0, 2))]
         words = [word for piece in random.sample(pieces, len(pieces)) for word in piece]
         ended = run(script, *words, folder=EXAMPLES / "two-days", environment=environment_of(script))

@@ -92,7 +92,7 @@ def fill(home: Path) -> None:
     shutil.copy(TOP / "parcours", home / "parcours")
     shutil.copy(built_program(), home / "program")
     (home / "tools").mkdir()
-    for name in ("help.txt", "version.txt", "completion.bash", "install", *TOOLS):
+    for name in ("help.txt", "modes.txt", "version.txt", "completion.bash", "install", *TOOLS):
         if (TOP / "tools" / name).exists():
             shutil.copy(TOP / "tools" / name, home / "tools" / name)
     for name in ("dossier", "man"):
