@@ -52,7 +52,7 @@ def topics(program: str) -> dict[str, list[Checks]]:
                  days.check_rights, days.check_killed_while_running, days.check_full_disk],
         "cutting": [partial(cutting.check_two_days, program=program), partial(cutting.check_random, program=program),
                     partial(cutting.check_finds, program=program), partial(cutting.check_written, program=program)],
-        "installing": [installing.check_installed],
+        "installing": [installing.check_installed, installing.check_version],
         "workbooks": [workbooks.check_workbooks],
         "answered": [answered.check_taken, answered.check_faults, partial(answered.check_random, program=program)],
         "tabled": [tabled.check_lycee, partial(tabled.check_queues, program=program), tabled.check_ids_stay],

@@ -1,11 +1,13 @@
 """What is installed runs without a checkout, and is taken away without a trace."""
 
+import hashlib
 import os
 import shutil
 from pathlib import Path
 
 from .harness import EXAMPLES, TOOLS, TOP, Ended, Tally, contents, run, scratch
 from .runs import binary
+from .script import make_tree
 
 TOOL = TOOLS / "install"
 
@@ -53,8 +55,65 @@ def check_tools(tally: Tally, prefix: Path, place: Path) -> None:
         tally.check(" ".join(words), ended.status == 0 and ended.output != b"", ended)
     tally.equal("the slots", (place / "dossier/groups.csv").read_bytes(),
                 (EXAMPLES / "lycee/slots/groups.csv").read_bytes())
-    version = installed(prefix, place, "parcours", "--version").output
-    tally.equal("the version", version, run(TOP / "parcours", "--version").output)
+    lines = installed(prefix, place, "parcours", "--version").output.decode().splitlines()
+    tally.equal("the version", lines[:3], run(TOP / "parcours", "--version").output.decode().splitlines())
+    named = f"program {sum_of(binary())}, which PARCOURS named: its commit and kit are not known"
+    tally.equal("the program", lines[3:], [named])
+
+
+def sum_of(file: str | Path) -> str:
+    return hashlib.sha256(Path(file).read_bytes()).hexdigest()
+
+
+def check_version(tally: Tally) -> None:
+    """What is installed says what it is, whatever becomes of the checkout, and is a program of its sources."""
+    tally.begin("install, what --version says")
+    with scratch() as place:
+        script = checkout(place)
+        tree, prefix, git = script.parent, place / "prefix", ("git", "-c", "user.name=x", "-c", "user.email=x")
+        path = {"PATH": f"{tree / 'bin'}:{os.environ['PATH']}", "PARCOURS": ""}
+
+        def said(*words: str | Path) -> list[str]:
+            return run(*words, folder=place, environment=path).output.decode().splitlines()
+
+        def call() -> Ended:
+            return run(tree / "tools/install", prefix, environment=path)
+
+        for words in (("init", "-q"), ("add", "."), ("commit", "-q", "-m", "One")):
+            run(*git, *words, folder=tree)
+        first = said("git", "-C", tree, "rev-parse", "HEAD")[0]
+        tally.equal("it is installed", (call().status, call().complaint), (0, ""))
+        # (the stand-in for the kit says nothing of itself)
+        expected = [said(script, "--version")[0], f"commit {first}", f"program {sum_of(tree / 'stand_in')}"]
+        (tree / "tools/why").write_text("changed\n")
+        tally.equal("a change in the checkout", said(script, "--version")[1], f"commit {first}, and changes since")
+        run(*git, "commit", "-q", "-a", "-m", "Two", folder=tree)
+        second = said("git", "-C", tree, "rev-parse", "HEAD")[0]
+        tally.equal("another commit of the checkout", said(script, "--version")[1], f"commit {second}")
+        for words in ((prefix / "bin/parcours",), (prefix / "lib/torchpoppy/tools/install",)):
+            tally.equal(f"{words[0].name}: what was installed", [line.replace("install, ", "") for line in
+                                                                said(*words, "--version")], expected)
+        shutil.copytree(tree, tree / "crates/within", ignore=shutil.ignore_patterns(".git", "crates"))
+        tally.equal("within another checkout", said(tree / "crates/within/parcours", "--version")[1], "commit unknown")
+        (tree / "crates/parcours/src/main.rt").write_text("fn main() { }\n")
+        (tree / "tools/prove.py").write_text("raise SystemExit(1)\n")
+        ended = call()
+        is_refused = ended.status == 3 and "no program of these sources" in ended.complaint
+        tally.check("sources that are not proved", is_refused, ended)
+        tally.equal("what was installed is there", said(prefix / "bin/parcours", "--version")[1], f"commit {first}")
+
+
+def checkout(place: Path) -> Path:
+    """A repository with a stand-in for the program and the tools that are installed; answers the script's path."""
+    script = make_tree(place)
+    tree = script.parent
+    for name in ("dossier", "man"):
+        shutil.copytree(TOOLS / name, tree / "tools" / name, ignore=shutil.ignore_patterns("__pycache__"))
+    for name in ("completion.bash", "install", "why"):
+        shutil.copy(TOOLS / name, tree / "tools")
+    shutil.copytree(EXAMPLES / "two-groups", tree / "examples/two-groups")
+    (tree / ".gitignore").write_text("out/\n__pycache__/\nbuilt\n")
+    return script
 
 
 def check_completion(tally: Tally, prefix: Path) -> None:
@@ -63,7 +122,9 @@ def check_completion(tally: Tally, prefix: Path) -> None:
         return
     for words, expected in (("parcours re", "replay"), ("parcours explain --w", "--wish"),
                             ("parcours -C x mar", "market"),
-                            ("parcours replay --picker l", "last"), ("parcours-prepare --r", "--rates")):
+                            ("parcours replay --picker l", "last"), ("parcours order ", ""),
+                            ("parcours check --", "--start --term"), ("parcours sample --n", "--number"),
+                            ("parcours-prepare --r", "--rates")):
         parts = words.split(" ")
         function = "_parcours_tool" if "-" in parts[0] else "_parcours"
         asked = f'. "$1"; shift; COMP_WORDS=("$@"); COMP_CWORD=$(($# - 1)); {function}; echo "${{COMPREPLY[@]}}"'

@@ -1,5 +1,6 @@
 """Installs the program, the script, the tools, their pages and completion below a prefix, and takes them away."""
 
+import hashlib
 import os
 import shutil
 import subprocess
@@ -19,7 +20,7 @@ FOLDERS = "folders"
 TOOLS = ("prepare", "next_day", "take_in", "why", "tables", "in_words", "recheck", "audit_day")
 PAGES = ("README.md", "LISEZMOI.md", "LICENSE", "docs", "examples")
 PREFIX = Path("/usr/local")
-BUILT = TOP / "crates/parcours/out/parcours"
+BUILT = Path("crates/parcours/out/parcours")
 NEVER = shutil.ignore_patterns("__pycache__", ".*")
 
 
@@ -61,20 +62,44 @@ def normal(path: Path) -> Path:
     return Path(os.path.normpath(path.absolute()))
 
 
-def built_program() -> Path:
-    """The program: the one that PARCOURS names, else that of this tree, which the script builds where it must."""
-    named = os.environ.get("PARCOURS")
-    if named:
-        found = Path(program.program())
-    elif (TOP / MARK).exists():
-        found = TOP / "program"
-    else:
-        subprocess.run([TOP / "parcours", "order"], cwd=TOP / "examples/two-groups", stdout=subprocess.DEVNULL,
-                       check=False)
-        found = BUILT
+def names_another() -> bool:
+    """Whether PARCOURS names a program, or a script, that is not this tree's."""
+    return bool(os.environ.get("PARCOURS")) and Path(program.program()).resolve() != TOP / "parcours"
+
+
+def run_by(script: Path) -> Path:
+    """The program that a script `parcours` runs, in a checkout or installed; any other file is a program itself."""
+    place = script.resolve().parent
+    own = place / "program" if (place / MARK).exists() else place / BUILT
+    return own if own.is_file() else script
+
+
+def own_program() -> Path:
+    """The program of this tree. In a checkout the script builds it first where its sources have changed."""
+    if (TOP / MARK).exists():
+        return TOP / "program"
+    ended = subprocess.run([TOP / "parcours", "order"], cwd=TOP / "examples/two-groups", stdout=subprocess.DEVNULL,
+                           check=False)
+    if ended.returncode != program.DONE:
+        raise NotInstalled("there is no program of these sources; call parcours, mend what it says, and call again.")
+    return TOP / BUILT
+
+
+def chosen_program() -> Path:
+    """The program that is installed: the one that PARCOURS names, else that of this tree."""
+    found = run_by(Path(program.program())) if names_another() else own_program()
     if not (found.is_file() and os.access(found, os.X_OK)):
         raise NotInstalled(f"there is no program {found}; build it by calling parcours, and call again.")
     return found
+
+
+def version_of(installed: Path) -> str:
+    """What is installed: the version, commit and kit of this tree, and the sum of the program."""
+    if (TOP / MARK).exists() and not names_another():
+        return (TOP / MARK).read_text()
+    total = hashlib.sha256(installed.read_bytes()).hexdigest()
+    remark = ", which PARCOURS named: its commit and kit are not known" if names_another() else ""
+    return "".join(f"{line}\n" for line in (*program.version().splitlines()[:3], f"program {total}{remark}"))
 
 
 def in_the_way(prefix: Path) -> Path | None:
@@ -90,7 +115,7 @@ def in_the_way(prefix: Path) -> Path | None:
 def fill(home: Path) -> None:
     """Writes all that is installed to a folder."""
     shutil.copy(TOP / "parcours", home / "parcours")
-    shutil.copy(built_program(), home / "program")
+    shutil.copy(chosen_program(), home / "program")
     (home / "tools").mkdir()
     for name in ("help.txt", "modes.txt", "version.txt", "completion.bash", "install", *TOOLS):
         if (TOP / "tools" / name).exists():
@@ -104,8 +129,7 @@ def fill(home: Path) -> None:
             shutil.copytree(pages / name, home / "pages" / name, ignore=NEVER)
         elif (pages / name).exists():
             shutil.copy(pages / name, home / "pages" / name)
-    version = subprocess.run([TOP / "parcours", "--version"], stdout=subprocess.PIPE, check=False).stdout
-    (home / MARK).write_bytes(version)
+    (home / MARK).write_text(version_of(home / "program"))
 
 
 def install(prefix: Path) -> str:
