@@ -60,7 +60,8 @@ def offered(found: OfferedWish, setting: Setting) -> list[str]:
     by = "by its deadline, if there is one" if limit is None else f"by {of_day(limit.day)}"
     lapse = f", {by}: after that it lapses, and is lost" if setting.may_lapse else ""
     return [*told, f"Accept it or refuse it{lapse}.",
-            "If you accept it, your other offers are refused, and your waiting wishes go on waiting."]
+            "If you accept it, your other offers are refused, and so is any wish that you accepted before; your waiting "
+            "wishes go on waiting."]
 
 
 def accepted(found: AcceptedWish, setting: Setting) -> list[str]:
@@ -71,8 +72,8 @@ def accepted(found: AcceptedWish, setting: Setting) -> list[str]:
                 "There is nothing to do: of the wishes that you prefer, those that wait go on waiting, and an offer "
                 "for one of them would take the place of this one.", STILL_REFUSE]
     return [f"Wish {wish} is accepted: the place is yours.", f"It was accepted {moment}.",
-            "There is nothing to do: your waiting wishes go on waiting, and if you accept another offer, this one is "
-            "refused.", STILL_REFUSE]
+            "There is nothing to do: your waiting wishes go on waiting, and if you accept another offer, you give "
+            "this place up.", STILL_REFUSE]
 
 
 def barred(found: BarredWish, setting: Setting) -> list[str]:

@@ -17,12 +17,12 @@ ENDED = {
                          "car vous aviez une proposition que vous préférez.",
     Gone.LAPSED: "Sa proposition est restée sans réponse à l'échéance : elle est devenue caduque {when}.",
 }
-OVER = "Il ne peut pas revenir, et il n'y a plus rien à faire pour lui ; vos autres vœux suivent leur cours."
+OVER = "Il ne peut plus revenir, et vous n'avez rien à faire ; vos autres vœux suivent leur cours."
 OVER_WITH_ALL = "Tous les vœux qui vous restaient ont pris fin en même temps, et il n'y a plus rien à faire."
 WAIT_OR_WITHDRAW = "Vous pouvez le laisser en attente ou le retirer."
 STILL_REFUSE = "Vous pouvez encore refuser cette place, mais un vœu refusé ne revient jamais."
 ANEW = "Chaque passage réexamine votre vœu."
-A_BED_AND_A_SEAT = "un lit pour vous et, si vous n'y en avez pas encore, une place dans la formation"
+A_BED_AND_A_SEAT = "un lit pour vous, et une place dans la formation si vous n'en avez pas déjà une"
 
 
 def of_day(day: Day) -> str:
@@ -65,7 +65,8 @@ def offered(found: OfferedWish, setting: Setting) -> list[str]:
     by = "au plus tard à l'échéance, s'il y en a une" if limit is None else f"{of_day(limit.day)} au plus tard"
     lapse = f", {by} : ensuite, elle devient caduque, et elle est perdue" if setting.may_lapse else ""
     return [*told, f"Acceptez-la ou refusez-la{lapse}.",
-            "Si vous l'acceptez, vos autres propositions sont refusées, et vos vœux en attente restent en attente."]
+            "Si vous l'acceptez, vos autres propositions sont refusées, de même qu'un vœu que vous auriez déjà accepté ; "
+            "vos vœux en attente restent en attente."]
 
 
 def accepted(found: AcceptedWish, setting: Setting) -> list[str]:
@@ -74,10 +75,10 @@ def accepted(found: AcceptedWish, setting: Setting) -> list[str]:
         return [f"Le vœu {wish} est accepté : la place est à vous.",
                 f"Le répondeur automatique l'a accepté pour vous {moment}.",
                 "Il n'y a rien à faire : parmi les vœux que vous préférez, ceux qui attendent restent en attente, et "
-                "une proposition pour l'un d'eux remplacerait celle-ci.", STILL_REFUSE]
+                "une proposition pour l'un d'eux remplacerait cette place.", STILL_REFUSE]
     return [f"Le vœu {wish} est accepté : la place est à vous.", f"Il a été accepté {moment}.",
             "Il n'y a rien à faire : vos vœux en attente le restent, et si vous acceptez une autre proposition, "
-            "celle-ci est refusée.", STILL_REFUSE]
+            "vous perdez cette place.", STILL_REFUSE]
 
 
 def barred(found: BarredWish, setting: Setting) -> list[str]:
