@@ -37,7 +37,7 @@ def topics(program: str) -> dict[str, list[Checks]]:
                    rounds.check_endless, partial(rounds.check_stopped, program=program)],
         "measure": [partial(measuring.check_tables, program=program), partial(measuring.check_found, program=program),
                     measuring.check_words, measuring.check_start, measuring.check_shape],
-        "audit": [auditing.check_audits],
+        "audit": [auditing.check_audits, auditing.check_alone],
         "recheck": [partial(rechecking.check_said, program=program),
                     partial(rechecking.check_worked, program=program),
                     partial(rechecking.check_random, program=program),

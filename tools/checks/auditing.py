@@ -1,6 +1,7 @@
 """Does `audit_day` see? Kept days as `next_day` leaves them pass, and each with one thing changed does not."""
 
 import shutil
+import sys
 from collections.abc import Callable
 from pathlib import Path
 
@@ -88,6 +89,33 @@ def check_audits(tally: Tally) -> None:
                         == (status, True, False), f"status {ended.status}\n{said}")
             shutil.rmtree(place / "changed")
         check_words(tally, place / "campaign", place)
+
+
+def check_alone(tally: Tally) -> None:
+    """`recheck` and `audit_day` need Python, the files and nothing else: neither the program, nor a kit, nor a
+    repository."""
+    tally.begin("recheck and audit_day, with Python alone")
+    with scratch() as place:
+        (place / "tools").mkdir()
+        (place / "bin").mkdir()
+        (place / "bin/python3").symlink_to(sys.executable)
+        for name in ("recheck", "audit_day"):
+            shutil.copy(TOOLS / name, place / "tools")
+        for name in ("two-days", "kept"):
+            shutil.copytree(EXAMPLES / name, place / name)
+
+        def said(*words: str) -> tuple[int, str]:
+            ended = run("/usr/bin/env", "-i", f"PATH={place / 'bin'}", *words, folder=place)
+            return ended.status, ended.output.decode() + ended.complaint
+
+        tally.equal("a report", said("tools/recheck", "two-days", "two-days/replay.txt"),
+                    (0, "as the rules say: 2 days, 38 lines\n"))
+        tally.equal("a chain", said("tools/recheck", "two-days", "two-days/chain.txt"),
+                    (0, "as the rules say: 2 days, 7 lines\n"))
+        for day in ("1", "2"):
+            status, text = said("tools/audit_day", "kept", day)
+            is_told = "report     ok: as the rules say" in text and "chain      not tested: no program is here" in text
+            tally.check(f"a kept day {day}", status == 0 and is_told, text)
 
 
 def check_words(tally: Tally, campaign: Path, place: Path) -> None:
