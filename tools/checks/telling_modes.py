@@ -26,10 +26,11 @@ def check_listed(tally: Tally) -> None:
     for name, written in LISTED.items():
         lines = listed_lines((TOP / name).read_text())
         missing = [mode for mode in MODES if not any(written.format(mode) in f"{line} " for line in lines)]
-        tally.equal(f"{name} has each mode", missing, [])
-    told = WORDS.findall((TOP / "docs/FORMATS.md").read_text())
-    tally.equal("docs/FORMATS.md: their options", {name: set(re.findall(r"--\w+", rest)) for name, rest in told},
-                {name: {*mode.needs, *mode.options} for name, mode in MODES.items()})
+        tally.check(f"{name} lacks {', '.join(missing)}", missing == [])
+    told = dict(WORDS.findall((TOP / "docs/FORMATS.md").read_text()))
+    for name, mode in MODES.items():
+        tally.equal(f"docs/FORMATS.md: the options of {name}", set(re.findall(r"--\w+", told.get(name, ""))),
+                    {*mode.needs, *mode.options})
 
 
 def listed_lines(page: str) -> list[str]:
