@@ -5,6 +5,8 @@ import os
 import shutil
 from pathlib import Path
 
+from dossier.installing import TOOLS as INSTALLED
+
 from .harness import EXAMPLES, TOOLS, TOP, Ended, Tally, contents, run, scratch
 from .runs import binary
 from .script import make_tree
@@ -31,7 +33,8 @@ def check_installed(tally: Tally) -> None:
         check_completion(tally, prefix)
         for page in ("man1/parcours.1", "fr/man1/parcours.1"):
             text = (prefix / "share/man" / page).read_text()
-            tally.check(page, all(f".B {mode}" in text for mode in ("order", "check", "market")), text)
+            missing = [name for name in INSTALLED if f".B parcours-{name}\n" not in text]
+            tally.equal(f"{page}: the tools that it lacks", missing, [])
         ended = run(prefix / "lib/torchpoppy/tools/install", "uninstall")
         tally.equal("it is taken away", (ended.status, ended.complaint), (0, ""))
         left = sorted(str(path.relative_to(prefix)) for path in prefix.rglob("*"))
