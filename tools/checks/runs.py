@@ -13,12 +13,13 @@ from dataclasses import dataclass
 from pathlib import Path
 from typing import BinaryIO
 
+from dossier import slots
 from dossier.program import program
 
 from .harness import EXAMPLES, TOP, scratch
 
 CASES = TOP / "crates/worked_runs/data"
-SLOTS = ("groups", "programmes", "schools", "rankings", "boarding", "wishes", "state", "ceilings", "answers", "chain")
+SLOTS = (*(slot.name for slot in slots.SLOTS), "chain")
 BAD_WORDS = 2
 LONGEST_START = 60.0
 # A busy machine gives a run its seconds of a processor late.

@@ -2,19 +2,10 @@
 
 from collections.abc import Iterator
 
+from dossier.slots import SLOTS
 from dossier.writing import csv_bytes
 
-HEADERS = {
-    "groups": "group,scholar_pct,resident_pct",
-    "programmes": "programme,group,seats",
-    "schools": "school,beds,ceiling",
-    "rankings": "group,candidate,rank,scholar,resident",
-    "boarding": "school,candidate,rank",
-    "wishes": "wish,candidate,programme,school,preference",
-    "state": "wish,status",
-    "ceilings": "day,school,ceiling",
-    "answers": "day,kind,target",
-}
+HEADERS = {slot.name: ",".join(column.name for column in slot.columns if not column.is_optional) for slot in SLOTS}
 GREATEST_CEILING = 2**30
 
 
