@@ -54,8 +54,8 @@ def words() -> Words:
         "and writes the nine slots of a dossier to a new folder. All faults are listed at once, and then nothing is "
         "written.",
         "Status: 0 written, 1 faults, 2 bad words, 3 not read or not written.")
-    parser.add_argument("exports", type=named_folder, help="the folder of the sheets")
-    parser.add_argument("folder", type=named_folder, help="the new folder for the slots")
+    parser.add_argument("exports", metavar="SHEETS", type=named_folder, help="the folder of the sheets")
+    parser.add_argument("folder", type=named_folder, metavar="FOLDER", help="the new folder for the slots")
     parser.add_argument("--dates", type=DateOrder, choices=list(DateOrder), metavar="day-first|month-first",
                         help="how dates such as 02/06/2025 are to be read")
     parser.add_argument("--rates", type=Rates, choices=list(Rates), metavar="percent|fraction",
