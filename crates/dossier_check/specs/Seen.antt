@@ -9,7 +9,7 @@ use Rattle.admit_core.specs.Faults.{first_row}
 use Rattle.admit_core.specs.Lists.{is_among}
 use Rattle.admit_core.specs.Relations.{first_wish_of, last_row, is_accepted, same_candidate, candidate_with}
 use Rattle.dossier_check.specs.declared.noted.FirstWish.{FirstWish}
-use Rattle.dossier_check.specs.declared.wishes.LastCandidate.{LastCandidate}
+use Rattle.dossier_check.specs.declared.preferences.LastCandidate.{LastCandidate}
 
 -- the pairs that boarding rows are found by
 abbrev pub boarded_pairs : Tables → List (ℕ × ℕ)

@@ -20,17 +20,22 @@ other_tests t =
     ∷ preference_taken
     ∷ []
 
--- the same, where that of the same wish and that of the same preference may be left out
+-- those from that of ranks on, where that of the same preference may be left out
+abbrev pub rank_tests_unless : Bool → Tables → List (Test WishRow)
+rank_tests_unless distinct t =
+    unranked t
+    ∷ no_boarding_rank t
+    ∷ preference_mixed
+    ∷ (λ before row. if distinct then None else preference_taken before row)
+    ∷ []
+
+-- those but that of ids, where that of the same wish may be left out too
 abbrev pub others_unless : Bool → Bool → Tables → List (Test WishRow)
 others_unless apart distinct t =
     (λ before row. if apart then None else repeats same_wish before row)
     ∷ names_unknown 3 (λ row. is_among row.programme (programme_ids t))
     ∷ names_unknown 4 (λ row. option_map_or (λ h. is_among h (school_ids t)) row.school true)
-    ∷ unranked t
-    ∷ no_boarding_rank t
-    ∷ preference_mixed
-    ∷ (λ before row. if distinct then None else preference_taken before row)
-    ∷ []
+    ∷ rank_tests_unless distinct t
 
 -- whether an earlier row has the same id
 abbrev pub id_repeats : Test WishRow

@@ -17,6 +17,7 @@ mod made;
 mod noted;
 mod ordered;
 mod placed;
+mod preferences;
 mod preferred;
 mod ranks;
 mod relations;
@@ -28,6 +29,7 @@ mod slots;
 mod state;
 mod statuses;
 mod who_is_ranked;
+mod wish_ranks;
 mod wished;
 mod wishes;
 

@@ -3,7 +3,7 @@ use Rattle.std.specs.List.{list_any}
 use Rattle.admit_core.proofs.Plain.{any-map}
 use Rattle.admit_core.specs.Relations.{is_boarded}
 use Rattle.dossier_check.specs.Pairs.{pair_eq}
-use Rattle.dossier_check.proofs.wishes.NoBoardingRankRowTestWishRow.stands.Goals as goal
+use Rattle.dossier_check.proofs.wish_ranks.NoBoardingRankRowTestWishRow.stands.Goals as goal
 
 pub returns-then-not-contains-clause-reason : goal.returns-then-not-contains-clause-reason
 returns-then-not-contains-clause-reason c before seen =

@@ -3,7 +3,7 @@ use Rattle.admit_core.proofs.Plain.{nat_eq_sym}
 use Rattle.indexmap.specs.IndexMap.{get}
 use Rattle.dossier_check.proofs.FirstRows.{first_noted, first_noted-push, firsts-kept, firsts-noted}
 use Rattle.dossier_check.proofs.Places.{nat_eq_sound}
-use Rattle.dossier_check.proofs.wishes.PreferenceMixedRowTestWishRow.stands.Goals as goal
+use Rattle.dossier_check.proofs.preferences.PreferenceMixedRowTestWishRow.stands.Goals as goal
 
 pub returns-in_default-clause-seen : goal.returns-in_default-clause-seen
 returns-in_default-clause-seen c before (seen, last) numbered none =

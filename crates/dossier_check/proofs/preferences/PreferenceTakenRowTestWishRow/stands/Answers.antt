@@ -5,7 +5,7 @@ use Rattle.admit_core.specs.Faults.{first_row}
 use Rattle.dossier_check.specs.Seen.{has_preference}
 use Rattle.dossier_check.specs.Pairs.{pair_eq}
 use Rattle.dossier_check.proofs.FirstRows.{first_row-push, firsts-noted, same_preference, pair_eq_sound, pair_eq-sym}
-use Rattle.dossier_check.proofs.wishes.PreferenceTakenRowTestWishRow.stands.Goals as goal
+use Rattle.dossier_check.proofs.preferences.PreferenceTakenRowTestWishRow.stands.Goals as goal
 
 pub returns-in-Some-clause-reason : goal.returns-in-Some-clause-reason
 returns-in-Some-clause-reason c before seen =

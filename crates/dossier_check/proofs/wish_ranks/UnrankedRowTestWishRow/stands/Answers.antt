@@ -1,6 +1,6 @@
 use Rattle.std.proofs.Common.{◌≡◌, true, false, nat_eq, map, find, option_map, Some, refl, sym, ap, ◌∙◌}
 use Rattle.admit_core.specs.Relations.{is_in_group}
-use Rattle.dossier_check.proofs.wishes.UnrankedRowTestWishRow.stands.Goals as goal
+use Rattle.dossier_check.proofs.wish_ranks.UnrankedRowTestWishRow.stands.Goals as goal
 
 pub returns-then-has-clause-reason : goal.returns-then-has-clause-reason
 returns-then-has-clause-reason c before seen =

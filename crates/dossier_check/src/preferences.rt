@@ -1,0 +1,183 @@
+//! The tests of the preferences of a candidate's wishes.
+ghost use Rattle.std.specs.Prelude.{◌≡◌, [], nat_eq, IfOk};
+ghost use Rattle.indexmap.specs.IndexMap.{get};
+ghost use Rattle.dossier_check.specs.Pairs.{pair_eq};
+ghost use Rattle.dossier_check.specs.Seen.{has_preference, AreFirstRows, AreFirstWishes, IsLastCandidate};
+
+use crate::apart::Apart;
+use crate::noted::{FirstWish, note_first};
+use crate::row_tests::{NoTest, RowTest, Then, Unless};
+use admit_core::{OutOfMemory, Reason, WishRow};
+use indexmap::IndexMap;
+use keyed_hash::Keyed;
+use std::alloc::Global;
+
+/// A candidate, with their first wish.
+#[derive(Clone, Copy)]
+pub(crate) struct LastCandidate {
+    pub(crate) candidate: u32,
+    pub(crate) first: FirstWish,
+}
+
+/// Of this wish and the candidate's first one, one has a preference and the other has none.
+pub(crate) struct PreferenceMixed {
+    pub(crate) firsts: IndexMap<u32, FirstWish, Keyed>,
+    /// The candidate of the row before: a candidate's wishes mostly stand together.
+    pub(crate) last: Option<LastCandidate>,
+}
+
+// Not derived: so it is dropped in one step where it is held, and not by each list of the map.
+impl Drop for PreferenceMixed {
+    fn drop(self) {
+        let PreferenceMixed { firsts: _, last: _ } = self;
+    }
+}
+
+impl PreferenceMixed {
+    ghost use Rattle.std.specs.Prelude.{ℕ, if◌then◌else◌, IsSome, IfSome, None, Some};
+    ghost use Rattle.dossier_check.specs.Seen.{IsLastCandidate};
+
+    /// The first wish of a candidate who is that of the row before.
+    fn first_of_last(&self, candidate: u32) -> Option<FirstWish>
+        ensures { IsLastCandidate (get nat_eq self.now.firsts) self.now.last →
+            IfSome result (λ first. get nat_eq self.now.firsts candidate ≡ Some first) }
+    {
+        match self.last {
+            Some(last) if last.candidate == candidate => Some(last.first),
+            _ => None,
+        }
+    }
+
+    /// Notes a wish of a candidate, unless they had one before; then answers that one.
+    fn note(&mut self, candidate: u32, own: FirstWish) -> Result<Option<FirstWish>, OutOfMemory>
+        ensures first { IsLastCandidate (get nat_eq self.old.firsts) self.old.last →
+            IfOk result (λ first. first ≡ get nat_eq self.old.firsts candidate) }
+        ensures kept { IfOk result (λ first. IsSome first →
+            (k : ℕ) → get nat_eq self.new.firsts k ≡ get nat_eq self.old.firsts k) }
+        ensures noted { IfOk result (λ first. first ≡ None → (k : ℕ) →
+            get nat_eq self.new.firsts k ≡
+            (if nat_eq candidate k then Some own else get nat_eq self.old.firsts k)) }
+        ensures last { IsLastCandidate (get nat_eq self.old.firsts) self.old.last →
+            IfOk result (λ first. IsLastCandidate (get nat_eq self.new.firsts) self.new.last) }
+    {
+        if let Some(first) = self.first_of_last(candidate) {
+            return Ok(Some(first));
+        }
+        let first = note_first(&mut self.firsts, candidate, own)?;
+        self.last = Some(LastCandidate {
+            candidate,
+            first: first.unwrap_or(own),
+        });
+        Ok(first)
+    }
+
+    /// The candidates' first wishes.
+    fn into_firsts(self) -> IndexMap<u32, FirstWish, Keyed>
+        ensures { result ≡ self.firsts }
+    {
+        let PreferenceMixed { firsts, last: _ } = self;
+        firsts
+    }
+}
+
+impl RowTest<WishRow> for PreferenceMixed {
+    ghost use Rattle.std.specs.Prelude.{nat_eq};
+    ghost use Rattle.indexmap.specs.IndexMap.{get};
+    ghost use Rattle.admit_core.specs.Relations.{preference_mixed};
+    ghost use Rattle.dossier_check.specs.Seen.{AreFirstWishes, IsLastCandidate};
+
+    ghost test = { λ c. preference_mixed };
+
+    ghost has_seen = { λ c before. AreFirstWishes (get nat_eq c.firsts) before
+        × IsLastCandidate (get nat_eq c.firsts) c.last };
+
+    ghost takes_memory = { Unit {0} };
+
+    fn stands(&mut self, row: &WishRow, number: u64) -> Result<Option<Reason>, OutOfMemory> {
+        let own = FirstWish {
+            row: number,
+            preference: row.preference,
+        };
+        match self.note(row.candidate, own)? {
+            Some(first) if (first.preference == 0) != (row.preference == 0) => {
+                Ok(Some(Reason::PreferenceMixed(first.row)))
+            }
+            _ => Ok(None),
+        }
+    }
+}
+
+/// An earlier wish of the candidate has the same positive preference.
+pub(crate) struct PreferenceTaken {
+    pub(crate) rows: IndexMap<(u32, u32), u64, Keyed>,
+}
+
+// Not derived, as above.
+impl Drop for PreferenceTaken {
+    fn drop(self) {
+        let PreferenceTaken { rows: _ } = self;
+    }
+}
+
+impl RowTest<WishRow> for PreferenceTaken {
+    ghost use Rattle.indexmap.specs.IndexMap.{get};
+    ghost use Rattle.admit_core.specs.Relations.{preference_taken};
+    ghost use Rattle.dossier_check.specs.Pairs.{pair_eq};
+    ghost use Rattle.dossier_check.specs.Seen.{AreFirstRows, has_preference};
+
+    ghost test = { λ c. preference_taken };
+
+    ghost has_seen = { λ c before. AreFirstRows has_preference (get pair_eq c.rows) before };
+
+    ghost takes_memory = { Unit {0} };
+
+    fn stands(&mut self, row: &WishRow, number: u64) -> Result<Option<Reason>, OutOfMemory> {
+        if row.preference == 0 {
+            return Ok(None);
+        }
+        match note_first(&mut self.rows, (row.candidate, row.preference), number)? {
+            Some(first) => Ok(Some(Reason::PreferenceTaken(first))),
+            None => Ok(None),
+        }
+    }
+}
+
+/// The tests of preferences.
+pub(crate) type PreferenceTests = Then<PreferenceMixed, Then<Unless<PreferenceTaken>, NoTest>>;
+
+/// The tests of preferences, before the first row.
+pub(crate) fn preference_tests(
+    alloc: Global,
+    keyed: Keyed,
+    by_wish: Keyed,
+    apart: Apart,
+) -> PreferenceTests
+    ensures firsts { AreFirstWishes (get nat_eq result.first.firsts) [] }
+    ensures last { IsLastCandidate (get nat_eq result.first.firsts) result.first.last }
+    ensures known { result.rest.first.is_known ≡ apart.preferences }
+    ensures rows { AreFirstRows has_preference (get pair_eq result.rest.first.test.rows) [] }
+{
+    Then {
+        first: PreferenceMixed {
+            firsts: IndexMap::with_hasher(alloc, keyed),
+            last: None,
+        },
+        rest: Then {
+            first: Unless {
+                is_known: apart.preferences,
+                test: PreferenceTaken {
+                    rows: IndexMap::with_hasher(alloc, by_wish),
+                },
+            },
+            rest: NoTest,
+        },
+    }
+}
+
+/// What the tests of preferences keep of the candidates.
+pub(crate) fn firsts_in(tests: PreferenceTests) -> IndexMap<u32, FirstWish, Keyed>
+    ensures { result ≡ tests.first.firsts }
+{
+    let Then { first, rest: _ } = tests;
+    first.into_firsts()
+}
