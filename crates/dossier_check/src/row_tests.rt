@@ -65,6 +65,8 @@ impl<R, A: RowTest<R>, B: RowChecks<R>> RowChecks<R> for Then<A, B> {
 
     ghost takes_memory = { A.takes_memory ⊎ B.takes_memory };
 
+    // Else LLVM leaves calls between the tests of a row, since they are called from several scans.
+    #[inline(always)]
     fn next(&mut self, row: &R, number: u64) -> Result<Option<Reason>, OutOfMemory> {
         if let Some(reason) = self.first.stands(row, number)? {
             return Ok(Some(reason));
