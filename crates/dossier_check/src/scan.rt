@@ -37,7 +37,7 @@ pub(crate) fn scan<R, C: RowChecks<R>>(
     requires fresh { C.has_seen checks.old [] }
     ensures fault { AnswersFault result (first_in slot (C.tests checks.old) rows.now) }
     ensures seen { OnOk result (C.has_seen checks.new rows.now) }
-    ensures memory { MayLack C.takes_memory result }
+    ensures memory { MayLack ((0 < length rows.now) × C.takes_memory) result }
 {
     for (place, row) in rows.iter().enumerate() {
         let number = place as u64 + 2;
@@ -63,7 +63,7 @@ pub(crate) fn scanned<R, C: RowChecks<R> + Drop>(
     requires fresh { C.has_seen checks [] }
     ensures fault { AnswersFault result (first_in slot (C.tests checks) rows.now) }
     ensures seen { IfOk result (λ seen. C.has_seen seen rows.now) }
-    ensures memory { MayLack C.takes_memory result }
+    ensures memory { MayLack ((0 < length rows.now) × C.takes_memory) result }
 {
     scan(slot, &mut checks, rows)?;
     Ok(checks)

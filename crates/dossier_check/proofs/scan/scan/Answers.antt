@@ -1,4 +1,4 @@
-use Rattle.std.proofs.Common.{◌≡◌, ◌+◌, take, get_or, sym, ap, ◌∙◌, arith, Some, None}
+use Rattle.std.proofs.Common.{◌≡◌, ◌+◌, ◌<◌, length, take, get_or, sym, ap, ◌∙◌, arith, Some, None}
 use Rattle.std.proofs.lemmas.List.{take_more, length-take-le}
 use Rattle.admit_core.specs.Faults.{first_reason}
 use Rattle.dossier_check.proofs.Scans.{found, passed, ended}
@@ -6,7 +6,9 @@ use Rattle.dossier_check.proofs.Outcomes.{may_lack}
 use Rattle.dossier_check.proofs.scan.scan.Goals as goal
 
 pub returns-in_err-reason-clause-memory : goal.returns-in_err-reason-clause-memory
-returns-in_err-reason-clause-memory g c = may_lack _ c.in_err-reason.ensures.memory
+returns-in_err-reason-clause-memory g c =
+    let some : 0 < length c.args.rows.now = omega (arith, c.loop-place-test.true) in
+    may_lack {T = (0 < length c.args.rows.now) × g.C.RowChecks.takes_memory} _ (some, c.in_err-reason.ensures.memory)
 
 pub returns-in-Some-clause-fault : goal.returns-in-Some-clause-fault
 returns-in-Some-clause-fault g c =
