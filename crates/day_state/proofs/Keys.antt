@@ -1,9 +1,9 @@
 -- Places sorted by a key of each, its candidate and behind it the place: they are an index by candidate.
 use Rattle.std.proofs.Common.{ℕ, zero, suc, ◌+◌, ◌≤◌, ◌<◌, ◌≡◌, Bool, false, ◌&&◌, ◌^◌, List, [], ◌∷◌, length, map}
-use Rattle.std.proofs.Common.{get_or, inl, inr, sym, ◌∙◌, ap, arith, filter, subst, nat_eq, eqb}
+use Rattle.std.proofs.Common.{None, refl, get_or, inl, inr, sym, ◌∙◌, ap, arith, filter, subst, nat_eq, eqb}
 use Rattle.std.specs.Prelude.{◌==◌, All}
 use Rattle.std.specs.List.{AllByRecursion, IsDistinct, range_with_len}
-use Rattle.std.specs.List.Sorted.{IsNonDecreasing, IsPermutation, IsSorted}
+use Rattle.std.specs.List.Sorted.{IsNonDecreasing, IsNonDecreasingBy, IsPermutation, IsSorted}
 use Rattle.std.specs.Ordering.{nat_cmp}
 use Rattle.std.proofs.lemmas.Bool.{cases_Bool, eqb-true, eqb-false}
 use Rattle.std.proofs.lemmas.Bool.Decides.{Decides-eqb}
@@ -17,11 +17,13 @@ use Rattle.std.proofs.lemmas.List.Sorted.{IsNonDecreasingBy-from_sort, list_any-
 use Rattle.std.proofs.lemmas.Map.Keys.{IsDistinct-head, IsDistinct-tail, IsDistinct-IsPermutation}
 use Rattle.std.proofs.lemmas.Map.Made.{IsDistinct-from_AllPairs}
 use Rattle.std.proofs.lemmas.Nat.{mod-mul-add}
+use Rattle.std.proofs.lemmas.Option.{unwrap_or-slice_get}
 use Rattle.admit_core.proofs.Plain.{any-filter, nat_eq_sym}
 use Rattle.admit_core.proofs.Tests.{Ascends, same_members}
 use Rattle.admit_core.specs.declared.dossier.Wish.{Wish}
 use Rattle.day_state.specs.Kept.{candidate_in, key_at, place_in, all_keys, IsIndex}
-use Rattle.day_state.proofs.Numbering.{below_all}
+use Rattle.day_state.proofs.Numbering.{below_all, range_at}
+use Rattle.day_state.proofs.Places.{candidate_in as candidate_there}
 
 -- numbers that do not fall and differ rise
 rises_above : (x : ℕ) (xs : List ℕ) → ((k : ℕ) → k < length xs → x ≤ get_or xs k 0)
@@ -139,3 +141,20 @@ module _ (ws : List Wish) (few : length ws < 2 ^ 32) where
             (λ j. p j && nat_eq k j) places order shuffled)
             ∙ sym (any-filter (nat_eq k) p places));
       }
+
+-- where candidates rise, the places of the wishes are an index as they are
+pub index_in_place : (ws : List Wish) → IsNonDecreasingBy (λ w. w.candidate) ws
+    → IsIndex ws (range_with_len 0 (length ws))
+index_in_place ws up =
+    let n = length ws in
+    let nobody : Wish =
+    record { id = 0; candidate = 0; programme = 0; school = None; board_rank = 0; preference = 0 } in
+    let own = λ (k : ℕ). candidate_there ws k ∙ ap (λ (w : Wish). w.candidate) (unwrap_or-slice_get ws k nobody) in
+    record {
+      as_long = length-range_with_len 0 n;
+      within = below_all n;
+      rises = λ i j d le lt.
+          let j_in : j < n = omega (arith, lt, length-range_with_len 0 n) in
+          rw (range_at n i d (omega (arith, le, j_in)), range_at n j d j_in, own i, own j) (up i j nobody le j_in);
+      own = λ c. refl;
+    }

@@ -1,5 +1,6 @@
 //! An index from a candidate to their own wishes.
 ghost use Rattle.std.specs.Prelude.{◌≡◌, ◌<◌, ◌≤◌, ◌^◌, length, map, IfOk, All, nat_lt, nat_le, true, false};
+ghost use Rattle.std.specs.List.{range_with_len};
 ghost use Rattle.std.specs.List.Sorted.{IsNonDecreasingBy, IsPartitionPoint};
 ghost use Rattle.admit_core.specs.DossierRows.{DossierRows, candidate_of};
 ghost use Rattle.admit_core.specs.OwnWishes.{own_places};
@@ -113,12 +114,33 @@ fn places_in(alloc: Global, keys: &[u64]) -> Result<Vec<u32>, OutOfMemory>
     Ok(keys.iter().map(|key| place_in(*key)).collect(alloc)?)
 }
 
-/// The places of wishes in order by candidate, those of one candidate ascending. What is sorted is
-/// a key of each wish, so that no comparison reads a row.
+/// Whether no wish's candidate has a lesser id than that of the wish before it.
+fn candidates_rise(wishes: &[Wish]) -> bool
+    ensures { result ≡ true → IsNonDecreasingBy (λ w. w.candidate) wishes.now }
+{
+    wishes.is_sorted_by(|one, next| one.candidate <= next.candidate)
+}
+
+/// The first places, ascending.
+fn first_places(alloc: Global, count: u32) -> Result<Vec<u32>, OutOfMemory>
+    ensures { IfOk result (λ v. v.items ≡ range_with_len 0 count) }
+{
+    let mut places = Vec::with_capacity(alloc, count as usize)?;
+    for place in 0..count {
+        places.push(place)?;
+    }
+    Ok(places)
+}
+
+/// The places of wishes in order by candidate, those of one candidate ascending. Where candidates
+/// don't rise, what is sorted is a key of each wish, so that no comparison reads a row.
 fn order_of(alloc: Global, wishes: &[Wish]) -> Result<Vec<u32>, OutOfMemory>
     requires { length wishes.now < 2 ^ 32 }
     ensures { IfOk result (λ v. IsIndex wishes.now v.items) }
 {
+    if candidates_rise(wishes) {
+        return first_places(alloc, wishes.len() as u32);
+    }
     let mut keys = keys_of(alloc, wishes)?;
     keys.sort_unstable();
     places_in(alloc, keys.as_slice())
