@@ -21,7 +21,7 @@ use Rattle.day_state.specs.declared.bundles.Sites.{Sites}
 use Rattle.day_state.specs.declared.bundles.Sites.TheVariants.{Programmes, Schools}
 use Rattle.day_state.specs.Kept.{candidate_in, wish_in, IsIndex}
 use Rattle.day_state.specs.Bundles.{site_of, is_same, together, number_in, joined, bundle_there, noted, bundle_of}
-use Rattle.day_state.specs.Bundles.{bundles_of, AreSitesBelow, AreWithin}
+use Rattle.day_state.specs.Bundles.{bundles_of, noted_candidate, AreSitesBelow, AreTheirs, AreWithin}
 use Rattle.day_state.proofs.Places.{candidate_in as candidate_there}
 use Rattle.day_state.proofs.Along.{among-filter}
 
@@ -275,35 +275,81 @@ walked_more sites ws order count last numbers new_last new_numbers i o index lt 
     rw (last_is, numbers_is, site)
     (more_walked sites ws order count last numbers i index lt (below x (index.within i 0 lt)) walk)
 
-last_within : (sites : Sites) (ws : List Wish) (order : List ℕ) (i h : ℕ) (found : Option ℕ) → IsIndex ws order
-    → LastAt sites ws order i h found → ForSome found (λ b. b < length ws)
-last_within sites ws order i h None index last b e = absurd (cc)
-last_within sites ws order i h (Some f) index last b e =
-    let same : f ≡ b = (cc) in
-    rw (← same) (find_within (λ x. together sites (wish_in ws (slice_index order last.at)) (wish_in ws x)) order
-    (length ws) f index.within last.first)
-
 -- what the next step asks
-pub record CanWalkOn (ws : List Wish) (last numbers : List (Option ℕ)) (o : Option ℕ) (x : ℕ) : Type 0 where
-  pub place : x < length ws
+pub record CanWalkOn (last numbers : List (Option ℕ)) (o : Option ℕ) (x : ℕ) : Type 0 where
   pub first : x < length numbers
   pub site : ForSome o (λ h. h < length last)
-  pub found : ForSome o (λ h. ForSome (number_in last h) (λ b. b < length ws))
 
 pub can_walk_on : (sites : Sites) (ws : List Wish) (order : List ℕ) (count : ℕ) (last numbers : List (Option ℕ))
     (i : ℕ) (o : Option ℕ) → IsIndex ws order → i < length order → AreSitesBelow sites ws count
     → let x = slice_index order i in
-    o ≡ site_of sites (wish_in ws x) → IsWalked sites ws order count last numbers i → CanWalkOn ws last numbers o x
+    o ≡ site_of sites (wish_in ws x) → IsWalked sites ws order count last numbers i → CanWalkOn last numbers o x
 can_walk_on sites ws order count last numbers i o index lt below site walk =
     let x = slice_index order i in
     let x_in : x < length ws = index.within i 0 lt in
     record {
-      place = x_in;
       first = omega (arith, x_in, walk.long);
       site = λ h e. omega (arith, below x x_in h (sym site ∙ e), walk.sites_long);
-      found = λ h e. last_within sites ws order i h (number_in last h) index
-          (walk.last_at h (below x x_in h (sym site ∙ e)));
     }
+
+-- a wish and the first one of its bundle are of one candidate
+joined_candidate : (ws : List Wish) (found : Option ℕ) (place : ℕ)
+    → (wish_in ws (joined ws found place)).candidate ≡ (wish_in ws place).candidate
+joined_candidate ws None place = refl
+joined_candidate ws (Some f) place =
+    elim (cases_Bool ((wish_in ws f).candidate == (wish_in ws place).candidate)) [
+      | inl mine ↦ rw mine (eqb-true (wish_in ws f).candidate (wish_in ws place).candidate mine)
+      | inr other ↦ rw other refl
+    ]
+
+theirs_none : (ws : List Wish) (count : ℕ) → AreTheirs ws (replicate count None) (replicate count 0)
+theirs_none ws count = record {
+  long = length-replicate count 0 ∙ sym (length-replicate count None);
+  each = λ h lt b e.
+      let nobody : Option ℕ = None in
+      let none = number_none count h (omega (arith, lt, length-replicate count nobody)) in
+      let wrong : None ≡ Some b = sym none ∙ e in
+      absurd (cc);
+}
+
+theirs_noted : (ws : List Wish) (last : List (Option ℕ)) (candidates : List ℕ) (o : Option ℕ) (place candidate : ℕ)
+    → (wish_in ws place).candidate ≡ candidate → ForSome o (λ h. h < length last) → AreTheirs ws last candidates
+    → AreTheirs ws (noted last o (bundle_there ws last o place)) (noted_candidate candidates o candidate)
+theirs_noted ws last candidates None place candidate own within are = are
+theirs_noted ws last candidates (Some g) place candidate own within are =
+    let b = joined ws (number_in last g) place in
+    let g_in : g < length last = within g refl in
+    record {
+      long = length-set candidates g candidate ∙ are.long ∙ sym (length-set last g (Some b));
+      each = λ h lt f e. elim (cases_eq h g) [
+        | inl same ↦
+            let here : number_in (set last g (Some b)) h ≡ Some b = rw same (number_set_same last g (Some b) g_in) in
+            let both : Some b ≡ Some f = sym here ∙ e in
+            let is : b ≡ f = cc both in
+            let now : slice_index (set candidates g candidate) h ≡ candidate =
+            rw same (get_or-set_same candidates g candidate 0 (omega (arith, g_in, are.long))) in
+            now ∙ sym own ∙ sym (joined_candidate ws (number_in last g) place)
+            ∙ ap (λ (k : ℕ). (wish_in ws k).candidate) is
+        | inr other ↦
+            get_or-set_other candidates g h candidate 0 other
+            ∙ are.each h (omega (arith, lt, length-set last g (Some b))) f
+            (sym (number_set_other last g h (Some b) other) ∙ e)
+      ];
+    }
+
+-- what came last to each site is known of its candidate, before the first wish
+pub theirs_begin : (ws : List Wish) (count : ℕ) (last : List (Option ℕ)) (candidates : List ℕ)
+    → last ≡ replicate count None → candidates ≡ replicate count 0 → AreTheirs ws last candidates
+theirs_begin ws count last candidates last_is candidates_are = rw (last_is, candidates_are) (theirs_none ws count)
+
+-- and after one more
+pub theirs_more : (ws : List Wish) (last : List (Option ℕ)) (candidates : List ℕ) (new_last : List (Option ℕ))
+    (new_candidates : List ℕ) (o : Option ℕ) (place candidate : ℕ)
+    → (wish_in ws place).candidate ≡ candidate → ForSome o (λ h. h < length last) → AreTheirs ws last candidates
+    → new_last ≡ noted last o (bundle_there ws last o place)
+    → new_candidates ≡ noted_candidate candidates o candidate → AreTheirs ws new_last new_candidates
+theirs_more ws last candidates new_last new_candidates o place candidate own within are last_is candidates_are =
+    rw (last_is, candidates_are) (theirs_noted ws last candidates o place candidate own within are)
 
 -- the walk by programme and by school
 pub record AreWalked (ws : List Wish) (order : List ℕ) (programmes schools : ℕ)

@@ -155,6 +155,17 @@ abbrev pub noted : List (Option ℕ) → Option ℕ → Option ℕ → List (Opt
 noted last None number = last
 noted last (Some site) number = slice_set last site number
 
+-- the candidates who came last to each site, after one more
+abbrev pub noted_candidate : List ℕ → Option ℕ → ℕ → List ℕ
+noted_candidate last None candidate = last
+noted_candidate last (Some site) candidate = slice_set last site candidate
+
+-- the candidates of the wishes that came last to each site
+pub record AreTheirs (ws : List Wish) (last : List (Option ℕ)) (candidates : List ℕ) : Type 0 where
+  pub long : length candidates ≡ length last
+  pub each : (h : ℕ) → h < length last
+      → ForSome (number_in last h) (λ b. slice_index candidates h ≡ (wish_in ws b).candidate)
+
 -- the flags once the wish at k is known to belong to a bundle
 abbrev pub with_later : List Bool → Option ℕ → ℕ → List Bool
 with_later flags None k = flags

@@ -1,12 +1,14 @@
 //! The walks that number the bundles of a dossier's wishes.
-ghost use Rattle.std.specs.Prelude.{◌≡◌, ℕ, ◌<◌, ◌^◌, map, length, slice_set, IfOk, replicate, false, None};
+ghost use Rattle.std.specs.Prelude.{◌≡◌, ℕ, ◌<◌, ◌^◌, List, map, length, slice_set, IfOk, replicate, false, None};
+ghost use Rattle.admit_core.specs.declared.dossier.Wish.{Wish};
 ghost use Rattle.std.specs.Option.{ForSome};
 ghost use Rattle.day_state.specs.declared.bundles.Sites.TheVariants.{Programmes, Schools};
-ghost use Rattle.day_state.specs.Bundles.{site_of, number_in, AreSitesBelow, bundles_of, joined, bundle_there, noted, shared_flags, with_later, AreWithin, all_ranks, flag_in, number_of, numbered};
-ghost use Rattle.day_state.specs.Kept.{IsIndex};
+ghost use Rattle.day_state.specs.Bundles.{site_of, number_in, AreSitesBelow, AreTheirs, bundles_of, joined, bundle_there, noted, noted_candidate, shared_flags, with_later, AreWithin, all_ranks, flag_in, number_of, numbered};
+ghost use Rattle.day_state.specs.Kept.{IsIndex, wish_in};
 
+use crate::ahead::Ahead;
 use crate::bundles::Sites;
-use crate::mark::{counted, wish_at};
+use crate::mark::counted;
 use crate::numbers::{Number, Numbers};
 use admit_core::{OutOfMemory, Wish};
 use std::alloc::Global;
@@ -28,6 +30,25 @@ pub struct Firsts {
     pub schools: Vec<Option<u32>>,
 }
 
+/// What came last to each site on a walk: its bundle, and the bundle's candidate. So the walk reads
+/// no row but that of the wish at hand.
+#[derive(Drop)]
+struct Last {
+    firsts: Vec<Option<u32>>,
+    candidates: Vec<u32>,
+}
+
+/// Nothing came to so many sites.
+fn none_came(alloc: Global, sites: usize) -> Result<Last, OutOfMemory>
+    ensures firsts { IfOk result (λ l. l.firsts.items ≡ replicate sites None) }
+    ensures candidates { IfOk result (λ l. l.candidates.items ≡ replicate sites 0) }
+{
+    Ok(Last {
+        firsts: no_numbers(alloc, sites)?,
+        candidates: vec![in alloc; 0; sites]?,
+    })
+}
+
 /// The first wish of each wish's bundle, which is the first one in an order by candidate. Most of
 /// the time goes into reading the rows in that order, so one walk finds both kinds.
 pub fn firsts_of(
@@ -43,22 +64,29 @@ pub fn firsts_of(
     ensures programmes { IfOk result (λ f. f.programmes.items ≡ bundles_of Programmes wishes.now) }
     ensures schools { IfOk result (λ f. f.schools.items ≡ bundles_of Schools wishes.now) }
 {
-    let mut last_programmes = no_numbers(alloc, programmes)?;
+    let mut last_programmes = none_came(alloc, programmes)?;
     let mut in_programmes = no_numbers(alloc, wishes.len())?;
-    let mut last_schools = no_numbers(alloc, schools)?;
+    let mut last_schools = none_came(alloc, schools)?;
     let mut in_schools = no_numbers(alloc, wishes.len())?;
+    let mut ahead = Ahead::along(alloc, wishes, order)?;
     for place in order {
-        let wish = wish_at(wishes, *place);
+        let wish = ahead.next(*place)?;
         let programme = site_of(Sites::Programmes, wish);
         walk_on(
-            wishes,
             &mut last_programmes,
             &mut in_programmes,
             programme,
             *place,
+            wish.candidate,
         );
         let school = site_of(Sites::Schools, wish);
-        walk_on(wishes, &mut last_schools, &mut in_schools, school, *place);
+        walk_on(
+            &mut last_schools,
+            &mut in_schools,
+            school,
+            *place,
+            wish.candidate,
+        );
     }
     Ok(Firsts {
         programmes: in_programmes,
@@ -68,24 +96,26 @@ pub fn firsts_of(
 
 /// Notes the first wish of the bundle of the wish that comes next in the order.
 fn walk_on(
-    wishes: &[Wish],
-    last: &mut Vec<Option<u32>>,
+    last: &mut Last,
     firsts: &mut Vec<Option<u32>>,
     site: Option<u32>,
     place: u32,
+    candidate: u32,
 )
-    requires place { place < length wishes.now }
     requires first { place < length firsts.old.items }
-    requires site { ForSome site (λ h. h < length last.old.items) }
-    requires found { ForSome site
-        (λ h. ForSome (number_in last.old.items h) (λ b. b < length wishes.now)) }
-    ensures last { last.new.items ≡ noted last.old.items site
-        (bundle_there wishes.now last.old.items site place) }
-    ensures firsts { firsts.new.items ≡ slice_set firsts.old.items place
-        (bundle_there wishes.now last.old.items site place) }
+    requires site { ForSome site (λ h. h < length last.old.firsts.items) }
+    requires long { length last.old.candidates.items ≡ length last.old.firsts.items }
+    ensures last { (ws : List Wish) → AreTheirs ws last.old.firsts.items last.old.candidates.items
+        → (wish_in ws place).candidate ≡ candidate → last.new.firsts.items
+        ≡ noted last.old.firsts.items site (bundle_there ws last.old.firsts.items site place) }
+    ensures candidates { last.new.candidates.items
+        ≡ noted_candidate last.old.candidates.items site candidate }
+    ensures firsts { (ws : List Wish) → AreTheirs ws last.old.firsts.items last.old.candidates.items
+        → (wish_in ws place).candidate ≡ candidate → firsts.new.items
+        ≡ slice_set firsts.old.items place (bundle_there ws last.old.firsts.items site place) }
 {
-    let first = bundle_there(wishes, last.as_slice(), site, place);
-    note(last, site, first);
+    let first = bundle_there(last, site, place, candidate);
+    note(last, site, first, candidate);
     set_first(firsts, place, first);
 }
 
@@ -109,42 +139,45 @@ fn no_numbers(alloc: Global, count: usize) -> Result<Vec<Option<u32>>, OutOfMemo
     Ok(vec![in alloc; None; count]?)
 }
 
-/// The number of a wish's bundle, where it has a site; `last` has for each site the bundle that
-/// came last there.
-fn bundle_there(wishes: &[Wish], last: &[Option<u32>], site: Option<u32>, place: u32) -> Option<u32>
-    requires place { place < length wishes.now }
-    requires site { ForSome site (λ h. h < length last.now) }
-    requires found { ForSome site
-        (λ h. ForSome (number_in last.now h) (λ b. b < length wishes.now)) }
-    ensures { result ≡ bundle_there wishes.now last.now site place }
+/// The number of a wish's bundle, where it has a site.
+fn bundle_there(last: &Last, site: Option<u32>, place: u32, candidate: u32) -> Option<u32>
+    requires site { ForSome site (λ h. h < length last.now.firsts.items) }
+    requires long { length last.now.candidates.items ≡ length last.now.firsts.items }
+    ensures { (ws : List Wish) → AreTheirs ws last.now.firsts.items last.now.candidates.items
+        → (wish_in ws place).candidate ≡ candidate
+        → result ≡ bundle_there ws last.now.firsts.items site place }
 {
     match site {
         None => None,
-        Some(site) => Some(joined(wishes, last[site as usize], place)),
+        Some(site) => {
+            let there = site as usize;
+            Some(joined(last.firsts[there], last.candidates[there], place, candidate))
+        }
     }
 }
 
 /// The bundle that was found, where it is of the same candidate, and else a new one.
-fn joined(wishes: &[Wish], found: Option<u32>, place: u32) -> u32
-    requires place { place < length wishes.now }
-    requires found { ForSome found (λ b. b < length wishes.now) }
-    ensures { result ≡ joined wishes.now found place }
+fn joined(found: Option<u32>, theirs: u32, place: u32, candidate: u32) -> u32
+    ensures { (ws : List Wish) → ForSome found (λ b. theirs ≡ (wish_in ws b).candidate)
+        → (wish_in ws place).candidate ≡ candidate → result ≡ joined ws found place }
 {
     match found {
-        Some(found) if wish_at(wishes, found).candidate == wish_at(wishes, place).candidate => {
-            found
-        }
+        Some(found) if theirs == candidate => found,
         _ => place,
     }
 }
 
-/// Notes the bundle that came last to a site.
-fn note(last: &mut Vec<Option<u32>>, site: Option<u32>, number: Option<u32>)
-    requires { ForSome site (λ h. h < length last.old.items) }
-    ensures { last.new.items ≡ noted last.old.items site number }
+/// Notes the bundle that came last to a site, and its candidate.
+fn note(last: &mut Last, site: Option<u32>, number: Option<u32>, candidate: u32)
+    requires site { ForSome site (λ h. h < length last.old.firsts.items) }
+    requires long { length last.old.candidates.items ≡ length last.old.firsts.items }
+    ensures firsts { last.new.firsts.items ≡ noted last.old.firsts.items site number }
+    ensures candidates { last.new.candidates.items
+        ≡ noted_candidate last.old.candidates.items site candidate }
 {
     if let Some(site) = site {
-        last[site as usize] = number;
+        last.firsts[site as usize] = number;
+        last.candidates[site as usize] = candidate;
     }
 }
 

@@ -4,6 +4,7 @@
 //! `state.apply(answer, stamp)?;`
 #![tactic(auto)]
 
+mod ahead;
 mod bundle_numbers;
 mod bundles;
 mod counted_marks;
