@@ -1,6 +1,6 @@
 -- Reading order. Each file says in its first line what it shows.
 -- Finding: Firsts, Places, Found, FirstRows, NotedKeys, KeyPlaces; ids that rise: Rising,
--- RisingIds; keys of hashes: MixedNumbers.
+-- RisingIds; keys of hashes: MixedNumbers; numbers in order: SortedNumbers.
 -- Scans of a slot: Scans, LastRow, AcceptedRows, Outcomes.
 -- Faults shown to be none without a scan: Faultless, WishTests; ranks: DealtRows; wishes: Runs,
 -- InOrder, TwiceWished, TwicePreferred, WhoIsRanked.
@@ -37,6 +37,7 @@ pub mod RisingIds
 pub mod RowFacts
 pub mod Runs
 pub mod Scans
+pub mod SortedNumbers
 pub mod TwiceWished
 pub mod Undated
 pub mod Valid

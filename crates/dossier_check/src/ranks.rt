@@ -23,11 +23,10 @@ pub(crate) struct Dealt {
 }
 
 /// Puts numbers in order.
-fn sort_numbers(numbers: &mut Vec<u32>) -> Result<(), OutOfMemory>
-    ensures { OnOk result (numbers.new.items ≡ sorted_by (λ n. n) numbers.old.items) }
+fn sort_numbers(numbers: &mut Vec<u32>)
+    ensures { numbers.new.items ≡ sorted_by (λ n. n) numbers.old.items }
 {
-    numbers.sort_by_key(|n| *n)?;
-    Ok(())
+    numbers.sort_unstable();
 }
 
 /// Whether each number is greater than the one before it.
@@ -42,7 +41,7 @@ fn ascending_candidates(alloc: Global, list: &[Ranked]) -> Result<Vec<u32>, OutO
     ensures { IfOk result (λ ids. ids.items ≡ ascending_candidates list.now) }
 {
     let mut ids = list.iter().map(|ranked| ranked.candidate).collect(alloc)?;
-    sort_numbers(&mut ids)?;
+    sort_numbers(&mut ids);
     Ok(ids)
 }
 
