@@ -28,7 +28,7 @@ pub(crate) struct Keys {
     pub(crate) wishes: RowIds,
     pub(crate) state: RowIds,
     /// For each wish where its programme is looked for first, if its tests kept the place.
-    pub(crate) near: Vec<usize>,
+    pub(crate) near: Vec<u32>,
 }
 
 // Not derived: so keys are dropped in one step where they are held, and not by each list.
@@ -170,7 +170,7 @@ impl<'a> Makes<WishRow, Wish> for Places<'a> {
     ghost made = { λ c. wish_of_row c.tables.now };
 
     fn make(&self, row: &WishRow, number: usize) -> Wish {
-        let mut near = self.keys.near.get(number).copied().unwrap_or(0);
+        let mut near = self.keys.near.get(number).copied().unwrap_or(0) as usize;
         Wish {
             id: row.id,
             candidate: row.candidate,

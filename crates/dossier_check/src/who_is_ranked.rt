@@ -82,7 +82,7 @@ pub(crate) struct Near {
     /// For each group the place after the candidate found last, by the groups' places.
     pub(crate) candidates: Vec<usize>,
     /// The place of each wish's programme, by the wishes' places.
-    pub(crate) programmes: Vec<usize>,
+    pub(crate) programmes: Vec<u32>,
 }
 
 /// Who is ranked in each group, by the groups' places.

@@ -40,7 +40,9 @@ impl<'a> RowTest<WishRow> for Unranked<'a> {
                 .ranked
                 .has(programme.group, row.candidate, &mut self.near, place)
             {
-                self.near.programmes.push(place)?;
+                self.near
+                    .programmes
+                    .push(u32::try_from(place).unwrap_or(0))?;
                 return Ok(None);
             }
         }

@@ -35,7 +35,7 @@ pub(crate) struct WishKeys {
     /// What is kept of the first wish that was tested of each candidate.
     pub(crate) firsts: IndexMap<u32, FirstWish, Keyed>,
     /// The places of the wishes' programmes, or none. Only how long a look takes depends on it.
-    pub(crate) programmes: Vec<usize>,
+    pub(crate) programmes: Vec<u32>,
 }
 
 // Not derived, as above.
@@ -51,7 +51,7 @@ impl Drop for WishKeys {
 
 impl WishKeys {
     /// The ids, and the places of the programmes.
-    pub(crate) fn into_parts(self) -> (RowIds, Vec<usize>)
+    pub(crate) fn into_parts(self) -> (RowIds, Vec<u32>)
         ensures ids { result.0 ≡ self.ids }
         ensures programmes { result.1 ≡ self.programmes }
     {
@@ -103,7 +103,7 @@ fn hashing_by(keyed: Keyed, apart: Apart, rows: &[WishRow]) -> Keyed
 }
 
 /// What the tests but that of ids keep: of the candidates, and the places of the programmes.
-pub(crate) fn kept_in(tests: OtherTests<'_>) -> (IndexMap<u32, FirstWish, Keyed>, Vec<usize>)
+pub(crate) fn kept_in(tests: OtherTests<'_>) -> (IndexMap<u32, FirstWish, Keyed>, Vec<u32>)
     ensures { result.0 ≡ (past_two (past_two tests.entry)).rest.first.firsts }
 {
     let Then { first: _, rest } = tests;
