@@ -1,5 +1,5 @@
 //! The ids of a slot's rows: found by order where they rise, and by hash elsewhere.
-ghost use Rattle.std.specs.Prelude.{◌≡◌, ◌++◌, ◌∷◌, ◌<◌, [], List, nat_eq, position, is_some, length, slice_get, map, true, false, None, Some, IfOk, IfSome, OnErr};
+ghost use Rattle.std.specs.Prelude.{◌≡◌, ◌++◌, ◌∷◌, ◌<◌, [], List, nat_eq, position, is_some, length, slice_get, map, true, false, None, Some, IfOk, IfSome, IsOk, OnErr};
 ghost use Rattle.std.specs.List.{IsDistinct, list_any};
 ghost use Rattle.admit_core.specs.Faults.{first_row};
 ghost use Rattle.dossier_check.specs.RowIds.{Rises};
@@ -140,7 +140,8 @@ fn note_hashed<R, Q: Key<R, u32>>(
 impl RowIds {
     /// No ids, with room for a number of them.
     pub(crate) fn with_room(alloc: Global, room: usize) -> Result<RowIds, OutOfMemory>
-        ensures { IfOk result (λ ids. ids.keys ≡ []) }
+        ensures none { IfOk result (λ ids. ids.keys ≡ []) }
+        ensures succeeds { room ≡ 0 → IsOk result }
     {
         let ids = Vec::with_capacity(alloc, room)?;
         Ok(RowIds {

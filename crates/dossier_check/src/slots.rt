@@ -3,7 +3,7 @@ ghost use Rattle.std.specs.Prelude.{◌≡◌, ◌<◌, ◌^◌, ◌∷◌, [], 
 ghost use Rattle.admit_core.specs.declared.slot.Slot.TheVariants as slots;
 ghost use Rattle.admit_core.specs.Faults.{first_in, repeats};
 ghost use Rattle.admit_core.specs.Relations.{programme_tests, ranking_tests, boarding_tests, ceiling_tests, group_ids, programme_ids, school_ids};
-ghost use Rattle.dossier_check.specs.Outcome.{AnswersFault};
+ghost use Rattle.dossier_check.specs.Outcome.{AnswersFault, MayLack};
 
 use crate::day_falls::{DayFalls, ItsDay};
 use crate::hashing::hashing_of_ranks;
@@ -32,6 +32,7 @@ pub(crate) fn check_ids<R, Q: Key<R, u32> + Drop>(
     ensures fault { AnswersFault result
         (first_in slot (repeats (λ row r. nat_eq (Q.key row) (Q.key r)) ∷ []) rows.now) }
     ensures ids { IfOk result (λ ids. ids.keys ≡ map Q.key rows.now) }
+    ensures memory { MayLack (0 < length rows.now) result }
 {
     let rows = rows.as_slice();
     let checks = Then {
@@ -59,6 +60,7 @@ pub(crate) fn check_programmes(
     ensures fault { AnswersFault result
         (first_in slots.Programmes (programme_tests tables.now) tables.now.programmes) }
     ensures ids { IfOk result (λ ids. ids.keys ≡ programme_ids tables.now) }
+    ensures memory { MayLack (0 < length tables.now.programmes) result }
 {
     let rows = tables.programmes.as_slice();
     let checks = Then {
@@ -89,8 +91,9 @@ pub(crate) fn find_rank_fault(
 ) -> Result<(), InFault>
     requires groups { groups.now.keys ≡ group_ids tables.now }
     requires small { length tables.now.rankings < 2 ^ 32 }
-    ensures { AnswersFault result
+    ensures fault { AnswersFault result
         (first_in slots.Rankings (ranking_tests tables.now) tables.now.rankings) }
+    ensures memory { MayLack (0 < length tables.now.rankings) result }
 {
     let rows = tables.rankings.as_slice();
     let keyed = hashing_of_ranks(rows);
@@ -132,6 +135,7 @@ pub(crate) fn check_boarding(
         (first_in slots.Boarding (boarding_tests tables.now) tables.now.boarding) }
     ensures pairs { IfOk result (λ pairs.
         pairs.keys ≡ map (λ r. (r.school, r.candidate)) tables.now.boarding) }
+    ensures memory { MayLack (0 < length tables.now.boarding) result }
 {
     let rows = tables.boarding.as_slice();
     let pairs = IndexSet::with_capacity_and_hasher(alloc, rows.len(), keyed)?;
@@ -170,8 +174,9 @@ pub(crate) fn check_ceilings(
 ) -> Result<(), InFault>
     requires schools { schools.now.keys ≡ school_ids tables.now }
     requires small { length tables.now.ceilings < 2 ^ 32 }
-    ensures { AnswersFault result
+    ensures fault { AnswersFault result
         (first_in slots.Ceilings (ceiling_tests tables.now) tables.now.ceilings) }
+    ensures memory { MayLack (0 < length tables.now.ceilings) result }
 {
     let mut checks = Then {
         first: Repeats {

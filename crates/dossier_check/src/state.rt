@@ -3,7 +3,7 @@ ghost use Rattle.std.specs.Prelude.{◌≡◌, ◌<◌, ◌^◌, length, map, If
 ghost use Rattle.admit_core.specs.declared.slot.Slot.TheVariants as slots;
 ghost use Rattle.admit_core.specs.Faults.{first_in};
 ghost use Rattle.admit_core.specs.Relations.{state_tests, wish_ids};
-ghost use Rattle.dossier_check.specs.Outcome.{AnswersFault};
+ghost use Rattle.dossier_check.specs.Outcome.{AnswersFault, MayLack};
 
 use crate::noted::{note_first, row_of};
 use crate::row_ids::RowIds;
@@ -87,6 +87,7 @@ pub(crate) fn check_state<'a>(
     ensures fault { AnswersFault result
         (first_in slots.State (state_tests tables.now) tables.now.state) }
     ensures wishes { IfOk result (λ stated. stated.keys ≡ map (λ s. s.wish) tables.now.state) }
+    ensures memory { MayLack (0 < length tables.now.state) result }
 {
     let rows = tables.state.as_slice();
     let checks = Then {

@@ -35,7 +35,7 @@ returns-in_err-check_ceilings-clause-fault c =
     let state : Option Refusal = first_in slots.State (state_tests t) t.state in
     let ceilings : Option Refusal = first_in slots.Ceilings (ceiling_tests t) t.ceilings in
     let here : AnswersFault c.from_residual-in_err-check_ceilings.result ceilings =
-    handed_on _ _ _ c.from_residual-in_err-check_ceilings.ensures.1 c.in_err-check_ceilings.ensures in
+    handed_on _ _ _ c.from_residual-in_err-check_ceilings.ensures.1 c.in_err-check_ceilings.ensures.fault in
     after_none c.from_residual-in_err-check_ceilings.result wishes _ c.in_ok-wishes.ensures.fault
     (after_none c.from_residual-in_err-check_ceilings.result state _ c.in_ok-state.ensures.fault
     (first_here c.from_residual-in_err-check_ceilings.result ceilings _
@@ -53,7 +53,7 @@ returns-in_err-check_answers-clause-fault c =
     handed_on _ _ _ c.from_residual-in_err-check_answers.ensures.1 c.in_err-check_answers.ensures.fault in
     after_none c.from_residual-in_err-check_answers.result wishes _ c.in_ok-wishes.ensures.fault
     (after_none c.from_residual-in_err-check_answers.result state _ c.in_ok-state.ensures.fault
-    (after_none c.from_residual-in_err-check_answers.result ceilings _ c.in_ok-check_ceilings.ensures
+    (after_none c.from_residual-in_err-check_answers.result ceilings _ c.in_ok-check_ceilings.ensures.fault
     (first_here c.from_residual-in_err-check_answers.result answers _ c.from_residual-in_err-check_answers.ensures.0
     here)))
 
@@ -67,5 +67,5 @@ returns-clause-fault c =
     let answers : Option Refusal = first_in slots.Answers (answer_tests t) t.answers in
     none_then wishes _ c.in_ok-wishes.ensures.fault
     (none_then state _ c.in_ok-state.ensures.fault
-    (none_then ceilings _ c.in_ok-check_ceilings.ensures
+    (none_then ceilings _ c.in_ok-check_ceilings.ensures.fault
     (none_then answers _ c.in_ok-check_answers.ensures.fault refl)))
