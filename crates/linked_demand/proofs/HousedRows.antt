@@ -10,6 +10,7 @@ use Rattle.std.proofs.lemmas.Bool.{cases_Bool, cases_lt, cases_eq, false≢true,
 use Rattle.std.proofs.lemmas.Bool.{or_right}
 use Rattle.std.proofs.lemmas.Bool.{eqb-true, eq-eqb, ltb-true, lt-ltb, le-ltb, and_right}
 use Rattle.std.proofs.lemmas.List.{length-append}
+use Rattle.std.proofs.lemmas.List.Folds.{list_any-append}
 use Rattle.std.proofs.lemmas.Option.{slice_get_past}
 use Rattle.admit_core.specs.Lists.{is_among}
 use Rattle.admit_core.proofs.Plain.{same_test}
@@ -21,6 +22,7 @@ use Rattle.linked_demand.specs.Housed.{ranks_of, housed_in, kept, noted, GivesUp
 use Rattle.linked_demand.specs.Housed.{AreHoused, within}
 use Rattle.linked_demand.proofs.Closing.{any_at}
 use Rattle.linked_demand.proofs.Demanded.{Rises, ascends_counted, among_counted, passes, any_place}
+use Rattle.linked_demand.proofs.PlaceOrder.{ascends-filter}
 use Rattle.linked_demand.proofs.Rungs.{among_above, housed_known, ascends_housed, rises_kept, ranks_kept, housed_kept}
 use Rattle.linked_demand.proofs.Rungs.{few_kept, kept_all, ranks_noted, housed_noted, least_noted, most_noted}
 
@@ -61,10 +63,6 @@ module _ (p : ℕ → Bool) (row : List RowWish) (rises : Rises row) where
 pub lower_below : (over : Option ℕ) (r o : ℕ) → r < o → is_below over o ≡ true → is_below over r ≡ true
 lower_below None r o lt t = refl
 lower_below (Some m) r o lt t = lt-ltb r m (omega (arith, lt, ltb-true o m t))
-
-pushed_among : (n : ℕ) (ns : List ℕ) → is_among n (ns ++ n ∷ []) ≡ true
-pushed_among n [] = or_left (nat_eq n n) false (eq-eqb n n refl)
-pushed_among n (m ∷ ns) = or_right (nat_eq n m) (is_among n (ns ++ n ∷ [])) (pushed_among n ns)
 
 module _ (p : ℕ → Bool) (row : List RowWish) (over : Option ℕ) (xs : List Rung) where
   -- other wishes are left
@@ -112,7 +110,11 @@ module _ (p : ℕ → Bool) (row : List RowWish) (over : Option ℕ) (xs : List 
   module _ (left : ℕ → Bool) (are : AreNoted p left row over xs) (ys : List Rung) (o : ℕ)
       (gives : GivesUp xs ys o) where
     last_has : is_among o (housed_in xs) ≡ true
-    last_has = ap (is_among o) gives.housed ∙ pushed_among o (housed_in ys)
+    last_has =
+        ap (is_among o) gives.housed
+        ∙ list_any-append (nat_eq o) (housed_in ys) (o ∷ [])
+        ∙ or_right (is_among o (housed_in ys)) (is_among o (o ∷ []))
+        (or_left (nat_eq o o) false (eq-eqb o o refl))
 
     given : (q : ℕ) → is_among q (housed_in ys) ≡ (is_among q (housed_in xs) && nat_lt q o)
     given q = ap (λ (zs : List Rung). is_among q (housed_in zs)) gives.kept_are ∙ housed_kept (λ r. nat_lt r o) q xs
@@ -204,23 +206,6 @@ number_below o n (m ∷ ms) is up t =
     none_below k l [] le all = refl
     none_below k l (j ∷ ks) le all = rw (le-ltb j k (omega (arith, le, all.0))) (none_below k l ks le all.1)
 
-filter_above : (q : ℕ → Bool) (n : ℕ) (ns : List ℕ) → AllByRecursion (λ m. n < m) ns
-    → AllByRecursion (λ m. n < m) (filter q ns)
-filter_above q n [] all = tt
-filter_above q n (m ∷ ms) all =
-    elim (cases_Bool (q m)) [
-      | inl stays ↦ rw stays (all.0, filter_above q n ms all.1)
-      | inr goes ↦ rw goes (filter_above q n ms all.1)
-    ]
-
-filter_ascends : (q : ℕ → Bool) (ns : List ℕ) → Ascends ns → Ascends (filter q ns)
-filter_ascends q [] up = tt
-filter_ascends q (m ∷ ms) up =
-    elim (cases_Bool (q m)) [
-      | inl stays ↦ rw stays (filter_above q m ms up.0, filter_ascends q ms up.1)
-      | inr goes ↦ rw goes (filter_ascends q ms up.1)
-    ]
-
 filter_among : (q : ℕ → Bool) (r : ℕ) (ns : List ℕ) → is_among r (filter q ns) ≡ (is_among r ns && q r)
 filter_among q r [] = refl
 filter_among q r (m ∷ ms) =
@@ -248,7 +233,7 @@ module _ (p : ℕ → Bool) (row : List RowWish) (rises : Rises row) (free : ℕ
   housed_are over are =
       let ranks = counted p 0 row in
       same_members (housed_in xs) (filter (is_below over) ranks) (ascends_housed xs are.rises.1)
-      (filter_ascends (is_below over) ranks (ascends_counted p 0 row))
+      (ascends-filter (is_below over) ranks (ascends_counted p 0 row))
       (λ r. same_test (is_among r (housed_in xs)) (is_among r (filter (is_below over) ranks))
       (λ t. filter_among (is_below over) r ranks ∙ and_from (is_among r ranks) (is_below over r) (are.sound r t)
       (are.below r (housed_known r xs t)))

@@ -24,8 +24,9 @@ among_above n r (m ∷ ms) all t =
       | inr later ↦ among_above n r ms all.1 later
     ]
 
-first_among : (n : ℕ) (ns : List ℕ) → is_among n (n ∷ ns) ≡ true
-first_among n ns = rw (eq-eqb n n refl) refl
+-- the first rank is known
+first_known : (x : Rung) (xs : List Rung) → is_among x.rank (ranks_of (x ∷ xs)) ≡ true
+first_known x xs = or_left (nat_eq x.rank x.rank) (is_among x.rank (ranks_of xs)) (eq-eqb x.rank x.rank refl)
 
 -- a rank that has a bed is known
 pub housed_known : (r : ℕ) (xs : List Rung) → is_among r (housed_in xs) ≡ true → is_among r (ranks_of xs) ≡ true
@@ -140,7 +141,7 @@ module _ (q : ℕ → Bool) where
   pub kept_all : (xs : List Rung) → ((r : ℕ) → is_among r (ranks_of xs) ≡ true → q r ≡ true) → kept q xs ≡ xs
   kept_all [] each = refl
   kept_all (x ∷ xs) each =
-      rw (each x.rank (first_among x.rank (ranks_of xs)))
+      rw (each x.rank (first_known x xs))
       (ap (λ (ys : List Rung). x ∷ ys)
       (kept_all xs (λ r t. each r (or_right (nat_eq r x.rank) (is_among r (ranks_of xs)) t))))
 
@@ -227,7 +228,7 @@ last_most (x ∷ []) r rises t =
 last_most (x ∷ y ∷ ys) r rises t =
     let same : last_rank (x ∷ y ∷ ys) ≡ last_rank (y ∷ ys) = last_more x (y ∷ ys) (length ys) refl in
     let low : x.rank < y.rank = rises.0.0 in
-    let high : y.rank ≤ last_rank (y ∷ ys) = last_most (y ∷ ys) y.rank rises.1 (first_among y.rank (ranks_of ys)) in
+    let high : y.rank ≤ last_rank (y ∷ ys) = last_most (y ∷ ys) y.rank rises.1 (first_known y ys) in
     elim (or_cases (nat_eq r x.rank) (is_among r (ranks_of (y ∷ ys))) t) [
       | inl here ↦ omega (arith, eqb-true r x.rank here, low, high, same)
       | inr later ↦ omega (arith, same, last_most (y ∷ ys) r rises.1 later)
@@ -236,7 +237,7 @@ last_most (x ∷ y ∷ ys) r rises t =
 -- the last one is known
 pub last_known : (xs : List Rung) → 0 < last_rank xs → is_among (last_rank xs) (ranks_of xs) ≡ true
 last_known [] some = absurd (omega (arith, some))
-last_known (x ∷ []) some = first_among x.rank []
+last_known (x ∷ []) some = first_known x []
 last_known (x ∷ y ∷ ys) some =
     let same : last_rank (x ∷ y ∷ ys) ≡ last_rank (y ∷ ys) = last_more x (y ∷ ys) (length ys) refl in
     ap (λ n. is_among n (ranks_of (x ∷ y ∷ ys))) same
@@ -398,7 +399,7 @@ ascends_push : (xs : List Rung) (x : Rung) → Ascends (ranks_of xs)
     → ((r : ℕ) → is_among r (ranks_of xs) ≡ true → r < x.rank) → Ascends (ranks_of (xs ++ x ∷ []))
 ascends_push [] x rises each = (tt, tt)
 ascends_push (y ∷ xs) x rises each = (
-  above_push y.rank xs x rises.0 (each y.rank (first_among y.rank (ranks_of xs))),
+  above_push y.rank xs x rises.0 (each y.rank (first_known y xs)),
   ascends_push xs x rises.1 (λ r t. each r (or_right (nat_eq r y.rank) (is_among r (ranks_of xs)) t)),
 )
 

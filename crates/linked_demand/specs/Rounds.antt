@@ -34,8 +34,8 @@ pub record IsRound (links : LinksRow) (bars free : List ℕ)
       → IsRow links.state bars h row.items
   pub items_are : AllItems links.state links.orders rows
 
--- what holds of the parts of a round: with the answers of the schools, who has a bed in each, and no
--- mark of a wish
+-- what holds of the parts of a round: with the answers of the schools, who has a bed in each, and
+-- no mark of a wish
 pub record IsRoundUnder (links : LinksRow) (ceilings bars free : List ℕ)
     (rows : List (Vec RowWish Global))
     (overfilled : List (Option ℕ)) (marked : List Bool) (housed : List (List Rung)) : Type 0 where
