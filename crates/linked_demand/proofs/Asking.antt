@@ -1,10 +1,9 @@
 -- The kept answers of the schools stay right where a bar falls.
 use Rattle.std.proofs.Common.{ℕ, ◌<◌, ◌≡◌, false, List, [], map, length, inl}
-use Rattle.std.proofs.Common.{inr, refl, ◌∙◌, ap, arith, get_or, Option, Some, None, Vec, option_map}
+use Rattle.std.proofs.Common.{inr, refl, ◌∙◌, ap, arith, get_or, Option, Some, None, option_map}
 use Rattle.std.proofs.Common.{unwrap_or}
 use Rattle.std.specs.Prelude.{slice_get, slice_index}
 use Rattle.std.specs.List.{range_with_len}
-use Rattle.std.specs.declared.alloc.Global.{Global}
 use Rattle.std.proofs.lemmas.List.FromFn.{fill_by_all, get_or-map-range_with_len}
 use Rattle.std.proofs.lemmas.Option.{slice_get_within, slice_get_cases}
 use Rattle.admit_core.specs.declared.dossier.Wish.{Wish}
@@ -35,9 +34,9 @@ proposed_entry l bars opens_are j e at =
     ∙ rw (flag, opens_are) (proposed_by_bars l.state l.orders bars e.0 e.1)
 
 -- what a row answers is the answer of its school
-pub row_answers : (links : LinksRow) (bars free : List ℕ) (rows : List (Vec RowWish Global))
-    → IsRound links bars free rows → (h : ℕ) (row : Vec RowWish Global) → slice_get rows h ≡ Some row
-    → slice_get (counted (is_proposed_at links) 0 row.items) (slice_index free h)
+pub row_answers : (links : LinksRow) (bars free : List ℕ) (rows : List (List RowWish))
+    → IsRound links bars free rows → (h : ℕ) (row : List RowWish) → slice_get rows h ≡ Some row
+    → slice_get (counted (is_proposed_at links) 0 row) (slice_index free h)
     ≡ over_at links.state links.orders bars h
 row_answers links bars free rows right h row at =
     let lt : h < length links.state.dossier.schools = omega
@@ -45,10 +44,10 @@ row_answers links bars free rows right h row at =
     let beds : slice_index free h ≡ free_beds links.state h =
     ap (λ (fs : List ℕ). slice_index fs h) right.free_are
     ∙ get_or-map-range_with_len (free_beds links.state) 0 (length links.state.dossier.schools) h h 0 lt (omega arith) in
-    rw (ranks_told links bars h row.items (right.rows_are h row at) right.opens_are, beds) refl
+    rw (ranks_told links bars h row (right.rows_are h row at) right.opens_are, beds) refl
 
 -- where no wish is left to be looked at, all answers are right
-pub answers_all : (links : LinksRow) (bars free : List ℕ) (rows : List (Vec RowWish Global))
+pub answers_all : (links : LinksRow) (bars free : List ℕ) (rows : List (List RowWish))
     → IsRound links bars free rows → (overs : List (Option ℕ)) (housed : List (List Rung))
     → AllHoused links (λ k. false) rows free overs housed
     → overs ≡ map (over_at links.state links.orders bars) (range_with_len 0 (length links.state.dossier.schools))
@@ -60,7 +59,7 @@ answers_all links bars free rows right overs housed all =
       | inl there ↦
           let row = there.0 in
           let at : slice_get rows h ≡ Some row = there.2 in
-          over_is (is_proposed_at links) row.items (rises_row row.items (right.rows_are h row at).rises)
+          over_is (is_proposed_at links) row (rises_row row (right.rows_are h row at).rises)
           (slice_index free h) (get_or housed h []) (get_or overs h None) (all.each h row at)
           ∙ row_answers links bars free rows right h row at
       | inr past ↦ absurd (omega (arith, past.0, lt, right.rows_each, right.bars_each))

@@ -1,45 +1,37 @@
 -- What a list of boarders tells.
-use Rattle.std.proofs.Common.{ℕ, suc, ◌<◌, ◌≡◌, Bool, true, false, ◌&&◌, List, [], ◌∷◌, filter, length, get_or, inl}
-use Rattle.std.proofs.Common.{inr, refl, sym, ◌∙◌, ap, arith, nat_eq, Option, Some, None, unwrap_or, if◌then◌else◌}
-use Rattle.std.proofs.Common.{subst}
-use Rattle.std.specs.Prelude.{All, is_some}
+use Rattle.std.proofs.Common.{ℕ, suc, ◌<◌, ◌≡◌, true, List, [], ◌∷◌, filter, length, get_or, inl}
+use Rattle.std.proofs.Common.{inr, refl, sym, ◌∙◌, ap, arith, nat_eq, nat_le, not, Option, Some, drop, subst, take}
+use Rattle.std.proofs.Common.{unwrap_or}
+use Rattle.std.specs.Prelude.{slice_get, All}
 use Rattle.std.specs.List.Sorted.{IsNonDecreasingBy, IsPermutation, IsStableByKey}
 use Rattle.std.specs.Ordering.{nat_cmp}
-use Rattle.std.proofs.lemmas.Bool.{cases_Bool, false≢true, eq-eqb, eqb-true}
+use Rattle.std.proofs.lemmas.Bool.{cases_Bool, eq-eqb, eqb-true}
 use Rattle.std.proofs.lemmas.List.{get_or-map, length-map}
 use Rattle.std.proofs.lemmas.List.Sorted.{All-permutation}
+use Rattle.std.proofs.lemmas.Option.{slice_get_within, unwrap_or-slice_get}
 use Rattle.std.proofs.lemmas.Map.Views.{any-filter_same}
 use Rattle.admit_core.specs.DossierRows.{DossierRows}
 use Rattle.admit_core.specs.Lists.{is_among}
-use Rattle.admit_core.specs.State.{State, is_school}
-use Rattle.day_state.specs.Kept.{wish_in}
+use Rattle.admit_core.specs.State.{is_school}
 use Rattle.day_state.proofs.Along.{among-filter}
 use Rattle.day_state.proofs.Ordering.{stable_own}
 use Rattle.linked_demand.specs.declared.boarders.Boarder.{Boarder}
-use Rattle.linked_demand.specs.Boarders.{AreBoarders, AreByPlace, AreByRank, IsBoarder, rank_at, wishes_of}
+use Rattle.linked_demand.specs.declared.rows.RowWish.{RowWish}
+use Rattle.linked_demand.specs.Boarders.{boards_in, rank_at, wishes_of, AreBoarders, AreByPlace, AreByRank, IsBoarder}
+use Rattle.linked_demand.specs.Rows.{IsEnd}
+use Rattle.linked_demand.proofs.Passing.{front_passes}
 use Rattle.linked_demand.specs.Seats.{boards_at, boarders_of}
-use Rattle.linked_demand.specs.Filled.{wants_bed, is_in_row}
 
 -- the wish of the one at a place
 pub place_of : (bs : List Boarder) (i : ℕ) (e : Boarder) → i < length bs
     → get_or (wishes_of bs) i 0 ≡ (get_or bs i e).wish
 place_of bs i e lt = get_or-map (λ (b : Boarder). b.wish) bs i e 0 lt
 
--- one who wants a bed stands in the row of their school alone, and one who wants none in no row
-module _ (s : State) (opens : List Bool) (b : Boarder) (right : IsBoarder s.dossier b) (k : ℕ) (k_is : k ≡ b.wish)
-    (wants : Bool) (wants_is : wants ≡ wants_bed s opens b.wish) where
-  pub in_own_row : wants ≡ true → (h : ℕ) → nat_eq b.school h ≡ is_in_row s opens h k
-  in_own_row t h =
-      let school = (wish_in s.dossier.wishes b.wish).school in
-      ap (λ (o : Option ℕ). is_school o h) (sym right.school)
-      ∙ ap (λ (b : Bool). b && is_school school h) (sym t ∙ wants_is)
-      ∙ ap (λ (j : ℕ). is_in_row s opens h j) (sym k_is)
-
-  pub in_no_row : wants ≡ false → (h : ℕ) → is_in_row s opens h k ≡ false
-  in_no_row f h =
-      let school = (wish_in s.dossier.wishes b.wish).school in
-      ap (λ (j : ℕ). is_in_row s opens h j) k_is
-      ∙ ap (λ (b : Bool). b && is_school school h) (sym wants_is ∙ f)
+-- a boarder stands among those of their school alone
+pub in_own_school : (d : DossierRows) (b : Boarder) → IsBoarder d b → (k : ℕ) → k ≡ b.wish → (h : ℕ)
+    → nat_eq b.school h ≡ boards_in d h k
+in_own_school d b right k k_is h =
+    ap (λ (o : Option ℕ). is_school o h) (sym right.school) ∙ ap (λ (j : ℕ). boards_in d h j) (sym k_is)
 
 -- all wishes with a school are there where they are in order by rank
 pub all_by_rank : (d : DossierRows) (places : List ℕ) → AreByRank d places → (k : ℕ) → k < length d.wishes
@@ -97,12 +89,14 @@ boarders_sorted d old new by_place moved rises stable =
       each = each;
     }
 
--- what is kept of a wish with a bed to ask for tells it, and whether its candidate needs no seat
-pub wanted_bed : (wants sure flag : Bool) → (if wants then Some sure else None) ≡ Some flag
-    → (wants ≡ true) × (flag ≡ sure)
-wanted_bed true sure flag e = (refl, ap (λ (o : Option Bool). unwrap_or o flag) (sym e))
-wanted_bed false sure flag e = absurd (false≢true (ap is_some e))
-
-pub wanted_none : (wants sure : Bool) → (if wants then Some sure else None) ≡ None → wants ≡ false
-wanted_none true sure e = absurd (false≢true (ap is_some (sym e)))
-wanted_none false sure e = refl
+-- what the place of a bar in the order by rank says
+pub front_of_end : (bar : ℕ) (own : List RowWish) (end : ℕ) → IsEnd bar own end
+    → (take end own ≡ filter (λ x. nat_le x.rank bar) own)
+    × (drop end own ≡ filter (λ x. not (nat_le x.rank bar)) own)
+front_of_end bar own end is =
+    let low = λ (x : RowWish). nat_le x.rank bar in
+    let read : (k : ℕ) (x : RowWish) → slice_get own k ≡ Some x → get_or own k x ≡ x =
+    λ k x at. sym (unwrap_or-slice_get own k x) ∙ ap (λ (o : Option RowWish). unwrap_or o x) at in
+    front_passes low own end
+    (λ k x lt at. ap low (sym (read k x at)) ∙ is.point.0 k x (omega arith) lt)
+    (λ k x le at. ap low (sym (read k x at)) ∙ is.point.1 k x le (slice_get_within own k x at))

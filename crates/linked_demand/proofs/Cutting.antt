@@ -1,14 +1,17 @@
 -- The wishes of a row that rank past a number are closed one after another.
-use Rattle.std.proofs.Common.{ℕ, ◌-◌, ◌≤◌, ◌<◌, ◌≡◌, Bool, false, List, [], ◌∷◌, length, inl, inr, refl, sym, ◌∙◌, ap}
+use Rattle.std.proofs.Common.{ℕ, ◌-◌, ◌≤◌, ◌<◌, ◌≡◌, Bool, true, false, List, [], ◌∷◌, length, inl, inr, refl, sym, ◌∙◌, ap}
 use Rattle.std.proofs.Common.{arith, zero, suc, get_or, take, drop, Option, Some, subst, unwrap_or}
 use Rattle.std.specs.Prelude.{slice_set, slice_get}
 use Rattle.std.proofs.lemmas.Bool.{cases_eq}
-use Rattle.std.proofs.lemmas.Option.{slice_get_within, slice_get_read}
+use Rattle.std.proofs.lemmas.Option.{slice_get_cases, slice_get_within, slice_get_read, unwrap_or-slice_get}
 use Rattle.admit_core.specs.declared.dossier.Wish.{Wish}
 use Rattle.admit_core.specs.declared.state.Mark.{Mark}
+use Rattle.admit_core.specs.State.{State}
 use Rattle.linked_demand.specs.declared.rows.RowWish.{RowWish}
 use Rattle.linked_demand.specs.Links.{LinksRow, WaitsAt}
-use Rattle.linked_demand.specs.Rows.{closed, CutsAt, AllWait, AreItems, row_item}
+use Rattle.linked_demand.specs.Rows.{closed, needs_bed, row_in, row_item, AllWait, AreItems, CutsAt, RanksRise}
+use Rattle.linked_demand.proofs.Falling.{front_at, in_front}
+use Rattle.linked_demand.proofs.Passing.{passing, passing_at, passing_from, passing_front}
 
 closed_none : (row : List RowWish) (n : ℕ) (opens : List Bool) → n ≡ length row → closed (drop n row) opens ≡ opens
 closed_none [] zero opens e = refl
@@ -79,6 +82,18 @@ item_still to row start now end n y far is read all =
     let P = λ (r : LinksRow). y ≡ row_item r.state r.orders y.wish in
     subst P (sym far.now_is) (all n y (slice_get_read row (length row) n y refl (omega (arith, far.within)) read))
 
+-- where the end of the first boarders falls: an item that is in the row, and one that is not
+module _ (s : State) (front : List RowWish) (n : ℕ) (x : RowWish) (at : slice_get front n ≡ Some x) where
+  abbrev place : ℕ
+  place = passing (needs_bed s) front n
+
+  pub in_row : needs_bed s x ≡ true → slice_get (row_in s front) place ≡ Some x
+  in_row pass = passing_at (needs_bed s) front n x at pass
+
+  pub read_in_row : needs_bed s x ≡ true → x ≡ get_or (row_in s front) place x
+  read_in_row pass =
+      sym (sym (unwrap_or-slice_get (row_in s front) place x) ∙ ap (λ (o : Option RowWish). unwrap_or o x) (in_row pass))
+
 pub so_far_cuts : (to : ℕ) (row : List RowWish) (start now : LinksRow) (end : ℕ) (kept : List RowWish)
     → SoFar to row start now end → kept ≡ take end row
     → ((x : RowWish) → 0 < end → slice_get row (end - 1) ≡ Some x → x.rank ≤ to)
@@ -93,8 +108,41 @@ so_far_cuts to row start now end kept far is last =
       last = last;
     }
 
-pub last_at : (to : ℕ) (row : List RowWish) (end : ℕ) (y : RowWish) → 0 < end → end ≤ length row
-    → y ≡ get_or row (end - 1) y → y.rank ≤ to
-    → (x : RowWish) → 0 < end → slice_get row (end - 1) ≡ Some x → x.rank ≤ to
-last_at to row end y some within read le x _ at =
-    rw (← same_at row (end - 1) y x (slice_get_read row (length row) (end - 1) y refl (omega arith) read) at) le
+-- the last one of the row ranks at most where the last one that is still a first boarder does
+pub last_in_row : (s : State) (to : ℕ) (front : List RowWish) (end : ℕ) → RanksRise front
+    → ((y : RowWish) → 0 < end → slice_get front (end - 1) ≡ Some y → y.rank ≤ to) → end ≤ length front
+    → (x : RowWish) → 0 < passing (needs_bed s) front end
+    → slice_get (row_in s front) (passing (needs_bed s) front end - 1) ≡ Some x → x.rank ≤ to
+last_in_row s to front end rises last within x some at =
+    let q = needs_bed s in
+    let P = λ (ys : List RowWish). slice_get ys (passing q front end - 1) ≡ Some x in
+    let before : slice_get (row_in s (take end front)) (passing q front end - 1) ≡ Some x =
+    subst P (sym (passing_front q front end))
+    (front_at (row_in s front) (passing q front end) (passing q front end - 1) x (omega (arith, some)) at) in
+    let (j, le, found) = passing_from q (take end front) (passing q front end - 1) x before in
+    let (lt, there) = in_front front end j x found in
+    elim (slice_get_cases front (end - 1)).1 [
+      | inl y ↦ omega (
+        arith,
+        last y.0 (omega (arith, lt)) y.2,
+        rises j (end - 1) x y.0 (omega (arith, lt)) there y.2,
+      )
+      | inr past ↦ absurd (omega (arith, past.0, within, lt))
+    ]
+
+-- so the row is cut
+pub cut_there : (to : ℕ) (front : List RowWish) (start now : LinksRow) (end : ℕ) → RanksRise front
+    → SoFar to (row_in start.state front) start now (passing (needs_bed start.state) front end)
+    → end ≤ length front → ((y : RowWish) → 0 < end → slice_get front (end - 1) ≡ Some y → y.rank ≤ to)
+    → CutsAt to (row_in start.state front) start.opens (row_in start.state (take end front)) now.opens
+cut_there to front start now end rises far within last =
+    so_far_cuts to (row_in start.state front) start now (passing (needs_bed start.state) front end)
+    (row_in start.state (take end front)) far (passing_front (needs_bed start.state) front end)
+    (last_in_row start.state to front end rises last within)
+
+pub same_links : (to : ℕ) (row : List RowWish) (start now : LinksRow) (end : ℕ) → SoFar to row start now end
+    → now ≡ record start { opens = now.opens }
+same_links to row start now end far =
+    far.now_is
+    ∙ ap (λ (os : List Bool). let r : LinksRow = record start { opens = os } in r)
+    (sym (ap (λ (r : LinksRow). r.opens) far.now_is))

@@ -1,38 +1,41 @@
--- The rows that are filled along the boarders by rank are those of the schools.
+-- The rows of the first boarders of the schools are those of the schools.
 use Rattle.std.proofs.Common.{ℕ, zero, suc, ◌≤◌, ◌<◌, ◌≡◌, Bool, true, false, not, ◌&&◌, List, [], ◌∷◌, map, length}
-use Rattle.std.proofs.Common.{get_or, inl, inr, refl, sym, ◌∙◌, ap, arith, nat_eq, nat_lt, filter, Option, Some, None}
-use Rattle.std.proofs.Common.{unwrap_or, zip, subst, Vec}
+use Rattle.std.proofs.Common.{get_or, inl, inr, refl, sym, ◌∙◌, ap, arith, nat_eq, nat_le, nat_lt, filter, Option, Some, None}
+use Rattle.std.proofs.Common.{unwrap_or, zip, subst, take, Vec}
 use Rattle.std.specs.Prelude.{slice_get, slice_index, All, is_some}
 use Rattle.std.specs.List.{list_any, range_with_len}
 use Rattle.std.specs.List.Sorted.{IsNonDecreasingBy}
 use Rattle.std.specs.declared.alloc.Global.{Global}
-use Rattle.std.proofs.lemmas.Bool.{cases_Bool, false≢true, eqb-true, eq-eqb, and_parts, and_from, ltb-false, le-ltb}
+use Rattle.std.proofs.lemmas.Bool.{cases_Bool, cases_lt, false≢true, eqb-true, eq-eqb, and_parts, and_from, and_right}
+use Rattle.std.proofs.lemmas.Bool.{ltb-false, le-ltb, le-leb, lt-leb, lt-ltb}
 use Rattle.std.proofs.lemmas.Bool.{or_cases, or_left, or_right}
 use Rattle.std.proofs.lemmas.List.{get_or_default, get_or-map, length-map}
 use Rattle.std.proofs.lemmas.List.Elements.{All-filter, filter_passes}
 use Rattle.std.proofs.lemmas.List.Kept.{IsNonDecreasingBy-filter}
-use Rattle.std.proofs.lemmas.Option.{slice_get_within, unwrap_or-slice_get}
+use Rattle.std.proofs.lemmas.Option.{slice_get_cases, slice_get_within, unwrap_or-slice_get}
 use Rattle.admit_core.specs.declared.dossier.Wish.{Wish}
 use Rattle.admit_core.specs.declared.state.Mark.{Mark}
 use Rattle.admit_core.specs.declared.ranking.CallOrder.{CallOrder}
+use Rattle.admit_core.specs.DossierRows.{DossierRows}
 use Rattle.admit_core.specs.Lists.{is_among}
 use Rattle.admit_core.specs.Proposals.{is_behind_bar, is_open}
 use Rattle.admit_core.specs.State.{State, entries, is_waiting, holds_bed, is_school}
 use Rattle.admit_core.proofs.Tests.{Ascends}
 use Rattle.admit_core.proofs.Plain.{filter_same}
 use Rattle.day_state.specs.Kept.{has_bed_there, holds_bed_in, mark_in, wish_in}
-use Rattle.linked_demand.specs.declared.boarders.Boarder.{Boarder}
 use Rattle.linked_demand.specs.declared.rows.RowWish.{RowWish}
-use Rattle.linked_demand.specs.Rows.{WaitsFor, IsRow, AreItems, AllItems, AreRows, row_item}
-use Rattle.linked_demand.specs.Boarders.{AreBoarders, AreByRank, rank_at, wishes_of}
-use Rattle.linked_demand.specs.Filled.{wants_bed, is_in_row, row_along, AreFilled}
+use Rattle.linked_demand.specs.Rows.{item_at, needs_bed, row_in, row_item, rows_to, AllItems, AreEndsAt, AreItems}
+use Rattle.linked_demand.specs.Rows.{AreRows, IsEnd, IsRow, WaitsFor}
+use Rattle.linked_demand.specs.Boarders.{boards_in, rank_at, AreByRank, AreBySchool}
+use Rattle.linked_demand.specs.Filled.{wants_bed, is_in_row, row_along}
 use Rattle.linked_demand.specs.Seats.{boards_at, boarders_of}
 use Rattle.linked_demand.specs.Opens.{opens_of}
-use Rattle.linked_demand.proofs.Boarding.{all_by_rank, places_within}
+use Rattle.linked_demand.proofs.Boarding.{all_by_rank, front_of_end}
 use Rattle.linked_demand.proofs.ClaimSpans.{turn_two}
 use Rattle.linked_demand.proofs.Closing.{wish_of}
 use Rattle.linked_demand.proofs.Falling.{flag_map}
 use Rattle.linked_demand.proofs.Lining.{filter_twice}
+use Rattle.linked_demand.proofs.RowsTo.{length_rows, row_back}
 use Rattle.linked_demand.proofs.PlaceOrder.{InPlaceOrder, in_order_from, in_place_order, ascends-filter, ascends-range}
 
 -- a wish stands in the row of a school where it waits for it, its candidate has no bed there, and it ranks at most at
@@ -234,7 +237,7 @@ row_all s orders bars opens places h x w m long are by_rank waits low =
     (among_kept (is_in_row s opens h) p places in_row in_places)
 
 -- those items that pass a test, by place
-places_kept : (f : ℕ → RowWish) (q : RowWish → Bool) (ks : List ℕ) → ((k : ℕ) → (f k).wish ≡ k)
+pub places_kept : (f : ℕ → RowWish) (q : RowWish → Bool) (ks : List ℕ) → ((k : ℕ) → (f k).wish ≡ k)
     → map (λ x. x.wish) (filter q (map f ks)) ≡ filter (λ k. q (f k)) ks
 places_kept f q [] own = refl
 places_kept f q (k ∷ ks) own =
@@ -263,7 +266,7 @@ items_along s orders opens places h k x at =
     subst Q is (own_items f (λ k. refl) (filter (is_in_row s opens h) places) k x (slice_get_within row k x at))
 
 -- the items of a row rise where the places do
-items_rise : (f : ℕ → RowWish) (rank : ℕ → ℕ) → ((k : ℕ) → (f k).rank ≡ rank k) → (ks : List ℕ)
+pub items_rise : (f : ℕ → RowWish) (rank : ℕ → ℕ) → ((k : ℕ) → (f k).rank ≡ rank k) → (ks : List ℕ)
     → IsNonDecreasingBy rank ks
     → IsNonDecreasingBy (λ (x : RowWish). x.rank) (map f ks)
 items_rise f rank same ks rises j k d le lt =
@@ -317,22 +320,128 @@ row_right s orders bars opens places h long are within by_rank =
       all = λ x w m waits low. item_place x row (row_all s orders bars opens places h x w m long are by_rank waits low);
     }
 
--- the rows that are filled along the boarders are those of the schools
-pub rows_filled : (s : State) (orders : List CallOrder) (bars : List ℕ) (opens : List Bool) (bs : List Boarder)
-    (rows : List (Vec RowWish Global)) → length s.marks ≡ length s.dossier.wishes → opens ≡ opens_of s bars
-    → AreBoarders s.dossier bs → AreFilled s orders opens (wishes_of bs) rows → AreRows s bars rows
-rows_filled s orders bars opens bs rows long are boarders filled = record {
-  one_each = filled.one_each;
-  each = λ h row at.
-      let P = λ (xs : List RowWish). IsRow s bars h xs in
-      subst P (sym (filled.each h row at))
-      (row_right s orders bars opens (wishes_of bs) h long are
-      (places_within s.dossier bs boarders.each) boarders.wishes);
-}
+-- a wish with a school stands in the dossier
+boards_within : (d : DossierRows) (h k : ℕ) → boards_in d h k ≡ true → k < length d.wishes
+boards_within d h k t =
+    elim (slice_get_cases d.wishes k).1 [
+      | inl there ↦ slice_get_within d.wishes k there.0 there.2
+      | inr past ↦
+          let none : wish_in d.wishes k ≡ wish_in [] k = wish_past d.wishes k past.0 in
+          absurd (false≢true (ap (λ (w : Wish). is_school w.school h) (sym none) ∙ t))
+    ]
+  where
+    wish_past : (ws : List Wish) (j : ℕ) → length ws ≤ j → wish_in ws j ≡ wish_in [] j
+    wish_past [] j le = refl
+    wish_past (w ∷ ws) zero le = absurd (omega (arith, le))
+    wish_past (w ∷ ws) (suc j) le = wish_past ws j (omega (arith, le))
 
-pub items_filled : (s : State) (orders : List CallOrder) (opens : List Bool) (places : List ℕ)
-    (rows : List (Vec RowWish Global))
-    → AreFilled s orders opens places rows → AllItems s orders rows
-items_filled s orders opens places rows filled h row at =
-    let P = λ (xs : List RowWish). AreItems s orders xs in
-    subst P (sym (filled.each h row at)) (items_along s orders opens places h)
+bed_bits : (waits bed behind : Bool) → (not behind && (waits && not bed))
+    ≡ ((waits && not (waits && (not bed && behind))) && not bed)
+bed_bits true true true = refl
+bed_bits true true false = refl
+bed_bits true false true = refl
+bed_bits true false false = refl
+bed_bits false bed true = refl
+bed_bits false bed false = refl
+
+-- one who waits for a bed and ranks at most at the bar is open and wants one
+bed_wanted : (s : State) (bars : List ℕ) (h : ℕ) (w : Wish) (m : Mark) (school : Option ℕ)
+    → is_school school h ≡ true
+    → (nat_le w.board_rank (slice_index bars h) && (is_waiting m && not (holds_bed_in s w.candidate school)))
+    ≡ ((is_waiting m && not (is_waiting m && is_behind_bar s bars w school)) && not (holds_bed_in s w.candidate school))
+bed_wanted s bars h w m None t = absurd (false≢true t)
+bed_wanted s bars h w m (Some g) t =
+    let is : g ≡ h = eqb-true g h t in
+    let low : nat_le w.board_rank (slice_index bars h) ≡ not (nat_lt (slice_index bars g) w.board_rank) =
+    ap (λ (n : ℕ). nat_le w.board_rank (slice_index bars n)) (sym is)
+    ∙ le_is (slice_index bars g) w.board_rank in
+    ap (λ (b : Bool). b && (is_waiting m && not (holds_bed s w.candidate g))) low
+    ∙ bed_bits (is_waiting m) (holds_bed s w.candidate g) (nat_lt (slice_index bars g) w.board_rank)
+  where
+    le_is : (a b : ℕ) → nat_le b a ≡ not (nat_lt a b)
+    le_is a b =
+        elim (cases_lt a b) [
+          | inl less ↦ lt-leb b a less ∙ sym (ap not (lt-ltb a b less))
+          | inr more ↦ le-leb b a (omega (arith, more)) ∙ sym (ap not (le-ltb a b (omega (arith, more))))
+        ]
+
+module _ (s : State) (orders : List CallOrder) (bars : List ℕ) (places : List ℕ) (h : ℕ)
+    (long : length s.marks ≡ length s.dossier.wishes) where
+  item : ℕ → RowWish
+  item = item_at s.dossier orders
+
+  abbrev low : RowWish → Bool
+  low x = nat_le x.rank (slice_index bars h)
+
+  -- whether one comes into the row by what is kept of it
+  comes : (k : ℕ) → (boards_in s.dossier h k && (low (row_item s orders k) && needs_bed s (row_item s orders k)))
+      ≡ is_in_row s (opens_of s bars) h k
+  comes k =
+      elim (cases_Bool (boards_in s.dossier h k)) [
+        | inl has ↦
+            let w = wish_in s.dossier.wishes k in
+            let m = mark_in s.marks k in
+            let flag = flag_there s bars (opens_of s bars) k long refl (boards_within s.dossier h k has) in
+            ap (λ (b : Bool). b && (low (row_item s orders k) && needs_bed s (row_item s orders k))) has
+            ∙ bed_wanted s bars h w m w.school has
+            ∙ ap (λ (b : Bool). b && not (has_bed_there s k)) (sym flag)
+            ∙ sym (and_right_true (wants_bed s (opens_of s bars) k) (boards_in s.dossier h k) has)
+        | inr none ↦
+            ap (λ (b : Bool). b && (low (row_item s orders k) && needs_bed s (row_item s orders k))) none
+            ∙ sym (and_right (wants_bed s (opens_of s bars) k) (boards_in s.dossier h k) none)
+      ]
+    where
+      and_right_true : (a b : Bool) → b ≡ true → (a && b) ≡ a
+      and_right_true true b t = t
+      and_right_true false b t = refl
+
+  -- what is kept of some places, by a test
+  kept_of : (f : ℕ → RowWish) (q : RowWish → Bool) (ks : List ℕ)
+      → filter q (map f ks) ≡ map f (filter (λ k. q (f k)) ks)
+  kept_of f q [] = refl
+  kept_of f q (k ∷ ks) =
+      elim (cases_Bool (q (f k))) [
+        | inl stays ↦ rw stays (ap (λ (xs : List RowWish). f k ∷ xs) (kept_of f q ks))
+        | inr goes ↦ rw goes (kept_of f q ks)
+      ]
+
+  -- the first boarders of a school who wait for a bed are its row
+  pub row_is : (own : List RowWish) (end : ℕ) → own ≡ map (row_item s orders) (filter (boards_in s.dossier h) places)
+      → IsEnd (slice_index bars h) own end
+      → row_in s (take end own) ≡ row_along s orders (opens_of s bars) places h
+  row_is own end own_is ends =
+      let f = row_item s orders in
+      let q = needs_bed s in
+      let parts = front_of_end (slice_index bars h) own end ends in
+      let both = λ (k : ℕ). low (f k) && q (f k) in
+      ap (λ (xs : List RowWish). filter q xs) parts.0
+      ∙ filter_twice q low own
+      ∙ ap (λ (xs : List RowWish). filter (λ x. low x && q x) xs) own_is
+      ∙ kept_of f (λ x. low x && q x) (filter (boards_in s.dossier h) places)
+      ∙ ap (map f)
+      (filter_twice both (boards_in s.dossier h) places
+      ∙ filter_same (λ k. boards_in s.dossier h k && both k) (is_in_row s (opens_of s bars) h) comes places)
+
+-- so the rows of the first boarders are those of the schools
+pub rows_right : (s : State) (orders : List CallOrder) (bars : List ℕ) (boarders : List (Vec RowWish Global))
+    (ends : List ℕ) → length s.marks ≡ length s.dossier.wishes → AreBySchool s.dossier orders boarders
+    → AreEndsAt bars boarders ends
+    → AreRows s bars (rows_to s boarders ends) × AllItems s orders (rows_to s boarders ends)
+rows_right s orders bars boarders ends long by_school ends_are =
+    let places = by_school.places in
+    let along : (h : ℕ) (row : List RowWish) → slice_get (rows_to s boarders ends) h ≡ Some row
+    → row ≡ row_along s orders (opens_of s bars) places h = λ h row at.
+    let (own, found, is) = row_back s boarders ends ends_are.one_each h row at in
+    is ∙ row_is s orders bars places h long own.items (slice_index ends h) (by_school.rows_are.each h own found)
+    (ends_are.each h own found) in (
+      record {
+        one_each = length_rows s boarders ends ends_are.one_each ∙ by_school.rows_are.one_each;
+        each = λ h row at.
+            let P = λ (xs : List RowWish). IsRow s bars h xs in
+            subst P (sym (along h row at))
+            (row_right s orders bars (opens_of s bars) places h long refl by_school.within by_school.by_rank);
+      },
+      λ h row at.
+          let P = λ (xs : List RowWish). AreItems s orders xs in
+          subst P (sym (along h row at)) (items_along s orders (opens_of s bars) places h),
+    )

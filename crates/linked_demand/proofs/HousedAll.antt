@@ -1,8 +1,7 @@
 -- The schools are housed one after another, and again where a bar falls.
 use Rattle.std.proofs.Common.{ℕ, ◌+◌, ◌<◌, ◌≡◌, List, [], ◌∷◌, ◌++◌, length, inl, inr, refl, sym, ◌∙◌}
-use Rattle.std.proofs.Common.{ap, arith, get_or, Option, Some, None, Vec, subst, unwrap_or}
+use Rattle.std.proofs.Common.{ap, arith, get_or, Option, Some, None, subst, unwrap_or}
 use Rattle.std.specs.Prelude.{slice_get, slice_index}
-use Rattle.std.specs.declared.alloc.Global.{Global}
 use Rattle.std.proofs.Math.ListN.{set}
 use Rattle.std.proofs.lemmas.Bool.{cases_eq}
 use Rattle.std.proofs.lemmas.List.{get_or-set_same, get_or-set_other, length-set, length-append, get_or_append_left}
@@ -15,14 +14,14 @@ use Rattle.linked_demand.specs.Links.{LinksRow}
 use Rattle.linked_demand.proofs.HousedFronts.{nobody}
 
 -- the first schools are housed
-pub record AreHousedTo (l : LinksRow) (rows : List (Vec RowWish Global)) (free : List ℕ) (i : ℕ)
+pub record AreHousedTo (l : LinksRow) (rows : List (List RowWish)) (free : List ℕ) (i : ℕ)
     (overs : List (Option ℕ)) (housed : List (List Rung)) : Type 0 where
   pub so_many : length housed ≡ i
   pub answer_each : length overs ≡ length rows
-  pub each : (h : ℕ) (row : Vec RowWish Global) → h < i → slice_get rows h ≡ Some row
-      → AreHoused (is_proposed_at l) nobody row.items (slice_index free h) (get_or overs h None) (get_or housed h [])
+  pub each : (h : ℕ) (row : List RowWish) → h < i → slice_get rows h ≡ Some row
+      → AreHoused (is_proposed_at l) nobody row (slice_index free h) (get_or overs h None) (get_or housed h [])
 
-module _ (l : LinksRow) (rows : List (Vec RowWish Global)) (free : List ℕ) where
+module _ (l : LinksRow) (rows : List (List RowWish)) (free : List ℕ) where
   pub none_yet : (overs : List (Option ℕ)) (housed : List (List Rung)) → length overs ≡ length rows → housed ≡ []
       → AreHousedTo l rows free 0 overs housed
   none_yet overs housed long is = record {
@@ -32,8 +31,8 @@ module _ (l : LinksRow) (rows : List (Vec RowWish Global)) (free : List ℕ) whe
   }
 
   pub one_more : (i : ℕ) (overs : List (Option ℕ)) (housed : List (List Rung)) → AreHousedTo l rows free i overs housed
-      → i < length rows → (row : Vec RowWish Global) → slice_get rows i ≡ Some row → (over : Option ℕ) (xs : List Rung)
-      → AreHoused (is_proposed_at l) nobody row.items (slice_index free i) over xs → (overs_then : List (Option ℕ))
+      → i < length rows → (row : List RowWish) → slice_get rows i ≡ Some row → (over : Option ℕ) (xs : List Rung)
+      → AreHoused (is_proposed_at l) nobody row (slice_index free i) over xs → (overs_then : List (Option ℕ))
       → (housed_then : List (List Rung)) → overs_then ≡ set overs i over → housed_then ≡ housed ++ xs ∷ []
       → AreHousedTo l rows free (i + 1) overs_then housed_then
   one_more i overs housed to lt row at over xs are overs_then housed_then overs_are housed_is =
@@ -44,8 +43,8 @@ module _ (l : LinksRow) (rows : List (Vec RowWish Global)) (free : List ℕ) whe
           | inl same ↦
               let P = λ (n : ℕ). slice_get rows n ≡ Some other in
               let row_same : row ≡ other =
-              ap (λ (o : Option (Vec RowWish Global)). unwrap_or o row) (sym at ∙ subst P same there) in
-              let Q = λ (v : Vec RowWish Global). AreHoused (is_proposed_at l) nobody v.items
+              ap (λ (o : Option (List RowWish)). unwrap_or o row) (sym at ∙ subst P same there) in
+              let Q = λ (v : List RowWish). AreHoused (is_proposed_at l) nobody v
               (slice_index free i) over xs in
               let own : get_or (housed ++ xs ∷ []) i [] ≡ xs =
               ap (λ (n : ℕ). get_or (housed ++ xs ∷ []) n []) (sym to.so_many) ∙ last_read housed xs in

@@ -1,9 +1,8 @@
 -- Who has a bed where a bar falls.
 use Rattle.std.proofs.Common.{ℕ, ◌≤◌, ◌<◌, ◌≡◌, ◌≢◌, Bool, true, false, not, ◌&&◌, ◌||◌, List, [], length, inl, inr}
 use Rattle.std.proofs.Common.{refl, sym}
-use Rattle.std.proofs.Common.{◌∙◌, ap, arith, get_or, nat_le, nat_lt, Option, Some, None, Vec, subst}
+use Rattle.std.proofs.Common.{◌∙◌, ap, arith, get_or, nat_le, nat_lt, Option, Some, None, subst}
 use Rattle.std.specs.Prelude.{slice_get, slice_index}
-use Rattle.std.specs.declared.alloc.Global.{Global}
 use Rattle.std.proofs.Math.ListN.{set}
 use Rattle.std.proofs.lemmas.Bool.{cases_eq, cases_lt, and_parts, and_from, leb-true, le-leb}
 use Rattle.std.proofs.lemmas.List.{get_or-set_same, get_or-set_other, length-set}
@@ -38,10 +37,10 @@ within_all : (over : Option ℕ) → within (λ r. true) over ≡ over
 within_all None = refl
 within_all (Some o) = refl
 
-module _ (old new : LinksRow) (bars free : List ℕ) (rows : List (Vec RowWish Global)) (i to : ℕ)
+module _ (old new : LinksRow) (bars free : List ℕ) (rows : List (List RowWish)) (i to : ℕ)
     (lt : i < length bars) (le : to ≤ slice_index bars i) (right : IsRound old bars free rows)
-    (row kept_row : Vec RowWish Global) (found : slice_get rows i ≡ Some row) (state : new.state ≡ old.state)
-    (orders : new.orders ≡ old.orders) (cut : CutsAt to row.items old.opens kept_row.items new.opens)
+    (row kept_row : List RowWish) (found : slice_get rows i ≡ Some row) (state : new.state ≡ old.state)
+    (orders : new.orders ≡ old.orders) (cut : CutsAt to row old.opens kept_row new.opens)
     (now_right : IsRound new (set bars i to) free (set rows i kept_row)) (marked after : List Bool)
     (long : length marked ≡ length old.state.dossier.wishes)
     (marks : MarksWishes old.state (is_new old.state (set bars i to) old new) marked after) where
@@ -67,8 +66,8 @@ module _ (old new : LinksRow) (bars free : List ℕ) (rows : List (Vec RowWish G
     pub stays : is_proposed_at old x.wish ≡ true → is_proposed_at new x.wish ≡ true
     pub fresh : is_proposed_at new x.wish ≡ true → is_proposed_at old x.wish ≡ false → get_or after x.wish false ≡ true
 
-  item : (g : ℕ) (now_row : Vec RowWish Global) → slice_get (set rows i kept_row) g ≡ Some now_row → (k : ℕ)
-      (x : RowWish) → slice_get now_row.items k ≡ Some x → Item x
+  item : (g : ℕ) (now_row : List RowWish) → slice_get (set rows i kept_row) g ≡ Some now_row → (k : ℕ)
+      (x : RowWish) → slice_get now_row k ≡ Some x → Item x
   item g now_row at k x there =
       let (w, m, waits) = (now_right.rows_are g now_row at).each k x there in
       let P = λ (t : State). slice_get (entries t) x.wish ≡ Some (w, m) in
@@ -102,23 +101,23 @@ module _ (old new : LinksRow) (bars free : List ℕ) (rows : List (Vec RowWish G
     abbrev q : ℕ → Bool
     q r = nat_le r to
 
-    fallen_own : AreHoused (is_proposed_at new) (λ k. get_or after k false) kept_row.items (slice_index free i)
+    fallen_own : AreHoused (is_proposed_at new) (λ k. get_or after k false) kept_row (slice_index free i)
         (within q (get_or overs i None)) (kept q (get_or housed i []))
     fallen_own =
         let now_found : slice_get (set rows i kept_row) i ≡ Some kept_row = set_here rows i kept_row row found in
         let own = right.rows_are i row found in
         let now_own = now_right.rows_are i kept_row now_found in
         let P = λ (xs : List RowWish). (k : ℕ) (x : RowWish) → slice_get xs k ≡ Some x → (k < cut.end)
-        × (slice_get row.items k ≡ Some x) in
-        let in_row : (k : ℕ) (x : RowWish) → slice_get kept_row.items k ≡ Some x → (k < cut.end)
-        × (slice_get row.items k ≡ Some x) = subst P (sym cut.kept_is) (in_front row.items cut.end) in
-        housed_fallen (is_proposed_at old) (is_proposed_at new) (λ k. get_or after k false) row.items kept_row.items
-        (rises_row row.items own.rises) (rises_row kept_row.items now_own.rises) (slice_index free i) q
+        × (slice_get row k ≡ Some x) in
+        let in_row : (k : ℕ) (x : RowWish) → slice_get kept_row k ≡ Some x → (k < cut.end)
+        × (slice_get row k ≡ Some x) = subst P (sym cut.kept_is) (in_front row cut.end) in
+        housed_fallen (is_proposed_at old) (is_proposed_at new) (λ k. get_or after k false) row kept_row
+        (rises_row row own.rises) (rises_row kept_row now_own.rises) (slice_index free i) q
         (λ r o less t. le-leb r to (omega (arith, less, leb-true o to t)))
         (λ k x at stay. elim (cases_lt k cut.end) [
           | inl before ↦
               let Q = λ (xs : List RowWish). slice_get xs k ≡ Some x in
-              (k, subst Q (sym cut.kept_is) (front_at row.items cut.end k x before at))
+              (k, subst Q (sym cut.kept_is) (front_at row cut.end k x before at))
           | inr behind ↦ absurd (omega (arith, leb-true x.rank to stay, cut.past k x behind at))
         ])
         (λ j x at.
@@ -131,28 +130,28 @@ module _ (old new : LinksRow) (bars free : List ℕ) (rows : List (Vec RowWish G
         same_bar : slice_index low i ≡ to
         same_bar = get_or-set_same bars i to 0 lt
 
-        set_here : (rs : List (Vec RowWish Global)) (n : ℕ) (new_row old_row : Vec RowWish Global)
+        set_here : (rs : List (List RowWish)) (n : ℕ) (new_row old_row : List RowWish)
             → slice_get rs n ≡ Some old_row → slice_get (set rs n new_row) n ≡ Some new_row
         set_here rs n new_row old_row at =
             slice_get_read (set rs n new_row) (length rs) n new_row (sym (length-set rs n new_row))
             (slice_get_within rs n old_row at)
             (sym (get_or-set_same rs n new_row new_row (slice_get_within rs n old_row at)))
 
-    fallen_other : (g : ℕ) → g ≢ i → (own : Vec RowWish Global) → slice_get (set rows i kept_row) g ≡ Some own
-        → AreHoused (is_proposed_at new) (λ k. get_or after k false) own.items (slice_index free g)
+    fallen_other : (g : ℕ) → g ≢ i → (own : List RowWish) → slice_get (set rows i kept_row) g ≡ Some own
+        → AreHoused (is_proposed_at new) (λ k. get_or after k false) own (slice_index free g)
         (get_or overs g None) (get_or housed g [])
     fallen_other g differ own at =
         let there = get_set_other rows i g kept_row own differ at in
         let its = right.rows_are g own there in
         let over = get_or overs g None in
         let xs = get_or housed g [] in
-        let P = λ (o : Option ℕ). AreHoused (is_proposed_at new) (λ k. get_or after k false) own.items
+        let P = λ (o : Option ℕ). AreHoused (is_proposed_at new) (λ k. get_or after k false) own
         (slice_index free g) o xs in
-        let Q = λ (ys : List Rung). AreHoused (is_proposed_at new) (λ k. get_or after k false) own.items
+        let Q = λ (ys : List Rung). AreHoused (is_proposed_at new) (λ k. get_or after k false) own
         (slice_index free g) (within (λ r. true) over) ys in
         subst P (within_all over) (subst Q (kept_all (λ r. true) xs (λ r t. refl))
-        (housed_fallen (is_proposed_at old) (is_proposed_at new) (λ k. get_or after k false) own.items own.items
-        (rises_row own.items its.rises) (rises_row own.items its.rises) (slice_index free g) (λ r. true)
+        (housed_fallen (is_proposed_at old) (is_proposed_at new) (λ k. get_or after k false) own own
+        (rises_row own its.rises) (rises_row own its.rises) (slice_index free g) (λ r. true)
         (λ r o less t. refl) (λ k x here stay. (k, here)) (λ j x here. (j, here, refl))
         (λ j x here. (item g own at j x here).stays) (λ j x here. (item g own at j x here).fresh)
         over xs (all.each g own there)))
@@ -172,7 +171,7 @@ module _ (old new : LinksRow) (bars free : List ℕ) (rows : List (Vec RowWish G
             | inl here ↦
                 let P = λ (n : ℕ). slice_get (set rows i kept_row) n ≡ Some own in
                 let same : kept_row ≡ own = get_set_here rows i kept_row own (subst P here at) in
-                let Q = λ (v : Vec RowWish Global). AreHoused (is_proposed_at new) (λ k. get_or after k false) v.items
+                let Q = λ (v : List RowWish). AreHoused (is_proposed_at new) (λ k. get_or after k false) v
                 (slice_index free i) (within q (get_or overs i None)) (kept q (get_or housed i [])) in
                 rw (
                   here,

@@ -16,11 +16,12 @@ use Rattle.linked_demand.specs.declared.housed.Rung.{Rung}
 use Rattle.linked_demand.specs.Demand.{counted, is_proposed_at}
 use Rattle.linked_demand.specs.Housed.{ranks_of, housed_in, reached, last_rank, AreNoted, AreHoused}
 use Rattle.linked_demand.specs.Links.{LinksRow}
-use Rattle.linked_demand.specs.Rows.{AreOpen, RanksRise, row_item}
+use Rattle.linked_demand.specs.Rows.{needs_bed, row_in, row_item, AreOpen, RanksRise}
 use Rattle.linked_demand.proofs.Demanded.{Rises, rises_row}
 use Rattle.linked_demand.proofs.Falling.{in_front, front_at}
 use Rattle.linked_demand.proofs.HousedRows.{left_others, housed_by, demands_rank, demander_of}
 use Rattle.linked_demand.proofs.HousedWishes.{Houses}
+use Rattle.linked_demand.proofs.Passing.{no_more, one_more, passing, passing_all, passing_at}
 use Rattle.linked_demand.proofs.Rungs.{among_push, housed_same, last_known, ranks_noted, rises_push}
 
 -- a rank that is reached
@@ -264,34 +265,72 @@ module _ (p : ℕ → Bool) (row : List RowWish) (rises : RanksRise row) (free :
           full = to_here.full;
         }
 
--- the same of an item that is read of an open row
-module _ (links : LinksRow) (row : List RowWish) (items : AreOpen links row) (rises : RanksRise row) (free i : ℕ)
-    (d : RowWish) (lt : i < length row) (xs now : List Rung)
-    (to : IsHousedTo (is_proposed_at links) row free i xs) (now_is : now ≡ reached (get_or row i d).rank xs) where
+-- the same while the first boarders of a school are gone along, of whom some are in its row
+module _ (links : LinksRow) (front : List RowWish) (items : AreOpen links (row_in links.state front))
+    (rises : RanksRise (row_in links.state front)) (free i : ℕ) (d : RowWish) (lt : i < length front)
+    (xs : List Rung) (to : IsHousedTo (is_proposed_at links) (row_in links.state front) free
+    (passing (needs_bed links.state) front i) xs) where
+  abbrev q : RowWish → Bool
+  q = needs_bed links.state
+
+  abbrev row : List RowWish
+  row = row_in links.state front
+
   abbrev y : RowWish
-  y = get_or row i d
+  y = get_or front i d
 
-  here : slice_get row i ≡ Some y
-  here = slice_get-get_or row i d lt
+  at : slice_get front i ≡ Some y
+  at = slice_get-get_or front i d lt
 
-  one_rank : (j : ℕ) (x : RowWish) → slice_get row j ≡ Some x → x.wish ≡ y.wish → x.rank ≡ y.rank
-  one_rank j x at same =
-      ap (λ (z : RowWish). z.rank) (items j x at).item
-      ∙ ap (λ (k : ℕ). (row_item links.state links.orders k).rank) same
-      ∙ sym (ap (λ (z : RowWish). z.rank) (items i y here).item)
+  -- one who is not in the row is passed over
+  pub skipped : q y ≡ false → IsHousedTo (is_proposed_at links) row free (passing q front (i + 1)) xs
+  skipped none =
+      let P = λ (n : ℕ). IsHousedTo (is_proposed_at links) row free n xs in
+      subst P (sym (no_more q front i (i + 1) y at refl none)) to
 
-  pub read_over : is_proposed_at links y.wish ≡ false → IsHousedTo (is_proposed_at links) row free (i + 1) now
-  read_over fails =
-      let P = λ (zs : List Rung). IsHousedTo (is_proposed_at links) row free (i + 1) zs in
-      subst P (sym now_is) (passed_over (is_proposed_at links) row rises free i y here xs to one_rank fails)
+  module _ (needs : q y ≡ true) (now : List Rung) (now_is : now ≡ reached y.rank xs) where
+    here : slice_get row (passing q front i) ≡ Some y
+    here = passing_at q front i y at needs
 
-  module _ (pass : is_proposed_at links y.wish ≡ true) (o : Option ℕ) (ys : List Rung)
-      (houses : Houses free y.rank now ys o) where
-    houses_now : Houses free y.rank (reached y.rank xs) ys o
-    houses_now = let P = λ (zs : List Rung). Houses free y.rank zs ys o in subst P now_is houses
+    next : (zs : List Rung) → IsHousedTo (is_proposed_at links) row free (passing q front i + 1) zs
+        → IsHousedTo (is_proposed_at links) row free (passing q front (i + 1)) zs
+    next zs =
+        let P = λ (n : ℕ). IsHousedTo (is_proposed_at links) row free n zs in
+        subst P (sym (one_more q front i (i + 1) y at refl needs))
 
-    pub read_has : is_some o ≡ false → IsHousedTo (is_proposed_at links) row free (i + 1) ys
-    read_has none = has_bed (is_proposed_at links) row rises free i y here xs to one_rank pass o ys none houses_now
+    one_rank : (j : ℕ) (x : RowWish) → slice_get row j ≡ Some x → x.wish ≡ y.wish → x.rank ≡ y.rank
+    one_rank j x there same =
+        ap (λ (z : RowWish). z.rank) (items j x there).item
+        ∙ ap (λ (k : ℕ). (row_item links.state links.orders k).rank) same
+        ∙ sym (ap (λ (z : RowWish). z.rank) (items (passing q front i) y here).item)
 
-    pub read_none : is_some o ≡ true → AreHoused (is_proposed_at links) nobody row free o ys
-    read_none some = has_none (is_proposed_at links) row rises free i y here xs to one_rank pass o ys some houses_now
+    pub read_over : is_proposed_at links y.wish ≡ false
+        → IsHousedTo (is_proposed_at links) row free (passing q front (i + 1)) now
+    read_over fails =
+        let P = λ (zs : List Rung). IsHousedTo (is_proposed_at links) row free (passing q front (i + 1)) zs in
+        subst P (sym now_is) (next (reached y.rank xs)
+        (passed_over (is_proposed_at links) row rises free (passing q front i) y here xs to one_rank fails))
+
+    module _ (pass : is_proposed_at links y.wish ≡ true) (o : Option ℕ) (ys : List Rung)
+        (houses : Houses free y.rank now ys o) where
+      houses_now : Houses free y.rank (reached y.rank xs) ys o
+      houses_now = let P = λ (zs : List Rung). Houses free y.rank zs ys o in subst P now_is houses
+
+      pub read_has : is_some o ≡ false → IsHousedTo (is_proposed_at links) row free (passing q front (i + 1)) ys
+      read_has none =
+          next ys (has_bed (is_proposed_at links) row rises free (passing q front i) y here xs to one_rank pass o ys
+          none houses_now)
+
+      pub read_none : is_some o ≡ true → AreHoused (is_proposed_at links) nobody row free o ys
+      read_none some =
+          has_none (is_proposed_at links) row rises free (passing q front i) y here xs to one_rank pass o ys some
+          houses_now
+
+pub all_of_front : (links : LinksRow) (front : List RowWish) (free i : ℕ) (xs : List Rung) → length front ≤ i
+    → IsHousedTo (is_proposed_at links) (row_in links.state front) free (passing (needs_bed links.state) front i) xs
+    → RanksRise (row_in links.state front)
+    → AreHoused (is_proposed_at links) nobody (row_in links.state front) free None xs
+all_of_front links front free i xs le to rises =
+    let row = row_in links.state front in
+    let all = passing_all (needs_bed links.state) front i le in
+    all_housed (is_proposed_at links) row rises free (passing (needs_bed links.state) front i) xs (omega (arith, all)) to

@@ -1,8 +1,7 @@
 -- The marked wishes are looked at one after another.
 use Rattle.std.proofs.Common.{ℕ, zero, suc, ◌≡◌, Bool, true, false, not, ◌&&◌, List, [], length, inl, inr, refl, sym}
 use Rattle.std.proofs.Common.{◌∙◌}
-use Rattle.std.proofs.Common.{ap, get_or, nat_eq, Option, None, Vec, replicate}
-use Rattle.std.specs.declared.alloc.Global.{Global}
+use Rattle.std.proofs.Common.{ap, get_or, nat_eq, Option, None, replicate}
 use Rattle.std.proofs.Math.ListN.{set}
 use Rattle.std.proofs.lemmas.Bool.{cases_Bool, eqb-false, and_left, and_right}
 use Rattle.std.proofs.lemmas.List.{get_or-set_other, length-set}
@@ -15,7 +14,7 @@ use Rattle.linked_demand.specs.Rounds.{IsRound}
 use Rattle.linked_demand.proofs.HousedRows.{left_others}
 
 -- other wishes are left in all schools
-pub all_left : (l : LinksRow) (left other : ℕ → Bool) (rows : List (Vec RowWish Global)) (free : List ℕ)
+pub all_left : (l : LinksRow) (left other : ℕ → Bool) (rows : List (List RowWish)) (free : List ℕ)
     (overs : List (Option ℕ)) (housed : List (List Rung)) → ((k : ℕ) → other k ≡ false → left k ≡ false)
     → AllHoused l left rows free overs housed → AllHoused l other rows free overs housed
 all_left l left other rows free overs housed each all = record {
@@ -24,7 +23,7 @@ all_left l left other rows free overs housed each all = record {
   each = λ h row at.
       let are = all.each h row at in
       record {
-        noted_are = left_others (is_proposed_at l) row.items (get_or overs h None) (get_or housed h []) left other
+        noted_are = left_others (is_proposed_at l) row (get_or overs h None) (get_or housed h []) left other
             are.noted_are (λ k x there pass none some. each x.wish none);
         few = are.few;
         demanded = are.demanded;
@@ -38,7 +37,7 @@ pub record IsWalked (l : LinksRow) (free : List ℕ) (old now : List Bool) (over
   pub marks_long : length now ≡ length old
   pub overs_long : length overs_now ≡ length overs
   pub housed_long : length housed_now ≡ length housed
-  pub all : (bars : List ℕ) (rows : List (Vec RowWish Global)) → IsRound l bars free rows
+  pub all : (bars : List ℕ) (rows : List (List RowWish)) → IsRound l bars free rows
       → AllHoused l (λ k. get_or old k false) rows free overs housed
       → AllHoused l (λ k. get_or now k false) rows free overs_now housed_now
 
@@ -65,7 +64,7 @@ module _ (l : LinksRow) (free : List ℕ) (old now : List Bool) (overs overs_now
   pub walk_step : (w : ℕ) → get_or now w false ≡ true → (marks : List Bool) → marks ≡ set now w false
       → (overs_then : List (Option ℕ)) (housed_then : List (List Rung)) → length overs_then ≡ length overs_now
       → length housed_then ≡ length housed_now
-      → ((bars : List ℕ) (rows : List (Vec RowWish Global)) (left : ℕ → Bool) → IsRound l bars free rows
+      → ((bars : List ℕ) (rows : List (List RowWish)) (left : ℕ → Bool) → IsRound l bars free rows
       → AllHoused l left rows free overs_now housed_now
       → AllHoused l (λ k. left k && not (nat_eq k w)) rows free overs_then housed_then)
       → IsWalked l free old marks overs overs_then housed housed_then
@@ -84,7 +83,7 @@ module _ (l : LinksRow) (free : List ℕ) (old now : List Bool) (overs overs_now
   none_set (suc n) zero = refl
   none_set (suc n) (suc h) = none_set n h
 
-  pub walk_end : now ≡ replicate (length now) false → (bars : List ℕ) (rows : List (Vec RowWish Global))
+  pub walk_end : now ≡ replicate (length now) false → (bars : List ℕ) (rows : List (List RowWish))
       → IsRound l bars free rows → AllHoused l (λ k. get_or old k false) rows free overs housed
       → AllHoused l (λ k. false) rows free overs_now housed_now
   walk_end none bars rows right all =

@@ -1,5 +1,5 @@
 -- The demanded ranks of a row that have a bed, while wishes are looked at and bars fall.
-use Rattle.std.proofs.Common.{ℕ, ◌+◌, ◌≤◌, ◌<◌, ◌≡◌, ◌⊎◌, Bool, true, false, ◌&&◌, List, [], ◌∷◌, ◌++◌}
+use Rattle.std.proofs.Common.{ℕ, ◌+◌, ◌≤◌, ◌<◌, ◌≡◌, ◌⊎◌, Bool, true, false, ◌&&◌, List, [], ◌∷◌}
 use Rattle.std.proofs.Common.{length, filter, inl, inr, refl, sym, ◌∙◌, ap, arith, nat_eq, nat_lt, Some, None, Option}
 use Rattle.std.proofs.Common.{subst}
 use Rattle.std.proofs.Common.{suc, unwrap_or, is_some}
@@ -206,7 +206,7 @@ number_below o n (m ∷ ms) is up t =
     none_below k l [] le all = refl
     none_below k l (j ∷ ks) le all = rw (le-ltb j k (omega (arith, le, all.0))) (none_below k l ks le all.1)
 
-filter_among : (q : ℕ → Bool) (r : ℕ) (ns : List ℕ) → is_among r (filter q ns) ≡ (is_among r ns && q r)
+pub filter_among : (q : ℕ → Bool) (r : ℕ) (ns : List ℕ) → is_among r (filter q ns) ≡ (is_among r ns && q r)
 filter_among q r [] = refl
 filter_among q r (m ∷ ms) =
     elim (cases_Bool (q m)) [

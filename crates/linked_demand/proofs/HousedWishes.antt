@@ -1,10 +1,9 @@
 -- A wish is looked at, and houses its rank where it demands a bed.
 use Rattle.std.proofs.Common.{ℕ, ◌<◌, ◌≤◌, ◌≡◌, ◌≢◌, ◌⊎◌, Bool, true, false, not, ◌&&◌, List, [], length, inl, inr}
 use Rattle.std.proofs.Common.{refl, sym, ◌∙◌}
-use Rattle.std.proofs.Common.{ap, get_or, nat_eq, Option, Some, None, subst, Vec, is_some, unwrap_or}
+use Rattle.std.proofs.Common.{ap, get_or, nat_eq, Option, Some, None, subst, is_some, unwrap_or}
 use Rattle.std.specs.Prelude.{slice_get, slice_index, if◌then◌else◌, IfSome, IfNone}
 use Rattle.std.specs.Option.{option_or}
-use Rattle.std.specs.declared.alloc.Global.{Global}
 use Rattle.std.proofs.Math.ListN.{set}
 use Rattle.std.proofs.lemmas.Bool.{cases_eq, false≢true, and_parts, and_from, eq-eqb, eqb-true, lt-ltb}
 use Rattle.std.proofs.lemmas.List.{get_or-set_same, get_or-set_other, get_or_read, length-set}
@@ -68,7 +67,7 @@ houses_read beds rank own h old ys o housed lt is read houses =
     let Q = λ (xs : List Rung). Houses beds own xs ys o in
     subst Q (get_or_read housed h old lt read []) (subst P is houses)
 
-module _ (links : LinksRow) (bars free : List ℕ) (rows : List (Vec RowWish Global)) (left : ℕ → Bool)
+module _ (links : LinksRow) (bars free : List ℕ) (rows : List (List RowWish)) (left : ℕ → Bool)
     (right : IsRound links bars free rows) (w : ℕ) (lt : w < length links.state.dossier.wishes) where
   abbrev s : State
   s = links.state
@@ -89,8 +88,8 @@ module _ (links : LinksRow) (bars free : List ℕ) (rows : List (Vec RowWish Glo
   entry = entry_there s.dossier.wishes s.marks w right.marks_each lt
 
   -- the wish in a row
-  own_rank : (g : ℕ) (row : Vec RowWish Global) → slice_get rows g ≡ Some row → (k : ℕ) (x : RowWish)
-      → slice_get row.items k ≡ Some x → x.wish ≡ w → (x.rank ≡ wish.board_rank) × (has_school wish g ≡ true)
+  own_rank : (g : ℕ) (row : List RowWish) → slice_get rows g ≡ Some row → (k : ℕ) (x : RowWish)
+      → slice_get row k ≡ Some x → x.wish ≡ w → (x.rank ≡ wish.board_rank) × (has_school wish g ≡ true)
   own_rank g row at k x there is =
       let (v, m, waits) = (right.rows_are g row at).each k x there in
       let P = λ (n : ℕ). slice_get (entries s) n ≡ Some (v, m) in
@@ -101,8 +100,8 @@ module _ (links : LinksRow) (bars free : List ℕ) (rows : List (Vec RowWish Glo
       )
 
   -- a wish in a row that is proposed seeks a bed there
-  seeks : (g : ℕ) (row : Vec RowWish Global) → slice_get rows g ≡ Some row → (k : ℕ) (x : RowWish)
-      → slice_get row.items k ≡ Some x → x.wish ≡ w → p x.wish ≡ true → bed_sought links w ≡ wish.school
+  seeks : (g : ℕ) (row : List RowWish) → slice_get rows g ≡ Some row → (k : ℕ) (x : RowWish)
+      → slice_get row k ≡ Some x → x.wish ≡ w → p x.wish ≡ true → bed_sought links w ≡ wish.school
   seeks g row at k x there is pass =
       let (v, m, waits) = (right.rows_are g row at).each k x there in
       let P = λ (n : ℕ). slice_get (entries s) n ≡ Some (v, m) in
@@ -128,7 +127,7 @@ module _ (links : LinksRow) (bars free : List ℕ) (rows : List (Vec RowWish Glo
       each = λ g row at.
           let are = all.each g row at in
           record {
-            noted_are = left_others p row.items (get_or overs g None) (get_or housed g []) left other are.noted_are
+            noted_are = left_others p row (get_or overs g None) (get_or housed g []) left other are.noted_are
                 (λ k x there pass unmarked some. elim (left_parts (left x.wish) (nat_eq x.wish w) unmarked) [
                   | inl before ↦ before
                   | inr here ↦
@@ -163,10 +162,10 @@ module _ (links : LinksRow) (bars free : List ℕ) (rows : List (Vec RowWish Glo
       demands some =
           rw (has, no_bed, proposed, eq-eqb wish.board_rank wish.board_rank refl, lt-ltb 0 wish.board_rank some) refl
 
-      own_demanded : (row : Vec RowWish Global) → slice_get rows h ≡ Some row → 0 < wish.board_rank
-          → is_among wish.board_rank (counted p 0 row.items) ≡ true
+      own_demanded : (row : List RowWish) → slice_get rows h ≡ Some row → 0 < wish.board_rank
+          → is_among wish.board_rank (counted p 0 row) ≡ true
       own_demanded row at some =
-          ap (is_among wish.board_rank) (ranks_told links bars h row.items (right.rows_are h row at) right.opens_are)
+          ap (is_among wish.board_rank) (ranks_told links bars h row (right.rows_are h row at) right.opens_are)
           ∙ demanded s links.orders bars h wish.board_rank
           ∙ any_at (demands_at s links.orders bars h wish.board_rank) (entries s) w (wish, mark) entry (demands some)
 
@@ -183,7 +182,7 @@ module _ (links : LinksRow) (bars free : List ℕ) (rows : List (Vec RowWish Glo
               let P = λ (n : ℕ). slice_get rows n ≡ Some row in
               let own = subst P same at in
               rw (same, here, get_or-set_same housed h ys [] h_lt)
-              (housed_by p left other row.items (slice_index free h) (get_or overs h None) (get_or housed h [])
+              (housed_by p left other row (slice_index free h) (get_or overs h None) (get_or housed h [])
               wish.board_rank (all.each h row own) (own_demanded row own)
               (λ k x there pass unmarked some. elim (left_parts (left x.wish) (nat_eq x.wish w) unmarked) [
                 | inl before ↦ inl before
@@ -192,7 +191,7 @@ module _ (links : LinksRow) (bars free : List ℕ) (rows : List (Vec RowWish Glo
           | inr differ ↦
               let are = all.each g row at in
               rw (others g differ, get_or-set_other housed h g ys [] differ) (record {
-                noted_are = left_others p row.items (get_or overs g None) (get_or housed g []) left other are.noted_are
+                noted_are = left_others p row (get_or overs g None) (get_or housed g []) left other are.noted_are
                     (λ k x there pass unmarked some. elim (left_parts (left x.wish) (nat_eq x.wish w) unmarked) [
                       | inl before ↦ before
                       | inr now ↦

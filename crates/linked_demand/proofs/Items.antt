@@ -1,8 +1,8 @@
--- What an item of a row keeps of its wish: the place of its candidate in the line, and whether they need a seat.
+-- What is kept of a wish with a school, and what it says where the wish is open or closed.
 use Rattle.std.proofs.Common.{ℕ, ◌<◌, ◌≡◌, Bool, true, false, ◌&&◌, ◌||◌, List, [], length, get_or, refl, sym, ◌∙◌, ap}
-use Rattle.std.proofs.Common.{arith, nat_eq, nat_lt, subst}
+use Rattle.std.proofs.Common.{arith, nat_eq, nat_lt, subst, Some}
 use Rattle.std.proofs.Math.ListN.{set}
-use Rattle.std.specs.Prelude.{slice_index, All}
+use Rattle.std.specs.Prelude.{slice_get, slice_index, All}
 use Rattle.std.specs.List.{position_or_len}
 use Rattle.std.proofs.Math.Bool.{or_comm}
 use Rattle.std.proofs.lemmas.Bool.{eq-eqb, ne_eqb}
@@ -12,7 +12,6 @@ use Rattle.admit_core.specs.declared.dossier.Wish.{Wish}
 use Rattle.admit_core.specs.declared.state.Mark.{Mark}
 use Rattle.admit_core.specs.declared.ranking.CallOrder.{CallOrder}
 use Rattle.admit_core.specs.DossierRows.{DossierRows}
-use Rattle.admit_core.specs.Proposals.{needs_no_seat}
 use Rattle.admit_core.specs.State.{State, holds_seat}
 use Rattle.day_state.specs.Kept.{has_seat_there, wish_in}
 use Rattle.linked_demand.specs.declared.boarders.Boarder.{Boarder}
@@ -22,7 +21,7 @@ use Rattle.linked_demand.specs.Demand.{is_proposed_at}
 use Rattle.linked_demand.specs.Line.{LineRow, is_reached}
 use Rattle.linked_demand.specs.Links.{IsLinked, IsPlaceOf, IsSeatPlace, LinksRow, WaitsAt}
 use Rattle.linked_demand.specs.Opens.{line_of}
-use Rattle.linked_demand.specs.Rows.{is_sure, line_place, row_item}
+use Rattle.linked_demand.specs.Rows.{item_at, line_place, row_item}
 use Rattle.linked_demand.specs.Wants.{IsReached, stops_wanting, wants_with}
 use Rattle.linked_demand.proofs.Closing.{Closes, claim_right, closes_read, proposed_at_is, proposed_right, wish_of}
 use Rattle.linked_demand.proofs.Closing.{wish_there, wish_within}
@@ -40,37 +39,24 @@ place_is c xs k at =
 abbrev pub wish_of_item : DossierRows → RowWish → Wish
 wish_of_item d x = record (wish_in d.wishes x.wish) { programme = x.programme }
 
+-- what is made of a boarder
+pub item_made : (d : DossierRows) (orders : List CallOrder) (places : List ℕ)
+    → ((i : ℕ) (w : Wish) → slice_get d.wishes i ≡ Some w → IsSeatPlace d orders w (slice_index places i))
+    → (b : Boarder) → IsBoarder d b → (place : ℕ) → place ≡ slice_index places b.wish
+    → record { rank = b.rank; wish = b.wish; programme = b.programme; place = place } ≡ item_at d orders b.wish
+item_made d orders places places_are b right place read =
+    let w = wish_in d.wishes b.wish in
+    let at = wish_there d.wishes b.wish w right.within refl in
+    let place_now : place ≡ line_place d orders w =
+    read
+    ∙ sym (place_is w.candidate (line_of d orders w.programme) (slice_index places b.wish)
+    (places_are b.wish w at)) in
+    λ i. record { rank = right.rank i; wish = b.wish; programme = right.programme i; place = place_now i }
+
 module _ {s : State} {orders : List CallOrder} {opens : List Bool} {lines : List LineRow}
     {claims : List (List (List ℕ))} {places : List ℕ} {sure : List Bool}
     (links : IsLinked s orders opens lines claims places sure) (row : LinksRow)
     (is : record { state = s; orders = orders; opens = opens } ≡ row) where
-  -- what is made of a boarder
-  pub item_made : (b : Boarder) → IsBoarder row.state.dossier b → (place : ℕ) (flag : Bool)
-      → place ≡ slice_index places b.wish → flag ≡ is_sure row.state row.orders b.wish
-      → record { rank = b.rank; wish = b.wish; programme = b.programme; place = place; sure = flag }
-      ≡ row_item row.state row.orders b.wish
-  item_made b right place flag place_read flag_read =
-      let P = λ (r : LinksRow). IsBoarder r.state.dossier b in
-      let here : IsBoarder s.dossier b = subst P (sym is) right in
-      let w = wish_in s.dossier.wishes b.wish in
-      let at = wish_there s.dossier.wishes b.wish w here.within refl in
-      let place_now : place ≡ line_place s.dossier orders w =
-      place_read
-      ∙ sym (place_is w.candidate (line_of s.dossier orders w.programme) (slice_index places b.wish)
-      (links.places_are b.wish w at)) in
-      let flag_now : flag ≡ needs_no_seat s orders w =
-      flag_read ∙ ap (λ (r : LinksRow). is_sure r.state r.orders b.wish) (sym is) in
-      let made : record { rank = b.rank; wish = b.wish; programme = b.programme; place = place; sure = flag }
-      ≡ row_item s orders b.wish =
-      λ i. record {
-        rank = here.rank i;
-        wish = b.wish;
-        programme = here.programme i;
-        place = place_now i;
-        sure = flag_now i;
-      } in
-      made ∙ ap (λ (r : LinksRow). row_item r.state r.orders b.wish) is
-
   module _ (x : RowWish) (waits : (w : Wish) × (m : Mark) × WaitsAt row.state x.wish w m)
       (item : x ≡ row_item row.state row.orders x.wish) where
     item_here : x ≡ row_item s orders x.wish
@@ -112,28 +98,25 @@ module _ {s : State} {orders : List CallOrder} {opens : List Bool} {lines : List
     -- where it is open, it says whether it is proposed
     pub item_proposed : get_or row.opens x.wish false ≡ true → (line : LineRow) → line ≡ get_or lines x.programme line
         → (reached served : Bool) → reached ≡ is_reached line x.place
-        → served ≡ (reached || x.sure) → served ≡ is_proposed_at row x.wish
+        → served ≡ (reached || get_or sure x.wish false) → served ≡ is_proposed_at row x.wish
     item_proposed opened line line_read reached served by served_is =
         let w = wish_of_item s.dossier x in
         let k = closes_item in
-        let found = wish_of s.dossier.wishes s.marks x.wish w k.mark k.at.here in
         let lt : x.wish < length s.dossier.wishes = wish_within k in
         let flag : Bool = get_or opens x.wish false in
         let set : flag ≡ true = let P = λ (r : LinksRow). get_or r.opens x.wish false ≡ true in
         subst P (sym is) opened in
-        let sure_is : x.sure ≡ get_or sure x.wish x.sure =
-        ap (λ (y : RowWish). y.sure) item_here
-        ∙ ap (needs_no_seat s orders) (sym kept)
-        ∙ sym (links.sure_are x.wish w found)
-        ∙ get_or_default sure x.wish false x.sure (omega (arith, lt, links.sure_each)) in
-        let right = proposed_right k x.place item_stands line line_read flag x.sure reached
+        let needs_none : Bool = get_or sure x.wish false in
+        let sure_is : needs_none ≡ get_or sure x.wish needs_none =
+        get_or_default sure x.wish false needs_none (omega (arith, lt, links.sure_each)) in
+        let right = proposed_right k x.place item_stands line line_read flag needs_none reached
         (get_or_default opens x.wish false flag (omega (arith, lt, links.opens_each))) sure_is by in
         let here : LinksRow = record { state = s; orders = orders; opens = opens } in
         let Q = λ (r : LinksRow). served ≡ is_proposed_at r x.wish in
         subst Q is
         (served_is
-        ∙ or_comm reached x.sure
-        ∙ ap (λ (b : Bool). b && (x.sure || reached)) (sym set)
+        ∙ or_comm reached needs_none
+        ∙ ap (λ (b : Bool). b && (needs_none || reached)) (sym set)
         ∙ right
         ∙ sym (proposed_at_is here x.wish w k.mark k.at))
 

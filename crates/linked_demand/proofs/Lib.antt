@@ -1,10 +1,10 @@
 -- Reading order. Each file says in its first line what it shows.
--- Tools: Keeping, Keyed, Dealing, Putting, PlaceOrder, Marked, Counting.
+-- Tools: Keeping, Passing, Keyed, Dealing, Putting, PlaceOrder, Marked, Counting.
 -- The lineup: CalledRows, ClaimSpans, Seating, Lining, Lined.
 -- Open wishes and flags: Opens, Falling, Closing, Flagging, Waiting, AnyOpen, MaybeSure,
 -- Boarding, Askings.
 -- How far seats reach: Reach, Leaving; the proposed wishes: Walking, Fronting, Listing, Fronted.
--- Rows of the schools: Filling, Items, RowSteps, RowFronts, Demanded, Naming.
+-- Rows of the schools: RowsTo, Filling, FirstBoarders, Items, RowSteps, RowFronts, Demanded, Naming.
 -- A wish is closed: Moving, Ticking, Marking, Staying; the end of a row falls: Cutting, Telling.
 -- A bar falls: OneFall, Answered, RoundFalls, TickLaw, Spending.
 -- Who has a bed: Rungs, RungSteps, HousedRows, HousedFronts, HousedAll, HousedWishes, HousedMarks, HousedFalls;
@@ -25,6 +25,7 @@ pub mod Dealing
 pub mod Demanded
 pub mod Falling
 pub mod Filling
+pub mod FirstBoarders
 pub mod Flagging
 pub mod Fronted
 pub mod Fronting
@@ -49,12 +50,14 @@ pub mod Moving
 pub mod Naming
 pub mod OneFall
 pub mod Opens
+pub mod Passing
 pub mod PlaceOrder
 pub mod Putting
 pub mod Reach
 pub mod RoundFalls
 pub mod RowFronts
 pub mod RowSteps
+pub mod RowsTo
 pub mod Rounding
 pub mod RungSteps
 pub mod Rungs

@@ -1,14 +1,15 @@
 -- A round after one of its bars fell, and a round that is built.
-use Rattle.std.proofs.Common.{ℕ, ◌+◌, ◌≤◌, ◌<◌, ◌≡◌, Bool, false, not, ◌&&◌, List, [], map, length, nat_le, refl, sym}
-use Rattle.std.proofs.Common.{◌∙◌, ap, arith, get_or, nat_lt, Option, Some, None, count_by, subst, Vec, unwrap_or}
+use Rattle.std.proofs.Common.{ℕ, ◌+◌, ◌≤◌, ◌<◌, ◌≡◌, Bool, false, not, ◌&&◌, List, [], map, length, nat_le, sym}
+use Rattle.std.proofs.Common.{◌∙◌, ap, arith, get_or, inl, inr, nat_lt, Option, Some, None, count_by, subst, take}
+use Rattle.std.proofs.Common.{unwrap_or, Vec}
+use Rattle.std.specs.declared.alloc.Global.{Global}
 use Rattle.std.specs.Prelude.{slice_get, slice_index, replicate}
 use Rattle.std.specs.List.{enumerate_from, range_with_len}
-use Rattle.std.specs.declared.alloc.Global.{Global}
 use Rattle.std.proofs.Math.ListN.{set}
-use Rattle.std.proofs.lemmas.Bool.{and_from, lt-ltb}
-use Rattle.std.proofs.lemmas.List.{length-replicate}
+use Rattle.std.proofs.lemmas.Bool.{and_from, cases_eq, lt-ltb}
+use Rattle.std.proofs.lemmas.List.{get_or-set_other, get_or-set_same, length-replicate, length-set, length-take-le, take-take}
 use Rattle.std.proofs.lemmas.List.FromFn.{length-map-range_with_len}
-use Rattle.std.proofs.lemmas.Option.{slice_get_read}
+use Rattle.std.proofs.lemmas.Option.{slice_get_within}
 use Rattle.admit_core.specs.declared.dossier.Wish.{Wish}
 use Rattle.admit_core.specs.declared.state.Mark.{Mark}
 use Rattle.admit_core.specs.declared.ranking.CallOrder.{CallOrder}
@@ -17,10 +18,11 @@ use Rattle.admit_core.specs.Proposals.{is_open, proposed}
 use Rattle.admit_core.specs.Boarding.{boarding}
 use Rattle.linked_demand.specs.declared.rows.RowWish.{RowWish}
 use Rattle.linked_demand.specs.declared.housed.Rung.{Rung}
+use Rattle.linked_demand.specs.Boarders.{AreBySchool}
 use Rattle.linked_demand.specs.Links.{LinksRow}
 use Rattle.linked_demand.specs.Opens.{opens_of}
-use Rattle.linked_demand.specs.Rows.{IsRow, AreRows, AllItems, CutsAt, StayOpen}
-use Rattle.linked_demand.specs.Rounds.{Round, IsRound, IsRoundUnder, bar_each}
+use Rattle.linked_demand.specs.Rows.{row_in, rows_to, AllItems, AreEnds, AreFirst, AreRows, CutsAt, IsRow, StayOpen}
+use Rattle.linked_demand.specs.Rounds.{Round, IsRound, IsRoundAlong, IsRoundUnder, bar_each}
 use Rattle.linked_demand.specs.Housed.{AllHoused, kept, within}
 use Rattle.linked_demand.specs.Marks.{is_new, MarksWishes}
 use Rattle.linked_demand.specs.Ticks.{changes_between}
@@ -30,6 +32,7 @@ use Rattle.linked_demand.proofs.HousedFalls.{all_fallen}
 use Rattle.linked_demand.proofs.HousedFronts.{nobody}
 use Rattle.linked_demand.proofs.OneFall.{open_before, past_is_closed}
 use Rattle.linked_demand.proofs.RoundFalls.{round_fallen}
+use Rattle.linked_demand.proofs.RowsTo.{rows_cut}
 use Rattle.linked_demand.proofs.Rounding.{bar_within, falls_seen}
 use Rattle.linked_demand.proofs.Spending.{steps_spent}
 
@@ -37,14 +40,14 @@ use Rattle.linked_demand.proofs.Spending.{steps_spent}
 same_entry : (P : Wish × Mark → Type 0) (e f : Wish × Mark) → Some e ≡ Some f → P e → P f
 same_entry P e f same p = let is : e ≡ f = ap (λ (o : Option (Wish × Mark)). unwrap_or o e) same in subst P is p
 
-pub one_free_each : (links : LinksRow) (bars free : List ℕ) (rows : List (Vec RowWish Global))
+pub one_free_each : (links : LinksRow) (bars free : List ℕ) (rows : List (List RowWish))
     → IsRound links bars free rows → length free ≡ length rows
 one_free_each links bars free rows right =
     ap length right.free_are ∙ length-map-range_with_len (free_beds links.state) 0
     (length links.state.dossier.schools) ∙ sym right.bars_each ∙ sym right.rows_each
 
 -- the rows and links of a state are a round
-pub round_built : (links : LinksRow) (ceilings free : List ℕ) (rows : List (Vec RowWish Global))
+pub round_built : (links : LinksRow) (ceilings free : List ℕ) (rows : List (List RowWish))
     → links.opens ≡ opens_of links.state ceilings → length links.state.marks ≡ length links.state.dossier.wishes
     → length ceilings ≡ length links.state.dossier.schools
     → free ≡ map (free_beds links.state) (range_with_len 0 (length links.state.dossier.schools))
@@ -60,7 +63,7 @@ round_built links ceilings free rows opens long each free_are rows_are items_are
 }
 
 -- a round that is built has all answers
-pub answers_built : (links : LinksRow) (bars free : List ℕ) (rows : List (Vec RowWish Global))
+pub answers_built : (links : LinksRow) (bars free : List ℕ) (rows : List (List RowWish))
     → IsRound links bars free rows → (overfilled : List (Option ℕ)) (marked : List Bool) (housed : List (List Rung))
     → length marked ≡ length links.state.dossier.wishes → AllHoused links nobody rows free overfilled housed
     → IsRoundUnder links bars bars free rows overfilled marked housed
@@ -72,29 +75,26 @@ answers_built links bars free rows right overfilled marked housed long all = rec
   housed_are = all;
 }
 
-module _ (links : LinksRow) (ceilings bars free : List ℕ) (rows : List (Vec RowWish Global))
-    (overfilled : List (Option ℕ)) (marked : List Bool) (housed : List (List Rung)) (seen : Round)
+module _ {links : LinksRow} {ceilings bars free : List ℕ} {rows : List (List RowWish)}
+    {overfilled : List (Option ℕ)} {marked : List Bool} {housed : List (List Rung)} {seen : Round}
     (right : IsRoundUnder links ceilings bars free rows overfilled marked housed)
     (is : record { state = links.state; orders = links.orders; ceilings = ceilings; bars = bars } ≡ seen)
     (i to : ℕ) (lt : i < length seen.ceilings)
-    (falls : to < slice_index (bar_each seen.ceilings seen.bars) i) (row : Vec RowWish Global)
-    (read : row ≡ get_or rows i row) where
+    (falls : to < slice_index (bar_each seen.ceilings seen.bars) i) {row : List RowWish}
+    (found : slice_get rows i ≡ Some row) where
   pub within_bars : i < length bars
-  within_bars = bar_within links ceilings bars free rows overfilled marked housed seen right is i lt
+  within_bars = bar_within right is i lt
 
   le : to ≤ slice_index bars i
   le =
-      let below = falls_seen links ceilings bars free rows overfilled marked housed seen right is i to falls in
+      let below = falls_seen right is i to falls in
       omega (arith, below)
 
-  pub found : slice_get rows i ≡ Some row
-  found = slice_get_read rows (length rows) i row refl (omega (arith, within_bars, right.round.rows_each)) read
-
-  own : IsRow links.state bars i row.items
+  own : IsRow links.state bars i row
   own = right.round.rows_are i row found
 
   -- what is open under the new bars stays open while the row is cut
-  pub stay : (low : List ℕ) → low ≡ set bars i to → StayOpen links low to row.items
+  pub stay : (low : List ℕ) → low ≡ set bars i to → StayOpen links low to row
   stay low low_is = rw low_is (record {
     flagged = λ k e at opens.
         ap (λ (os : List Bool). get_or os k false) right.round.opens_are
@@ -110,10 +110,10 @@ module _ (links : LinksRow) (ceilings bars free : List ℕ) (rows : List (Vec Ro
         same_entry (λ f. is_open links.state (set bars i to) f.0 f.1 ≡ false) (w, m) e entry closed;
   })
 
-  module _ (new : LinksRow) (kept_row : Vec RowWish Global) (state : new.state ≡ links.state)
-      (orders : new.orders ≡ links.orders) (cut : CutsAt to row.items links.opens kept_row.items new.opens) where
+  module _ {new : LinksRow} {kept_row : List RowWish} (state : new.state ≡ links.state)
+      (orders : new.orders ≡ links.orders) (cut : CutsAt to row links.opens kept_row new.opens) where
     pub round_now : IsRound new (set bars i to) free (set rows i kept_row)
-    round_now = round_fallen links bars free i to rows row right.round within_bars read le new kept_row state orders cut
+    round_now = round_fallen links bars free i to rows row right.round within_bars found le new kept_row state orders cut
 
     now_opens : new.opens ≡ opens_of links.state (set bars i to)
     now_opens = round_now.opens_are ∙ ap (λ (s : State). opens_of s (set bars i to)) state
@@ -146,17 +146,17 @@ module _ (links : LinksRow) (ceilings bars free : List ℕ) (rows : List (Vec Ro
 
     -- the steps are the changes
     pub steps_now : (low : List ℕ) → low ≡ set bars i to → (before after : ℕ)
-        → after + length kept_row.items ≡ before + length row.items + count_by
+        → after + length kept_row ≡ before + length row + count_by
         (is_new links.state low links new) (enumerate_from 0 (entries links.state))
         → after ≡ before + changes_between seen.state seen.orders seen.bars (set bars i to)
     steps_now low low_is before after told =
         let P = λ (r : Round). after ≡ before + changes_between r.state r.orders r.bars (set bars i to) in
-        let Q = λ (bs : List ℕ). after + length kept_row.items ≡ before + length row.items + count_by
+        let Q = λ (bs : List ℕ). after + length kept_row ≡ before + length row + count_by
         (is_new links.state bs links new) (enumerate_from 0 (entries links.state)) in
         subst P is (steps_spent links new bars i to within_bars le state orders right.round.opens_are now_opens
-        row.items kept_row.items own cut before after (subst Q low_is told))
+        row kept_row own cut before after (subst Q low_is told))
 
-    module _ (low : List ℕ) (low_is : low ≡ set bars i to) (after : List Bool)
+    module _ {low : List ℕ} (low_is : low ≡ set bars i to) {after : List Bool}
         (marks : MarksWishes links.state (is_new links.state low links new) marked after) where
       pub marks_long : length after ≡ length new.state.dossier.wishes
       marks_long = marks.as_long ∙ right.marked_each ∙ ap (λ (s : State). length s.dossier.wishes) (sym state)
@@ -181,7 +181,7 @@ module _ (links : LinksRow) (ceilings bars free : List ℕ) (rows : List (Vec Ro
       pub lowered : (beds : List ℕ) → beds ≡ free → (overs_cut : List (Option ℕ)) (housed_cut : List (List Rung))
           → overs_cut ≡ over_now → housed_cut ≡ housed_now → (answers : List (Option ℕ)) (last : List Bool)
           → (housed_last : List (List Rung))
-          → ((bs : List ℕ) (rs : List (Vec RowWish Global)) → IsRound new bs beds rs
+          → ((bs : List ℕ) (rs : List (List RowWish)) → IsRound new bs beds rs
           → AllHoused new (λ k. get_or after k false) rs beds overs_cut housed_cut
           → AllHoused new nobody rs beds answers housed_last)
           → last ≡ replicate (length after) false
@@ -191,7 +191,7 @@ module _ (links : LinksRow) (ceilings bars free : List ℕ) (rows : List (Vec Ro
           let fallen = all_fallen links new bars free rows i to within_bars le right.round row kept_row found state
           orders
           cut round_now marked after right.marked_each (subst Q low_is marks) overfilled housed right.housed_are in
-          let P = λ (bs : List ℕ). (cs : List ℕ) (rs : List (Vec RowWish Global)) → IsRound new cs bs rs
+          let P = λ (bs : List ℕ). (cs : List ℕ) (rs : List (List RowWish)) → IsRound new cs bs rs
           → AllHoused new (λ k. get_or after k false) rs bs overs_cut housed_cut
           → AllHoused new nobody rs bs answers housed_last in
           let O = λ (os : List (Option ℕ)). AllHoused new (λ k. get_or after k false) (set rows i kept_row) free os
@@ -208,3 +208,49 @@ module _ (links : LinksRow) (ceilings bars free : List ℕ) (rows : List (Vec Ro
             marked_each = ap length unmarked ∙ length-replicate (length after) false ∙ marks_long;
             housed_are = all;
           }
+
+-- the same of a round whose rows are those of first boarders, of whom fewer are left in one school
+pub lowered_along : (old new : LinksRow) (ceilings bars free : List ℕ) (boarders : List (Vec RowWish Global))
+    (ends : List ℕ) (overs : List (Option ℕ)) (marked : List Bool) (housed : List (List Rung))
+    → new ≡ record old { opens = new.opens } → AreBySchool old.state.dossier old.orders boarders
+    → AreEnds boarders ends → (i end : ℕ) (front : List RowWish) → AreFirst boarders ends i front
+    → end ≤ length front
+    → IsRoundUnder new ceilings bars free (set (rows_to old.state boarders ends) i (row_in old.state (take end front)))
+    overs marked housed
+    → IsRoundAlong new ceilings bars free boarders (set ends i end) overs marked housed
+lowered_along old new ceilings bars free boarders ends overs marked housed same by_school are i end front first le
+    under =
+    let s = old.state in
+    let own = first.own in
+    let at = first.found in
+    let state : new.state ≡ s = ap (λ (l : LinksRow). l.state) same in
+    let orders : new.orders ≡ old.orders = ap (λ (l : LinksRow). l.orders) same in
+    let within : slice_index ends i ≤ length own.items = are.within i own at in
+    let long : length front ≡ slice_index ends i =
+    ap length first.front_is ∙ length-take-le (slice_index ends i) own.items within in
+    let cut : take end front ≡ take end own.items =
+    ap (take end) first.front_is ∙ take-take end (slice_index ends i) own.items (omega (arith, le, long)) in
+    let P = λ (rows : List (List RowWish)). IsRoundUnder new ceilings bars free rows overs marked housed in
+    let Q = λ (t : State). P (rows_to t boarders (set ends i end)) in
+    let R = λ (xs : List RowWish). P (set (rows_to s boarders ends) i (row_in s xs)) in
+    let S = λ (t : State). AreBySchool t.dossier new.orders boarders in
+    let T = λ (os : List CallOrder). AreBySchool s.dossier os boarders in
+    let lt : i < length ends = omega (arith, slice_get_within boarders i own at, are.one_each) in
+    record {
+      under = subst Q (sym state) (subst P (rows_cut s boarders ends are.one_each i end own at) (subst R cut under));
+      boarders_are = subst S (sym state) (subst T (sym orders) by_school);
+      ends_are = record {
+        one_each = length-set ends i end ∙ are.one_each;
+        within = λ h other there. elim (cases_eq h i) [
+          | inl here ↦
+              let U = λ (n : ℕ). slice_index (set ends i end) n ≤ length other.items in
+              let now : slice_index (set ends i end) i ≡ end = get_or-set_same ends i end 0 lt in
+              let V = λ (n : ℕ). slice_get boarders n ≡ Some other in
+              let before = are.within i other (subst V here there) in
+              subst U (sym here) (omega (arith, now, le, long, before))
+          | inr differ ↦
+              let now : slice_index (set ends i end) h ≡ slice_index ends h = get_or-set_other ends i h end 0 differ in
+              omega (arith, now, are.within h other there)
+        ];
+      };
+    }

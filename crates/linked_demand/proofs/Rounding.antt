@@ -1,9 +1,8 @@
 -- A round as a system of falling bars.
 use Rattle.std.proofs.Common.{ℕ, ◌<◌, ◌≡◌, Bool, true, false, not, List, [], ◌∷◌, Some, None, map, filter, length}
-use Rattle.std.proofs.Common.{get_or, inl, inr, refl, sym, ◌∙◌, ap, arith, subst, zero-add, Vec}
+use Rattle.std.proofs.Common.{get_or, inl, inr, refl, sym, ◌∙◌, ap, arith, subst, zero-add}
 use Rattle.std.specs.Prelude.{slice_get, slice_index, slice_set, Option, is_some}
 use Rattle.std.specs.List.{enumerate_from, range_with_len}
-use Rattle.std.specs.declared.alloc.Global.{Global}
 use Rattle.std.proofs.lemmas.Bool.{and_parts, cases_Bool}
 use Rattle.std.proofs.lemmas.List.{get_or_read}
 use Rattle.std.proofs.lemmas.List.FromFn.{get_or-map-range_with_len, length-map-range_with_len}
@@ -60,8 +59,8 @@ proposed_by_place s orders bars long =
     ∙ ap (λ (es : List (Wish × Mark)). map (λ (x : ℕ × (Wish × Mark)). x.0)
     (filter (λ (x : ℕ × (Wish × Mark)). test x.1) (enumerate_from 0 es))) (sym (entries_by_place s long))
 
-module _ (links : LinksRow) (ceilings bars free : List ℕ) (rows : List (Vec RowWish Global))
-    (overfilled : List (Option ℕ)) (marked : List Bool) (housed : List (List Rung)) (seen : Round)
+module _ {links : LinksRow} {ceilings bars free : List ℕ} {rows : List (List RowWish)}
+    {overfilled : List (Option ℕ)} {marked : List Bool} {housed : List (List Rung)} {seen : Round}
     (right : IsRoundUnder links ceilings bars free rows overfilled marked housed)
     (is : record { state = links.state; orders = links.orders; ceilings = ceilings; bars = bars } ≡ seen) where
   as_long : length bars ≡ length ceilings

@@ -3,14 +3,13 @@ use Rattle.std.proofs.Common.{ℕ, ◌≤◌, ◌<◌, ◌≡◌, Bool, false, �
 use Rattle.std.proofs.Common.{arith, nat_le, nat_lt, filter, zero, suc, Some}
 use Rattle.std.specs.Prelude.{slice_get}
 use Rattle.std.proofs.lemmas.Bool.{cases_Bool, lt-leb}
-use Rattle.std.proofs.lemmas.Option.{slice_get_within}
+use Rattle.std.proofs.lemmas.Option.{slice_get_cases, slice_get_within}
 use Rattle.admit_core.specs.State.{State}
 use Rattle.proposals.specs.declared.demands.Demand.{Demand}
 use Rattle.linked_demand.specs.declared.rows.RowWish.{RowWish}
-use Rattle.linked_demand.specs.Rows.{AreOpen, IsFront, IsRow}
-use Rattle.linked_demand.specs.Links.{LinksRow}
+use Rattle.linked_demand.specs.Rows.{needs_bed, row_in, IsFront, IsRow, RanksRise}
 use Rattle.linked_demand.specs.Demand.{firsts}
-use Rattle.linked_demand.proofs.Falling.{in_front}
+use Rattle.linked_demand.proofs.Passing.{passing, passing_behind, passing_front, passing_most}
 
 -- those that rank at most at a number
 abbrev upto_of : ℕ → List Demand → List Demand
@@ -66,7 +65,19 @@ told_in_front p upto s bars h row front own is =
     item_before (y ∷ xs) (suc j) zero x le at = absurd (omega arith)
     item_before (y ∷ xs) (suc j) (suc k) x le at = item_before xs j k x (omega arith) at
 
-pub front_open : (l : LinksRow) (upto : ℕ) (row front : List RowWish) → IsFront upto row front → AreOpen l row
-    → AreOpen l front
-front_open l upto row front is opens k x at =
-    opens k x (in_front row is.end k x (rw is.front_is at at)).1
+-- those of the first boarders who are in the row are its first ones
+pub in_front_of : (s : State) (upto : ℕ) (own front : List RowWish) → RanksRise own → IsFront upto own front
+    → IsFront upto (row_in s own) (row_in s front)
+in_front_of s upto own front rises is =
+    let q = needs_bed s in
+    record {
+      end = passing q own is.end;
+      within = passing_most q own is.end;
+      front_is = ap (λ (xs : List RowWish). row_in s xs) is.front_is ∙ passing_front q own is.end;
+      next = λ x at.
+          let (j, far, found) = passing_behind q own is.end (passing q own is.end) x at (omega arith) in
+          elim (slice_get_cases own is.end).1 [
+            | inl y ↦ omega (arith, is.next y.0 y.2, rises is.end j y.0 x far y.2 found)
+            | inr past ↦ absurd (omega (arith, past.0, far, slice_get_within own j x found))
+          ];
+    }

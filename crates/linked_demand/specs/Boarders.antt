@@ -1,9 +1,15 @@
--- The wishes with a school, each with the school, its rank there and its programme.
-use Rattle.std.specs.Prelude.{◌≡◌, ◌==◌, ℕ, ◌<◌, List, filter, length, map, Some, All}
+-- The wishes with a school, by rank, and those of each school.
+use Rattle.std.specs.Prelude.{◌≡◌, ◌==◌, ℕ, ◌<◌, Bool, List, filter, length, map, Some, All, Vec}
 use Rattle.std.specs.List.Sorted.{IsNonDecreasingBy}
+use Rattle.std.specs.declared.alloc.Global.{Global}
+use Rattle.admit_core.specs.declared.ranking.CallOrder.{CallOrder}
 use Rattle.admit_core.specs.DossierRows.{DossierRows}
+use Rattle.admit_core.specs.State.{is_school}
 use Rattle.day_state.specs.Kept.{wish_in}
 use Rattle.linked_demand.specs.declared.boarders.Boarder.{Boarder}
+use Rattle.linked_demand.specs.declared.rows.RowWish.{RowWish}
+use Rattle.linked_demand.specs.Keyed.{AreRowsOf}
+use Rattle.linked_demand.specs.Rows.{item_at}
 use Rattle.linked_demand.specs.Seats.{boarders_of}
 
 -- the record is that of its wish
@@ -16,6 +22,9 @@ pub record IsBoarder (d : DossierRows) (b : Boarder) : Type 0 where
 
 abbrev pub wishes_of : List Boarder → List ℕ
 wishes_of bs = map (λ b. b.wish) bs
+
+abbrev pub items_wishes : List RowWish → List ℕ
+items_wishes xs = map (λ x. x.wish) xs
 
 -- the rank of the wish at a place in its school
 abbrev pub rank_at : DossierRows → ℕ → ℕ
@@ -37,3 +46,15 @@ pub record AreBoarders (d : DossierRows) (bs : List Boarder) : Type 0 where
 pub record AreByPlace (d : DossierRows) (bs : List Boarder) : Type 0 where
   pub wishes : wishes_of bs ≡ boarders_of d
   pub each : All (IsBoarder d) bs
+
+-- the wish at a place has the school
+abbrev pub boards_in : DossierRows → ℕ → ℕ → Bool
+boards_in d h k = is_school (wish_in d.wishes k).school h
+
+-- for each school what is kept of the wishes that have it, in this order
+pub record AreBySchool (d : DossierRows) (orders : List CallOrder)
+    (rows : List (Vec RowWish Global)) : Type 0 where
+  pub places : List ℕ
+  pub within : All (λ k. k < length d.wishes) places
+  pub by_rank : AreByRank d places
+  pub rows_are : AreRowsOf (item_at d orders) (boards_in d) (length d.schools) places rows

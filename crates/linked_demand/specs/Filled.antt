@@ -1,23 +1,16 @@
--- The rows of the schools, filled boarder by boarder.
-use Rattle.std.specs.Prelude.{ℕ, Bool, false, not, ◌&&◌, List, length, map, filter, slice_index_or, Option, Some, None}
-use Rattle.std.specs.Prelude.{if◌then◌else◌, Vec}
-use Rattle.std.specs.declared.alloc.Global.{Global}
+-- Which wishes stand in the row of a school, by the flags of the open ones.
+use Rattle.std.specs.Prelude.{ℕ, Bool, false, not, ◌&&◌, List, map, filter, slice_index_or, Option, None, if◌then◌else◌}
 use Rattle.day_state.specs.Kept.{has_bed_there, wish_in}
 use Rattle.admit_core.specs.declared.ranking.CallOrder.{CallOrder}
 use Rattle.admit_core.specs.State.{State, is_school}
 use Rattle.linked_demand.specs.declared.rows.RowWish.{RowWish}
 use Rattle.linked_demand.specs.Demand.{is_proposed_at}
-use Rattle.linked_demand.specs.Keyed.{AreRowsOf}
 use Rattle.linked_demand.specs.Links.{LinksRow}
-use Rattle.linked_demand.specs.Rows.{is_sure, row_item}
+use Rattle.linked_demand.specs.Rows.{row_item}
 
 -- the wish at a place is open by its flag, and its candidate has no bed in its school
 abbrev pub wants_bed : State → List Bool → ℕ → Bool
 wants_bed s opens k = slice_index_or opens k false && not (has_bed_there s k)
-
--- where it does, whether its candidate needs no seat
-abbrev pub bed_wish : State → List CallOrder → List Bool → ℕ → Option Bool
-bed_wish s orders opens k = if wants_bed s opens k then Some (is_sure s orders k) else None
 
 -- the school in which it demands a bed
 abbrev pub bed_sought : LinksRow → ℕ → Option ℕ
@@ -33,9 +26,3 @@ is_in_row s opens h k = wants_bed s opens k && is_school (wish_in s.dossier.wish
 abbrev pub row_along : State → List CallOrder → List Bool → List ℕ → ℕ → List RowWish
 row_along s orders opens places h =
     map (row_item s orders) (filter (is_in_row s opens h) places)
-
--- one row for each school
-abbrev pub AreFilled : State → List CallOrder → List Bool → List ℕ → List (Vec RowWish Global)
-    → Type 0
-AreFilled s orders opens places rows =
-    AreRowsOf (row_item s orders) (is_in_row s opens) (length s.dossier.schools) places rows

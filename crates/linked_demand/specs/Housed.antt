@@ -2,8 +2,7 @@
 use Rattle.std.specs.Prelude.{◌≡◌, ℕ, nat_eq, nat_lt, ◌-◌, ◌≤◌, ◌<◌, Bool, true, false, ◌||◌, List, [], ◌∷◌, ◌++◌}
 use Rattle.std.specs.Prelude.{length, map, filter}
 use Rattle.std.specs.Prelude.{Option, Some, None, option_map, unwrap_or, if◌then◌else◌, slice_get, slice_index}
-use Rattle.std.specs.Prelude.{slice_index_or, Vec}
-use Rattle.std.specs.declared.alloc.Global.{Global}
+use Rattle.std.specs.Prelude.{slice_index_or}
 use Rattle.admit_core.specs.Lists.{is_among}
 use Rattle.admit_core.proofs.Tests.{Ascends}
 use Rattle.linked_demand.specs.declared.housed.Rung.{Rung}
@@ -78,10 +77,10 @@ pub record AreHoused (p left : ℕ → Bool) (row : List RowWish) (free : ℕ)
   pub full : (o : ℕ) → over ≡ Some o → free ≤ length (housed_in xs)
 
 -- so in each school
-pub record AllHoused (l : LinksRow) (left : ℕ → Bool) (rows : List (Vec RowWish Global))
+pub record AllHoused (l : LinksRow) (left : ℕ → Bool) (rows : List (List RowWish))
     (free : List ℕ) (overfilled : List (Option ℕ)) (housed : List (List Rung)) : Type 0 where
   pub one_each : length housed ≡ length rows
   pub answer_each : length overfilled ≡ length rows
-  pub each : (h : ℕ) (row : Vec RowWish Global) → slice_get rows h ≡ Some row
-      → AreHoused (is_proposed_at l) left row.items (slice_index free h)
+  pub each : (h : ℕ) (row : List RowWish) → slice_get rows h ≡ Some row
+      → AreHoused (is_proposed_at l) left row (slice_index free h)
       (slice_index_or overfilled h None) (slice_index_or housed h [])

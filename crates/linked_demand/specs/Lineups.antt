@@ -4,7 +4,7 @@ use Rattle.admit_core.specs.declared.ranking.CallOrder.{CallOrder}
 use Rattle.admit_core.specs.DossierRows.{DossierRows}
 use Rattle.admit_core.specs.State.{State}
 use Rattle.linked_demand.specs.declared.lineup.Lineup.{Lineup}
-use Rattle.linked_demand.specs.Boarders.{AreBoarders}
+use Rattle.linked_demand.specs.Boarders.{AreBySchool}
 use Rattle.linked_demand.specs.Opens.{all_sure}
 use Rattle.linked_demand.specs.Seats.{IsLineup, maybe_sure_of}
 use Rattle.linked_demand.specs.Wants.{IsReached}
@@ -12,7 +12,7 @@ use Rattle.linked_demand.specs.Wants.{IsReached}
 -- it is right for the dossier and its call orders
 pub record IsLineupOf (d : DossierRows) (orders : List CallOrder) (l : Lineup) : Type 0 where
   pub lines : IsLineup d orders l.claims.items l.places.items l.early.items
-  pub boarders : AreBoarders d l.boarders.items
+  pub boarders : AreBySchool d orders l.boarders.items
   pub maybe_sure : l.maybe_sure.items ≡ maybe_sure_of d l.early.items
 
 -- for each programme it is known how many places of its line are reached

@@ -8,9 +8,10 @@ use Rattle.admit_core.specs.State.{State, free_beds}
 use Rattle.admit_core.specs.Proposals.{is_proposed}
 use Rattle.day_state.specs.Kept.{mark_in, wish_in}
 use Rattle.linked_demand.specs.declared.rows.RowWish.{RowWish}
+use Rattle.linked_demand.specs.Boarders.{AreBySchool}
 use Rattle.linked_demand.specs.Links.{LinksRow}
 use Rattle.linked_demand.specs.Opens.{opens_of}
-use Rattle.linked_demand.specs.Rows.{IsRow, AllItems}
+use Rattle.linked_demand.specs.Rows.{IsRow, AllItems, AreEnds, rows_to}
 use Rattle.linked_demand.specs.Demand.{over_at}
 use Rattle.linked_demand.specs.declared.housed.Rung.{Rung}
 use Rattle.linked_demand.specs.Housed.{AllHoused}
@@ -23,21 +24,21 @@ pub record Round : Type 0 where
   pub bars : List ℕ
 
 pub record IsRound (links : LinksRow) (bars free : List ℕ)
-    (rows : List (Vec RowWish Global)) : Type 0 where
+    (rows : List (List RowWish)) : Type 0 where
   pub marks_each : length links.state.marks ≡ length links.state.dossier.wishes
   pub bars_each : length bars ≡ length links.state.dossier.schools
   pub free_are : free ≡ map (free_beds links.state)
       (range_with_len 0 (length links.state.dossier.schools))
   pub rows_each : length rows ≡ length bars
   pub opens_are : links.opens ≡ opens_of links.state bars
-  pub rows_are : (h : ℕ) (row : Vec RowWish Global) → slice_get rows h ≡ Some row
-      → IsRow links.state bars h row.items
+  pub rows_are : (h : ℕ) (row : List RowWish) → slice_get rows h ≡ Some row
+      → IsRow links.state bars h row
   pub items_are : AllItems links.state links.orders rows
 
 -- what holds of the parts of a round: with the answers of the schools, who has a bed in each, and
 -- no mark of a wish
 pub record IsRoundUnder (links : LinksRow) (ceilings bars free : List ℕ)
-    (rows : List (Vec RowWish Global))
+    (rows : List (List RowWish))
     (overfilled : List (Option ℕ)) (marked : List Bool) (housed : List (List Rung)) : Type 0 where
   pub round : IsRound links bars free rows
   pub ceilings_each : length ceilings ≡ length links.state.dossier.schools
@@ -46,6 +47,15 @@ pub record IsRoundUnder (links : LinksRow) (ceilings bars free : List ℕ)
       (range_with_len 0 (length links.state.dossier.schools))
   pub marked_each : length marked ≡ length links.state.dossier.wishes
   pub housed_are : AllHoused links (λ k. false) rows free overfilled housed
+
+-- and where the rows are those of the first boarders of each school
+pub record IsRoundAlong (links : LinksRow) (ceilings bars free : List ℕ)
+    (boarders : List (Vec RowWish Global)) (ends : List ℕ)
+    (overfilled : List (Option ℕ)) (marked : List Bool) (housed : List (List Rung)) : Type 0 where
+  pub under : IsRoundUnder links ceilings bars free (rows_to links.state boarders ends) overfilled
+      marked housed
+  pub boarders_are : AreBySchool links.state.dossier links.orders boarders
+  pub ends_are : AreEnds boarders ends
 
 -- one bar for each ceiling
 abbrev pub bar_each : List ℕ → List ℕ → List ℕ

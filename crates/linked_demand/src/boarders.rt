@@ -1,21 +1,25 @@
-//! The wishes with a school, each with what a pass asks of it.
-ghost use Rattle.std.specs.Prelude.{◌≡◌, ◌<◌, length, is_some, IfOk, IfSome};
-ghost use Rattle.linked_demand.specs.Boarders.{AreBoarders, AreByPlace, IsBoarder};
+//! The wishes with a school, by their rank there.
+ghost use Rattle.std.specs.Prelude.{◌≡◌, ℕ, ◌<◌, length, is_some, slice_get, slice_index, All, IfOk, IfSome, Some};
+ghost use Rattle.admit_core.specs.declared.dossier.Wish.{Wish};
+ghost use Rattle.linked_demand.specs.Boarders.{AreBoarders, AreByPlace, AreBySchool, IsBoarder};
+ghost use Rattle.linked_demand.specs.Links.{IsSeatPlace};
+ghost use Rattle.linked_demand.specs.Rows.{item_at};
 ghost use Rattle.linked_demand.specs.Seats.{boards_at};
 
+use crate::rows::{RowWish, put_in, rows_with_room};
 use crate::wishes::wish_count;
-use admit_core::OutOfMemory;
+use admit_core::{CallOrders, OutOfMemory};
 use day_state::DayState;
 use proposals::{Ranked, sort_by_rank, wish_at};
 use std::alloc::Global;
 
 /// A wish with a school: its rank there, and its programme.
 #[derive(Clone, Copy)]
-pub struct Boarder {
-    pub wish: u32,
-    pub school: u32,
-    pub rank: u32,
-    pub programme: u32,
+struct Boarder {
+    wish: u32,
+    school: u32,
+    rank: u32,
+    programme: u32,
 }
 
 impl Ranked for Boarder {
@@ -67,10 +71,66 @@ fn boarders_by_place(alloc: Global, state: &DayState<'_>) -> Result<Vec<Boarder>
 }
 
 /// The wishes with a school, in order by their rank there, those of one rank by place.
-pub fn boarders_by_rank(alloc: Global, state: &DayState<'_>) -> Result<Vec<Boarder>, OutOfMemory>
+fn boarders_by_rank(alloc: Global, state: &DayState<'_>) -> Result<Vec<Boarder>, OutOfMemory>
     ensures { IfOk result (λ v. AreBoarders state.now.dossier v.items) }
 {
     let mut boarders = boarders_by_place(alloc, state)?;
     sort_by_rank(&mut boarders)?;
     Ok(boarders)
+}
+
+/// How many of them each school has: room is made by it, so no clause speaks of the numbers.
+fn counts_by_school(
+    alloc: Global,
+    boarders: &[Boarder],
+    schools: usize,
+) -> Result<Vec<u32>, OutOfMemory>
+    requires { All (λ b. b.school < schools) boarders.now }
+    ensures { IfOk result (λ v. length v.items ≡ schools) }
+{
+    let mut counts = vec![in alloc; 0u32; schools]?;
+    for boarder in boarders {
+        let school = boarder.school as usize;
+        counts[school] = counts[school].saturating_add(1);
+    }
+    Ok(counts)
+}
+
+/// What its school keeps of a wish, by the places of candidates in the lines of programmes.
+fn item_of(state: &DayState<'_>, orders: &CallOrders, places: &[u32], boarder: Boarder) -> RowWish
+    requires boarder { IsBoarder state.now.dossier boarder }
+    requires one_each { length places.now ≡ length state.now.dossier.wishes }
+    requires places { (i : ℕ) (w : Wish) → slice_get state.now.dossier.wishes i ≡ Some w
+        → IsSeatPlace state.now.dossier orders.now.orders w (slice_index places.now i) }
+    ensures { result ≡ item_at state.now.dossier orders.now.orders boarder.wish }
+{
+    RowWish {
+        rank: boarder.rank,
+        wish: boarder.wish,
+        programme: boarder.programme,
+        place: places[boarder.wish as usize],
+    }
+}
+
+/// For each school the wishes that have it, by their rank there, those of one rank by place.
+pub fn boarders_by_school(
+    alloc: Global,
+    state: &DayState<'_>,
+    orders: &CallOrders,
+    places: &[u32],
+) -> Result<Vec<Vec<RowWish>>, OutOfMemory>
+    requires one_each { length places.now ≡ length state.now.dossier.wishes }
+    requires places { (i : ℕ) (w : Wish) → slice_get state.now.dossier.wishes i ≡ Some w
+        → IsSeatPlace state.now.dossier orders.now.orders w (slice_index places.now i) }
+    ensures { IfOk result (λ v. AreBySchool state.now.dossier orders.now.orders v.items) }
+{
+    let boarders = boarders_by_rank(alloc, state)?;
+    let schools = state.dossier().schools.len();
+    let counts = counts_by_school(alloc, &boarders, schools)?;
+    let mut rows = rows_with_room(alloc, &counts)?;
+    for boarder in boarders.as_slice() {
+        let item = item_of(state, orders, places, *boarder);
+        put_in(&mut rows, boarder.school, item)?;
+    }
+    Ok(rows)
 }

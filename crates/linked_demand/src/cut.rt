@@ -1,9 +1,9 @@
 //! A bar falls.
-ghost use Rattle.std.specs.Prelude.{◌≡◌, ℕ, ◌+◌, ◌<◌, length, List, Bool, count_by};
+ghost use Rattle.std.specs.Prelude.{◌≡◌, ℕ, ◌+◌, ◌<◌, ◌≤◌, length, take, List, Bool, count_by};
 ghost use Rattle.std.specs.List.{enumerate_from};
 ghost use Rattle.admit_core.specs.State.{State, entries};
 ghost use Rattle.linked_demand.specs.Marks.{is_new, MarksWishes};
-ghost use Rattle.linked_demand.specs.Rows.{CutsAt, AllWait, AreItems, StayOpen};
+ghost use Rattle.linked_demand.specs.Rows.{row_in, CanBeCut, CutsAt};
 
 use crate::links::SeatLinks;
 use crate::marks::Marks;
@@ -11,36 +11,39 @@ use crate::rows::RowWish;
 use admit_core::Steps;
 use std::sync::ledger::Ledger;
 
-/// Closes the wishes of a row that rank past a number, and drops them from the row. It ticks once
-/// for each of them and once for each wish that becomes proposed, which is marked.
+/// Closes those of the first boarders of a school who rank past a number and wait for a bed there.
+/// The others are still the first ones: so many are answered. It ticks once for each wish that it
+/// closes and once for each that becomes proposed, which is marked.
 pub fn close_past<L: Ledger>(
     links: &mut SeatLinks<'_, '_>,
-    row: &mut Vec<RowWish>,
+    front: &[RowWish],
     to: u32,
     bars: &[u32],
     marked: &mut Marks,
     steps: &mut Steps<L>,
-)
-    requires row { AllWait links.old.state row.old.items }
-    requires items { AreItems links.old.state links.old.orders row.old.items }
+) -> usize
+    requires front { CanBeCut links.old bars.now to front.now }
     requires bars { length bars.now ≡ length links.old.state.dossier.schools }
     requires marked { length marked.old ≡ length links.old.state.dossier.wishes }
-    requires stay { StayOpen links.old bars.now to row.old.items }
-    ensures cut { CutsAt to row.old.items links.old.opens row.new.items links.new.opens }
-    ensures state { links.new.state ≡ links.old.state }
-    ensures orders { links.new.orders ≡ links.old.orders }
-    ensures steps { steps.new + length row.new.items ≡ steps.old + length row.old.items + count_by
+    ensures within { result ≤ length front.now }
+    ensures cut { CutsAt to (row_in links.old.state front.now) links.old.opens
+        (row_in links.old.state (take result front.now)) links.new.opens }
+    ensures links { links.new ≡ record links.old { opens = links.new.opens } }
+    ensures steps { steps.new + length (row_in links.old.state (take result front.now))
+        ≡ steps.old + length (row_in links.old.state front.now) + count_by
         (is_new links.old.state bars.now links.old links.new)
         (enumerate_from 0 (entries links.old.state)) }
     ensures marked { MarksWishes links.old.state (is_new links.old.state bars.now links.old
         links.new) marked.old marked.new }
 {
-    let mut end = row.len();
-    while end > 0 && row[end - 1].rank > to {
+    let mut end = front.len();
+    while end > 0 && front[end - 1].rank > to {
         end -= 1;
-        let last = row[end];
-        steps.tick();
-        links.close(last, bars, marked, steps);
+        let last = front[end];
+        if links.needs_bed(last) {
+            steps.tick();
+            links.close(last, bars, marked, steps);
+        }
     }
-    row.truncate(end);
+    end
 }

@@ -1,13 +1,14 @@
 //! Who has a bed in each school.
-ghost use Rattle.std.specs.Prelude.{◌≡◌, ℕ, ◌<◌, ◌&&◌, Bool, List, None, [], false, length, nat_eq, nat_le, not, replicate, slice_index_or, slice_set, IfOk, OnOk, Vec};
-ghost use Rattle.std.specs.declared.alloc.Global.{Global};
+ghost use Rattle.std.specs.Prelude.{◌≡◌, ℕ, ◌<◌, ◌&&◌, Bool, List, None, [], false, length, nat_eq, nat_le, not, replicate, slice_index_or, slice_set, IfOk, OnOk};
 ghost use Rattle.linked_demand.specs.declared.rows.RowWish.{RowWish};
 ghost use Rattle.linked_demand.specs.Demand.{is_proposed_at};
 ghost use Rattle.linked_demand.specs.Housed.{kept, within, AllHoused, AreHoused};
 ghost use Rattle.linked_demand.specs.Links.{AllOpenWait};
 ghost use Rattle.linked_demand.specs.Rounds.{IsRound};
-ghost use Rattle.linked_demand.specs.Rows.{AreOpen, RanksRise};
+ghost use Rattle.linked_demand.specs.Boarders.{AreBySchool};
+ghost use Rattle.linked_demand.specs.Rows.{row_in, rows_to, AreEnds, AreOpenFirst};
 
+use crate::ends::front_in;
 use crate::housed::Housed;
 use crate::links::SeatLinks;
 use crate::marks::Marks;
@@ -18,32 +19,34 @@ use admit_core::OutOfMemory;
 use proposals::wish_at;
 use std::alloc::Global;
 
-/// The ranks of a row that have a bed, and the first demanded one that has none, if there is one.
+/// The ranks of a school that have a bed, and the first demanded one that has none, if there is one.
 #[derive(Drop)]
 struct Housing {
     housed: Housed,
     over: Option<u32>,
 }
 
-/// Houses the demanded ranks of a row, from the least, as far as there are beds.
+/// Houses the demanded ranks of the first boarders of a school, from the least, as far as there are
+/// beds.
 fn house_row(
     alloc: Global,
     links: &SeatLinks<'_, '_>,
-    row: &[RowWish],
+    front: &[RowWish],
     beds: u32,
 ) -> Result<Housing, OutOfMemory>
-    requires items { AreOpen links.now row.now }
-    requires rises { RanksRise row.now }
-    ensures { IfOk result (λ v. AreHoused (is_proposed_at links.now) (λ k. false) row.now beds
-        v.over v.housed) }
+    requires { AreOpenFirst links.now front.now }
+    ensures { IfOk result (λ v. AreHoused (is_proposed_at links.now) (λ k. false)
+        (row_in links.now.state front.now) beds v.over v.housed) }
 {
     let mut housed = Housed::none(alloc);
-    for item in row {
-        housed.reach(item.rank)?;
-        if links.proposes(*item) {
-            let over = housed.house(item.rank, beds);
-            if over.is_some() {
-                return Ok(Housing { housed, over });
+    for item in front {
+        if links.needs_bed(*item) {
+            housed.reach(item.rank)?;
+            if links.proposes(*item) {
+                let over = housed.house(item.rank, beds);
+                if over.is_some() {
+                    return Ok(Housing { housed, over });
+                }
             }
         }
     }
@@ -54,20 +57,24 @@ fn house_row(
 pub fn house_all(
     alloc: Global,
     links: &SeatLinks<'_, '_>,
-    rows: &[Vec<RowWish>],
+    boarders: &[Vec<RowWish>],
+    ends: &[usize],
     free: &[u32],
     overfilled: &mut Overfilled,
 ) -> Result<Vec<Housed>, OutOfMemory>
-    requires rows { (bars : List ℕ) × IsRound links.now bars free.now rows.now }
-    requires overfilled { length overfilled.old ≡ length rows.now }
-    ensures { IfOk result (λ v. AllHoused links.now (λ k. false) rows.now free.now overfilled.new
-        v.items) }
+    requires boarders { AreBySchool links.now.state.dossier links.now.orders boarders.now }
+    requires ends { AreEnds boarders.now ends.now }
+    requires rows { (bars : List ℕ) × IsRound links.now bars free.now (rows_to links.now.state
+        boarders.now ends.now) }
+    requires overfilled { length overfilled.old ≡ length boarders.now }
+    ensures { IfOk result (λ v. AllHoused links.now (λ k. false) (rows_to links.now.state
+        boarders.now ends.now) free.now overfilled.new v.items) }
 {
     let count = school_count(links.state());
     let mut all = Vec::with_capacity(alloc, count as usize)?;
     for school in 0..count {
-        let place = school as usize;
-        let Housing { housed, over } = house_row(alloc, links, &rows[place], free[place])?;
+        let front = front_in(boarders, ends, school);
+        let Housing { housed, over } = house_row(alloc, links, front, free[school as usize])?;
         all.push(housed)?;
         overfilled.put(school, over);
     }
@@ -103,7 +110,7 @@ fn house_wish(
     requires overfilled { length overfilled.old ≡ length links.now.state.dossier.schools }
     ensures as_many { length housed.new.items ≡ length housed.old.items }
     ensures as_long { length overfilled.new ≡ length overfilled.old }
-    ensures all { (bars : List ℕ) (rows : List (Vec RowWish Global)) (left : ℕ → Bool)
+    ensures all { (bars : List ℕ) (rows : List (List RowWish)) (left : ℕ → Bool)
         → IsRound links.now bars free.now rows
         → AllHoused links.now left rows free.now overfilled.old housed.old.items
         → AllHoused links.now (λ k. left k && not (nat_eq k wish)) rows free.now overfilled.new
@@ -133,7 +140,7 @@ pub fn house_marked(
     requires housed { length housed.old.items ≡ length links.now.state.dossier.schools }
     requires overfilled { length overfilled.old ≡ length links.now.state.dossier.schools }
     ensures unmarked { marked.new ≡ replicate (length marked.old) false }
-    ensures all { (bars : List ℕ) (rows : List (Vec RowWish Global))
+    ensures all { (bars : List ℕ) (rows : List (List RowWish))
         → IsRound links.now bars free.now rows
         → AllHoused links.now (λ k. slice_index_or marked.old k false) rows free.now overfilled.old
         housed.old.items

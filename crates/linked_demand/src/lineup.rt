@@ -9,10 +9,11 @@ ghost use Rattle.linked_demand.specs.Links.{claim_of};
 ghost use Rattle.linked_demand.specs.Opens.{line_of};
 ghost use Rattle.linked_demand.specs.Seats.{PutAt, AreSeated, IsLineup, is_below, is_passed};
 
-use crate::boarders::{Boarder, boarders_by_rank};
+use crate::boarders::boarders_by_school;
 use crate::calling::called_wishes;
 use crate::claims::Claims;
 use crate::maybe_sure::maybe_sure_of;
+use crate::rows::RowWish;
 use admit_core::{CallOrders, OutOfMemory};
 use day_state::{DayState, Span, part};
 use proposals::{call_everyone, limit_of, programme_count};
@@ -148,12 +149,12 @@ fn claims_of(
 
 /// For each programme those who wish for it, in call order, with their claims; for each wish the
 /// place of its candidate among them, and whether they are called by the programme's limit; the
-/// wishes with a school, by their rank there, and those that may need no seat while they wait.
+/// boarders of each school by rank, and the wishes that may need no seat while they wait.
 pub struct Lineup {
     pub(crate) claims: Vec<Claims>,
     pub(crate) places: Vec<u32>,
     pub(crate) early: Vec<bool>,
-    pub(crate) boarders: Vec<Boarder>,
+    pub(crate) boarders: Vec<Vec<RowWish>>,
     pub(crate) maybe_sure: Vec<u32>,
 }
 
@@ -188,7 +189,7 @@ impl Lineup {
         let mut notes = Notes { places, early };
         let claims = claims_of(alloc, state, orders, &mut notes)?;
         let Notes { places, early } = notes;
-        let boarders = boarders_by_rank(alloc, state)?;
+        let boarders = boarders_by_school(alloc, state, orders, &places)?;
         let maybe_sure = maybe_sure_of(alloc, state, orders, &claims, &places, &early)?;
         Ok(Lineup {
             claims,

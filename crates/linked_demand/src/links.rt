@@ -1,22 +1,18 @@
 //! Who is served in each programme while wishes are closed.
 ghost use Rattle.std.specs.Prelude.{◌≡◌, ℕ, ◌+◌, ◌<◌, ◌&&◌, ◌||◌, true, false, not, length, map, filter, slice_set, slice_index_or, count_by, IfOk};
 ghost use Rattle.std.specs.List.{enumerate_from, range_with_len};
-ghost use Rattle.admit_core.specs.Proposals.{is_behind_bar};
 ghost use Rattle.admit_core.specs.State.{entries};
-ghost use Rattle.day_state.specs.Kept.{wish_in};
 ghost use Rattle.linked_demand.specs.Marks.{is_new, MarksWishes};
 ghost use Rattle.linked_demand.specs.Lineups.{IsLineupOf};
 ghost use Rattle.linked_demand.specs.Opens.{all_sure, opens_of};
-ghost use Rattle.linked_demand.specs.Boarders.{AreBoarders, IsBoarder};
 ghost use Rattle.admit_core.specs.declared.dossier.Wish.{Wish};
 ghost use Rattle.admit_core.specs.declared.state.Mark.{Mark};
 ghost use Rattle.linked_demand.specs.Links.{LinksRow, WaitsAt, AllOpenWait};
 ghost use Rattle.linked_demand.specs.Demand.{is_proposed_at};
 ghost use Rattle.std.specs.Option.{ForSome};
-ghost use Rattle.linked_demand.specs.Filled.{bed_sought, bed_wish, wants_bed};
-ghost use Rattle.linked_demand.specs.Rows.{is_sure, row_item, IsOpenItem};
+ghost use Rattle.linked_demand.specs.Filled.{bed_sought, wants_bed};
+ghost use Rattle.linked_demand.specs.Rows.{needs_bed, row_item, IsOpenItem};
 
-use crate::boarders::Boarder;
 use crate::closed::leaves_by_closing;
 use crate::cursors::Cursors;
 use crate::fresh::note_fresh;
@@ -25,8 +21,10 @@ use crate::line::{is_reached, last_wanting, next_wanting};
 use crate::lineup::Lineup;
 use crate::marks::Marks;
 use crate::open_wishes::OpenWishes;
+use crate::opening::open_under;
 use crate::rows::RowWish;
 use crate::seats::{needs_no_seat, reached_of};
+use crate::wishes::waits;
 use admit_core::{CallOrders, OutOfMemory, Steps};
 use day_state::DayState;
 use proposals::wish_at;
@@ -34,56 +32,24 @@ use std::alloc::Global;
 use std::marker::Model;
 use std::sync::ledger::Ledger;
 
-/// Whether the candidate of a boarder's wish is behind the bar of the school. One who ranks within
-/// the bar is not looked at.
-fn is_behind(state: &DayState<'_>, bars: &[u32], boarder: Boarder) -> bool
-    requires boarder { IsBoarder state.now.dossier boarder }
-    requires bars { length bars.now ≡ length state.now.dossier.schools }
-    ensures { result ≡ is_behind_bar state.now bars.now
-        (wish_in state.now.dossier.wishes boarder.wish)
-        (wish_in state.now.dossier.wishes boarder.wish).school }
+/// Whether an open wish has a seat: by its place, which may be reached, or by need of none, which is
+/// asked of the others alone.
+fn is_seated(state: &DayState<'_>, early: &[bool], wish: u32, reached: bool) -> bool
+    requires wish { wish < length state.now.dossier.wishes }
+    requires early { length early.now ≡ length state.now.dossier.wishes }
+    ensures { result ≡ (reached || slice_index_or (all_sure state.now early.now) wish false) }
 {
-    bars[boarder.school as usize] < boarder.rank && !state.is_live_in_its_school(boarder.wish)
+    reached || needs_no_seat(state, early, wish)
 }
 
-/// The open wishes under bars: of those that wait only the wishes with a school are asked for its
-/// bar.
-fn open_under(
-    alloc: Global,
-    state: &DayState<'_>,
-    boarders: &[Boarder],
-    bars: &[u32],
-) -> Result<OpenWishes, OutOfMemory>
-    requires boarders { AreBoarders state.now.dossier boarders.now }
-    requires bars { length bars.now ≡ length state.now.dossier.schools }
-    ensures flags { IfOk result (λ o. o ≡ opens_of state.now bars.now) }
-    ensures one_each { IfOk result (λ o. length o ≡ length state.now.dossier.wishes) }
-{
-    let _ = state.marks(); // one for each wish
-    let mut opens = OpenWishes::all_waiting(alloc, state)?;
-    for boarder in boarders {
-        let is_behind = is_behind(state, bars, *boarder);
-        opens.close_if(boarder.wish, is_behind);
-    }
-    Ok(opens)
-}
-
-/// Whether a wish has a seat, where it is open: by its place, which may be reached, or by need of
-/// none, which is asked of the others alone.
+/// The same of a wish that may be closed.
 fn is_served(state: &DayState<'_>, early: &[bool], wish: u32, open: bool, reached: bool) -> bool
     requires wish { wish < length state.now.dossier.wishes }
     requires early { length early.now ≡ length state.now.dossier.wishes }
     ensures { result ≡ («open»
         && (reached || slice_index_or (all_sure state.now early.now) wish false)) }
 {
-    open && (reached || needs_no_seat(state, early, wish))
-}
-
-/// Whether an open wish is proposed whose candidate is reached or not, and needs no seat or does.
-fn is_seated(reached: bool, sure: bool) -> bool
-    ensures { result ≡ (reached || sure) }
-{
-    reached || sure
+    open && is_seated(state, early, wish, reached)
 }
 
 /// How far the seats of each programme reach along its line, while wishes are closed.
@@ -144,7 +110,7 @@ impl<'a, 'd> SeatLinks<'a, 'd> {
         }) }
     {
         let _ = state.marks(); // one for each wish
-        let opens = open_under(alloc, state, &lineup.boarders, bars)?;
+        let opens = open_under(alloc, state, orders, &lineup.boarders, bars)?;
         let reached = reached_of(alloc, state, orders, lineup, &opens)?;
         let cursors = Cursors::new(alloc, lineup.maybe_sure.len())?;
         Ok(SeatLinks {
@@ -157,22 +123,6 @@ impl<'a, 'd> SeatLinks<'a, 'd> {
         })
     }
 
-    /// What the row of a boarder's school keeps of the wish, of whose candidate it is known whether
-    /// they need no seat.
-    pub fn row_wish(&self, boarder: Boarder, sure: bool) -> RowWish
-        requires boarder { IsBoarder self.now.state.dossier boarder }
-        requires sure { «sure» ≡ is_sure self.now.state self.now.orders boarder.wish }
-        ensures { result ≡ row_item self.now.state self.now.orders boarder.wish }
-    {
-        RowWish {
-            rank: boarder.rank,
-            wish: boarder.wish,
-            programme: boarder.programme,
-            place: self.lineup.places[boarder.wish as usize],
-            sure,
-        }
-    }
-
     /// Whether an open wish of a row is proposed.
     pub fn proposes(&self, item: RowWish) -> bool
         requires { IsOpenItem self.now item }
@@ -180,7 +130,7 @@ impl<'a, 'd> SeatLinks<'a, 'd> {
     {
         let front = self.reached[item.programme as usize];
         let reached = is_reached(item.place as usize, front);
-        is_seated(reached, item.sure)
+        is_seated(self.state, &self.lineup.early, item.wish, reached)
     }
 
     /// Closes a waiting wish. It ticks once for each wish that becomes proposed and is open under
@@ -250,24 +200,12 @@ impl<'a, 'd> SeatLinks<'a, 'd> {
         self.opens.get(wish) && !self.state.is_live_in_its_school(wish)
     }
 
-    /// Whether the candidate of a wish needs no seat.
-    fn is_sure(&self, wish: u32) -> bool
-        requires { wish < length self.now.state.dossier.wishes }
-        ensures { result ≡ is_sure self.now.state self.now.orders wish }
+    /// Whether the wish of an item waits, and its candidate has no bed in its school.
+    pub fn needs_bed(&self, item: RowWish) -> bool
+        requires { item.wish < length self.now.state.dossier.wishes }
+        ensures { result ≡ needs_bed self.now.state item }
     {
-        needs_no_seat(self.state, &self.lineup.early, wish)
-    }
-
-    /// Whether the candidate of a wish needs no seat, where it wants a bed.
-    pub fn bed_wish(&self, wish: u32) -> Option<bool>
-        requires { wish < length self.now.state.dossier.wishes }
-        ensures { result ≡ bed_wish self.now.state self.now.orders self.now.opens wish }
-    {
-        if self.wants_bed(wish) {
-            Some(self.is_sure(wish))
-        } else {
-            None
-        }
+        waits(self.state, item.wish) && !self.state.is_live_in_its_school(item.wish)
     }
 
     /// The school in which a wish demands a bed: it is proposed, and its candidate has none there.

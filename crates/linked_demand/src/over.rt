@@ -1,6 +1,6 @@
 //! The demanded ranks that a row tells.
 ghost use Rattle.std.specs.Prelude.{◌≡◌, IfOk};
-ghost use Rattle.linked_demand.specs.Rows.{AreOpen, IsFront};
+ghost use Rattle.linked_demand.specs.Rows.{row_in, AreOpenFirst, IsFront};
 ghost use Rattle.linked_demand.specs.Demand.{is_proposed_at, firsts};
 
 use crate::links::SeatLinks;
@@ -20,19 +20,20 @@ pub fn front_of(row: &[RowWish], upto: u32) -> &[RowWish]
     &row[..end]
 }
 
-/// The demanded ranks of a row with their names, from the least rank.
+/// The demanded ranks of the first boarders of a school with their names, from the least rank.
 pub fn demands_in(
     alloc: Global,
     links: &SeatLinks<'_, '_>,
-    row: &[RowWish],
+    front: &[RowWish],
 ) -> Result<Vec<Demand>, OutOfMemory>
-    requires { AreOpen links.now row.now }
-    ensures { IfOk result (λ v. v.items ≡ firsts (is_proposed_at links.now) 0 row.now) }
+    requires { AreOpenFirst links.now front.now }
+    ensures { IfOk result (λ v. v.items ≡ firsts (is_proposed_at links.now) 0
+        (row_in links.now.state front.now)) }
 {
     let mut demands = Vec::new(alloc);
     let mut named = 0;
-    for item in row {
-        if named < item.rank && links.proposes(*item) {
+    for item in front {
+        if named < item.rank && links.needs_bed(*item) && links.proposes(*item) {
             demands.push(Demand {
                 rank: item.rank,
                 wish: item.wish,

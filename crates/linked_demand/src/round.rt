@@ -9,6 +9,7 @@ ghost use Rattle.linked_demand.specs.Rounds.{bar_each, is_proposed_in};
 ghost use Rattle.linked_demand.specs.Ticks.{changes_between};
 
 use crate::cut::close_past;
+use crate::ends::front_in;
 use crate::housed::Housed;
 use crate::housing::{cut_school, house_marked};
 use crate::lineup::Lineup;
@@ -31,10 +32,11 @@ use std::sync::ledger::Ledger;
 /// fall costs the wishes that it closes and those that become proposed.
 pub struct LinkedRound<'a, 'd> {
     links: SeatLinks<'a, 'd>,
+    boarders: &'a [Vec<RowWish>],
     ceilings: Vec<u32>,
     bars: Vec<u32>,
     free: Vec<u32>,
-    rows: Vec<Vec<RowWish>>,
+    ends: Vec<usize>,
     overfilled: Overfilled,
     marked: Marks,
     housed: Vec<Housed>,
@@ -45,10 +47,11 @@ impl Drop for LinkedRound<'_, '_> {
     fn drop(self) {
         let LinkedRound {
             links: _,
+            boarders: _,
             ceilings: _,
             bars: _,
             free: _,
-            rows: _,
+            ends: _,
             overfilled: _,
             marked: _,
             housed: _,
@@ -57,7 +60,7 @@ impl Drop for LinkedRound<'_, '_> {
 }
 
 impl<'a, 'd> Model for LinkedRound<'a, 'd> {
-    ghost use Rattle.linked_demand.specs.Rounds.{Round, IsRoundUnder};
+    ghost use Rattle.linked_demand.specs.Rounds.{Round, IsRoundAlong};
 
     ghost Value = { Round };
 
@@ -68,14 +71,15 @@ impl<'a, 'd> Model for LinkedRound<'a, 'd> {
       bars = r.bars.items;
     } };
 
-    ghost invariant = { λ r. IsRoundUnder r.links r.ceilings.items r.bars.items r.free.items
-        r.rows.items r.overfilled r.marked r.housed.items };
+    ghost invariant = { λ r. IsRoundAlong r.links r.ceilings.items r.bars.items r.free.items
+        r.boarders.now r.ends.items r.overfilled r.marked r.housed.items };
 }
 
 impl<'a, 'd> LinkedRound<'a, 'd> {
     /// The schools of a state, with their bars at the ceilings.
     ///
-    /// It costs about the number of wishes: the walk along the call orders is the lineup's.
+    /// It costs about the number of wishes: the walk along the call orders is the lineup's, as are the
+    /// boarders of each school by rank.
     pub fn build(
         alloc: Global,
         state: &'a DayState<'d>,
@@ -101,19 +105,21 @@ impl<'a, 'd> LinkedRound<'a, 'd> {
         let bars = ceilings.to_vec(alloc)?;
         let own = ceilings.to_vec(alloc)?;
         let links = SeatLinks::build(alloc, state, orders, lineup, ceilings)?;
+        let boarders = lineup.boarders.as_slice();
         let Schools {
             free,
-            rows,
+            ends,
             overfilled,
             marked,
             housed,
-        } = schools_of(alloc, &links, &lineup.boarders, ceilings)?;
+        } = schools_of(alloc, &links, boarders, ceilings)?;
         Ok(LinkedRound {
             links,
+            boarders,
             ceilings: own,
             bars,
             free,
-            rows,
+            ends,
             overfilled,
             marked,
             housed,
@@ -201,7 +207,8 @@ impl Falling for LinkedRound<'_, '_> {
     }
 
     fn names(&self, alloc: Global, i: u32, upto: u32) -> Result<Vec<u32>, OutOfMemory> {
-        let front = front_of(&self.rows[i as usize], upto);
+        let first = front_in(self.boarders, &self.ends, i);
+        let front = front_of(first, upto);
         let demands = demands_in(alloc, &self.links, front)?;
         names_up_to(alloc, &demands, upto)
     }
@@ -220,14 +227,10 @@ impl Falling for LinkedRound<'_, '_> {
             self.old.bars self.new.bars }
     {
         self.bars[i as usize] = to;
-        close_past(
-            &mut self.links,
-            &mut self.rows[i as usize],
-            to,
-            &self.bars,
-            &mut self.marked,
-            steps,
-        );
+        let front = front_in(self.boarders, &self.ends, i);
+        let marked = &mut self.marked;
+        let end = close_past(&mut self.links, front, to, &self.bars, marked, steps);
+        self.ends[i as usize] = end;
         cut_school(&mut self.housed, &mut self.overfilled, i, to);
         house_marked(
             &self.links,

@@ -1,75 +1,129 @@
-use Rattle.std.proofs.Common.{◌≡◌, ◌-◌, ℕ, arith, length, ap, sym, ◌∙◌}
+use Rattle.std.proofs.Common.{◌≡◌, ◌-◌, ◌+◌, ◌≤◌, ℕ, true, Some, arith, get_or, length, ap, subst}
+use Rattle.std.proofs.Common.{sym, ◌∙◌}
+use Rattle.std.specs.Prelude.{slice_get}
+use Rattle.std.proofs.lemmas.Option.{slice_get-get_or}
+use Rattle.linked_demand.specs.declared.rows.RowWish.{RowWish}
 use Rattle.linked_demand.specs.Links.{LinksRow}
-use Rattle.linked_demand.proofs.Cutting.{so_far_start, so_far_step, item_still, waits_still, so_far_cuts, last_at}
+use Rattle.linked_demand.specs.Rows.{needs_bed, row_in}
+use Rattle.linked_demand.proofs.Cutting.{cut_there, item_still, read_in_row, same_at, same_links, so_far_start}
+use Rattle.linked_demand.proofs.Cutting.{so_far_step, waits_still}
+use Rattle.linked_demand.proofs.Passing.{one_more, passing, passing_all}
 use Rattle.linked_demand.proofs.Staying.{none_new, none_marked}
-use Rattle.linked_demand.proofs.Telling.{steps_told, marks_told, steps_end}
+use Rattle.linked_demand.proofs.Telling.{steps_told, marks_told}
 use Rattle.linked_demand.proofs.cut.close_past.Goals as goal
-use Rattle.linked_demand.proofs.cut.close_past.Goals.{then-loop-end-test+else-index-to, else-loop-end-test}
+
+abbrev no_item : RowWish
+no_item = record { rank = 0; wish = 0; programme = 0; place = 0 }
 
 pub loop-end-init : goal.loop-end-init
 loop-end-init g c =
     let start = c.args.links.now in
+    let front = c.args.front.now in
+    let q = needs_bed start.state in
+    let all : passing q front (length front) ≡ length (row_in start.state front) =
+    passing_all q front (length front) (omega arith) in
     record {
-      cut = so_far_start c.args.to c.args.row.now.items start c.len-end.result (omega arith);
-      steps = omega (arith, none_new start c.args.bars.now start);
+      within = omega arith;
+      cut = so_far_start c.args.to (row_in start.state front) start (passing q front (length front)) all;
+      steps = omega (arith, all, none_new start c.args.bars.now start);
       marked = none_marked start c.args.bars.now start c.args.marked.now;
-    }
-
-pub loop-end-preserved : goal.loop-end-preserved
-loop-end-preserved g c =
-    let start = c.args.links.now in
-    let row = c.args.row.now.items in
-    let far = c.loop-end.invariant.cut in
-    let n : ℕ = c.loop-end.end - 1 in
-    let further =
-    so_far_step c.args.to row start c.loop-end.links c.close.new.self c.loop-end.end n c.index.result.now
-    c.index-last.result.now
-    far (omega arith) c.index.ensures c.if-index-to.true c.index-last.ensures c.close.ensures.value in
-    record {
-      cut = further;
-      steps =
-          steps_told start c.args.bars.now c.args.to row c.requires.stay c.loop-end.links c.close.new.self
-          c.loop-end.end n c.index-last.result.now.wish far further c.close.ensures.value
-          c.args.steps.now c.loop-end.steps c.tick.new.self c.close.new.steps (omega arith)
-          c.loop-end.invariant.steps c.tick.ensures c.close.ensures.steps;
-      marked =
-          marks_told start c.args.bars.now c.args.to row c.requires.stay c.loop-end.links c.close.new.self
-          c.loop-end.end n c.index-last.result.now.wish far further c.close.ensures.value
-          c.args.marked.now c.loop-end.marked c.close.new.marked c.loop-end.invariant.marked c.close.ensures.marked;
     }
 
 pub close-requires : goal.close-requires
 close-requires g c =
+    let start = c.args.links.now in
+    let front = c.args.front.now in
+    let q = needs_bed start.state in
+    let row = row_in start.state front in
     let far = c.loop-end.invariant.cut in
-    let schools : length c.args.links.now.state.dossier.schools ≡ length
-    c.loop-end.links.state.dossier.schools = ap (λ (r : LinksRow). length r.state.dossier.schools) (sym far.now_is) in
+    let end : ℕ = c.loop-end.end in
+    let n : ℕ = c.loop-end.end - 1 in
+    let next : end ≡ n + 1 = omega arith in
+    let x = get_or front n no_item in
+    let at : slice_get front n ≡ Some x =
+    slice_get-get_or front n no_item (omega (arith, c.loop-end.invariant.within, next)) in
+    let needs : q x ≡ true =
+    ap (λ (r : LinksRow). needs_bed r.state x) (sym far.now_is) ∙ sym c.needs_bed.ensures ∙ c.if-needs_bed.true in
+    let more = one_more q front n end x at next needs in
+    let read : x ≡ get_or row (passing q front n) x = read_in_row start.state front n x at needs in
+    let schools : length start.state.dossier.schools ≡ length c.loop-end.links.state.dossier.schools =
+    ap (λ (r : LinksRow). length r.state.dossier.schools) (sym far.now_is) in
     record {
-      waits = waits_still c.args.to c.args.row.now.items c.args.links.now c.loop-end.links c.loop-end.end
-          (c.loop-end.end - 1) c.index-last.result.now far (omega arith) c.index-last.ensures c.requires.row;
-      item = item_still c.args.to c.args.row.now.items c.args.links.now c.loop-end.links c.loop-end.end
-          (c.loop-end.end - 1) c.index-last.result.now far (omega arith) c.index-last.ensures c.requires.items;
+      waits = waits_still c.args.to row start c.loop-end.links (passing q front end) (passing q front n) x far
+          (omega (arith, more)) read c.requires.front.waits;
+      item = item_still c.args.to row start c.loop-end.links (passing q front end) (passing q front n) x far
+          (omega (arith, more)) read c.requires.front.items;
       bars = c.requires.bars ∙ schools;
       marked = c.loop-end.invariant.marked.as_long ∙ c.requires.marked
           ∙ ap (λ (r : LinksRow). length r.state.dossier.wishes) (sym far.now_is);
     }
 
-pub returns : goal.returns
-returns g c =
-    let row = c.args.row.now.items in
+pub loop-end-preserved-then-needs_bed : goal.loop-end-preserved-then-needs_bed
+loop-end-preserved-then-needs_bed g c =
+    let start = c.args.links.now in
+    let front = c.args.front.now in
+    let q = needs_bed start.state in
+    let row = row_in start.state front in
     let far = c.loop-end.invariant.cut in
+    let end : ℕ = c.loop-end.end in
+    let n : ℕ = c.loop-end.end - 1 in
+    let next : end ≡ n + 1 = omega arith in
+    let x = get_or front n no_item in
+    let at : slice_get front n ≡ Some x =
+    slice_get-get_or front n no_item (omega (arith, c.loop-end.invariant.within, next)) in
+    let needs : q x ≡ true =
+    ap (λ (r : LinksRow). needs_bed r.state x) (sym far.now_is) ∙ sym c.needs_bed.ensures ∙ c.if-needs_bed.true in
+    let more = one_more q front n end x at next needs in
+    let read : x ≡ get_or row (passing q front n) x = read_in_row start.state front n x at needs in
+    let further =
+    so_far_step c.args.to row start c.loop-end.links c.close.new.self (passing q front end) (passing q front n) x x
+    far (omega (arith, more)) read c.if-front-end.true read c.close.ensures.value in
     record {
-      cut =
-          so_far_cuts c.args.to row c.args.links.now c.loop-end.links c.loop-end.end
-          c.truncate.new.self.items far c.truncate.ensures.items
-          (elim c.loop-end-test.branch [
-            | then-loop-end-test+else-index-to w ↦
-                last_at c.args.to row c.loop-end.end w.index.result.now w.loop-end-test.true far.within
-                w.index.ensures w.if-index-to.false
-            | else-loop-end-test w ↦ λ x some at. absurd (omega (arith, some, w.loop-end-test.false))
-          ]);
-      state = ap (λ (r : LinksRow). r.state) far.now_is;
-      orders = ap (λ (r : LinksRow). r.orders) far.now_is;
-      steps = steps_end row c.truncate.new.self.items c.loop-end.end c.loop-end.steps _ far.within
-          c.truncate.ensures.items c.loop-end.invariant.steps;
-      marked = c.loop-end.invariant.marked;
+      within = omega (arith, c.loop-end.invariant.within);
+      cut = further;
+      steps =
+          steps_told start c.args.bars.now c.args.to row c.requires.front.stay c.loop-end.links c.close.new.self
+          (passing q front end) (passing q front n) x.wish far further c.close.ensures.value
+          c.args.steps.now c.loop-end.steps c.tick.new.self c.close.new.steps (omega (arith, more))
+          c.loop-end.invariant.steps c.tick.ensures c.close.ensures.steps;
+      marked =
+          marks_told start c.args.bars.now c.args.to row c.requires.front.stay c.loop-end.links c.close.new.self
+          (passing q front end) (passing q front n) x.wish far further c.close.ensures.value
+          c.args.marked.now c.loop-end.marked c.close.new.marked c.loop-end.invariant.marked c.close.ensures.marked;
+    }
+
+pub returns-else-front-end : goal.returns-else-front-end
+returns-else-front-end g c =
+    let start = c.args.links.now in
+    let front = c.args.front.now in
+    let inv = c.loop-end.invariant in
+    let end : ℕ = c.loop-end.end in
+    let last : RowWish = get_or front (end - 1) no_item in
+    let at : slice_get front (end - 1) ≡ Some last =
+    slice_get-get_or front (end - 1) no_item (omega (arith, inv.within, c.loop-end-test.true)) in
+    let P = λ (y : RowWish). y.rank ≤ c.args.to in
+    record {
+      within = inv.within;
+      cut = cut_there c.args.to front start c.loop-end.links end c.requires.front.rises inv.cut inv.within
+          (λ y some there. subst P (same_at front (end - 1) last y at there) c.if-front-end.false);
+      links = same_links c.args.to (row_in start.state front) start c.loop-end.links
+          (passing (needs_bed start.state) front end) inv.cut;
+      steps = inv.steps;
+      marked = inv.marked;
+    }
+
+pub returns-after-loop-end : goal.returns-after-loop-end
+returns-after-loop-end g c =
+    let start = c.args.links.now in
+    let front = c.args.front.now in
+    let inv = c.loop-end.invariant in
+    let end : ℕ = c.loop-end.end in
+    record {
+      within = inv.within;
+      cut = cut_there c.args.to front start c.loop-end.links end c.requires.front.rises inv.cut inv.within
+          (λ y some there. absurd (omega (arith, some, c.loop-end-test.false)));
+      links = same_links c.args.to (row_in start.state front) start c.loop-end.links
+          (passing (needs_bed start.state) front end) inv.cut;
+      steps = inv.steps;
+      marked = inv.marked;
     }

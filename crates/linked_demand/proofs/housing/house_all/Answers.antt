@@ -1,101 +1,99 @@
-use Rattle.std.proofs.Common.{◌<◌, ap, arith, length, sym, subst, refl, false, List}
-use Rattle.std.specs.Prelude.{slice_index}
-use Rattle.std.proofs.lemmas.Option.{slice_get_read}
+use Rattle.std.proofs.Common.{◌<◌, ap, arith, length, sym, ◌∙◌}
 use Rattle.admit_core.specs.State.{State}
-use Rattle.linked_demand.specs.declared.rows.RowWish.{RowWish}
-use Rattle.linked_demand.specs.Demand.{is_proposed_at}
-use Rattle.linked_demand.specs.Housed.{AreHoused}
-use Rattle.linked_demand.specs.Rows.{AreOpen, RanksRise}
-use Rattle.linked_demand.proofs.Lowered.{one_free_each}
-use Rattle.linked_demand.proofs.RoundFalls.{rows_open}
+use Rattle.linked_demand.specs.Rows.{row_in, rows_to}
+use Rattle.linked_demand.proofs.FirstBoarders.{first_open, row_found}
 use Rattle.linked_demand.proofs.HousedAll.{none_yet, one_more, all_schools}
+use Rattle.linked_demand.proofs.Lowered.{one_free_each}
+use Rattle.linked_demand.proofs.RowsTo.{length_rows}
 use Rattle.linked_demand.proofs.housing.house_all.Goals as goal
 
 pub loop-school-init : goal.loop-school-init
 loop-school-init c =
-    none_yet c.args.links.now c.args.rows.now c.args.free.now c.args.overfilled.now c.in_ok-all.all.items
-    c.requires.overfilled c.in_ok-all.ensures.items
+    let s = c.args.links.now.state in
+    let rows = rows_to s c.args.boarders.now c.args.ends.now in
+    let many = length_rows s c.args.boarders.now c.args.ends.now c.requires.ends.one_each in
+    none_yet c.args.links.now rows c.args.free.now c.args.overfilled.now c.in_ok-all.all.items
+    (c.requires.overfilled ∙ sym many) c.in_ok-all.ensures.items
 
-pub bounds-free-place : goal.bounds-free-place
-bounds-free-place c =
-    let right = c.requires.rows.1 in
+pub front_in-front-requires-clause-school : goal.front_in-front-requires-clause-school
+front_in-front-requires-clause-school c = omega (
+  arith,
+  c.loop-school-test.true,
+  c.school_count-count.ensures,
+  ap (λ (s : State). length s.dossier.schools) c.state.ensures,
+  c.requires.boarders.rows_are.one_each,
+)
+
+pub bounds-free-school : goal.bounds-free-school
+bounds-free-school c =
+    let s = c.args.links.now.state in
+    let rows = rows_to s c.args.boarders.now c.args.ends.now in
+    let (bars, right) = c.requires.rows in
     omega (
       arith,
       c.loop-school-test.true,
       c.school_count-count.ensures,
-      ap (λ (s : State). length s.dossier.schools) c.state.ensures,
+      ap (λ (t : State). length t.dossier.schools) c.state.ensures,
       right.bars_each,
       right.rows_each,
-      one_free_each c.args.links.now c.requires.rows.0 c.args.free.now c.args.rows.now right,
+      one_free_each c.args.links.now bars c.args.free.now rows right,
     )
 
-pub house_row-requires-clause-items : goal.house_row-requires-clause-items
-house_row-requires-clause-items c =
-    let right = c.requires.rows.1 in
-    let rows = c.args.rows.now in
-    let lt : c.loop-school.school < length rows =
-    omega (
-      arith,
-      c.loop-school-test.true,
-      c.school_count-count.ensures,
-      ap (λ (s : State). length s.dossier.schools) c.state.ensures,
-      right.bars_each,
-      right.rows_each,
-    ) in
-    let P = λ (xs : List RowWish). AreOpen c.args.links.now xs in
-    subst P (sym c.deref.ensures.value) (rows_open c.args.links.now c.requires.rows.0 c.args.free.now rows right
-    c.loop-school.school c.index-rows-place.result
-    (slice_get_read rows (length rows) c.loop-school.school c.index-rows-place.result refl lt c.index-rows-place.is))
+pub house_row-requires : goal.house_row-requires
+house_row-requires c =
+    let (bars, right) = c.requires.rows in
+    first_open c.args.links.now bars c.args.free.now c.args.boarders.now c.args.ends.now c.requires.boarders
+    c.requires.ends right c.loop-school.school c.front_in-front.result.now c.front_in-front.ensures
 
-pub house_row-requires-clause-rises : goal.house_row-requires-clause-rises
-house_row-requires-clause-rises c =
-    let right = c.requires.rows.1 in
-    let rows = c.args.rows.now in
-    let lt : c.loop-school.school < length rows =
+pub put-requires : goal.put-requires
+put-requires c =
+    let s = c.args.links.now.state in
+    let many = length_rows s c.args.boarders.now c.args.ends.now c.requires.ends.one_each in
     omega (
       arith,
       c.loop-school-test.true,
       c.school_count-count.ensures,
-      ap (λ (s : State). length s.dossier.schools) c.state.ensures,
-      right.bars_each,
-      right.rows_each,
-    ) in
-    let P = λ (xs : List RowWish). RanksRise xs in
-    subst P (sym c.deref.ensures.value) (right.rows_are c.loop-school.school c.index-rows-place.result
-    (slice_get_read rows (length rows) c.loop-school.school c.index-rows-place.result refl lt
-    c.index-rows-place.is)).rises
+      ap (λ (t : State). length t.dossier.schools) c.state.ensures,
+      c.requires.boarders.rows_are.one_each,
+      c.loop-school.invariant.answer_each,
+      many,
+    )
 
 pub loop-school-preserved : goal.loop-school-preserved
 loop-school-preserved c =
-    let right = c.requires.rows.1 in
-    let rows = c.args.rows.now in
-    let lt : c.loop-school.school < length rows =
-    omega (
+    let links = c.args.links.now in
+    let s = links.state in
+    let boarders = c.args.boarders.now in
+    let ends = c.args.ends.now in
+    let rows = rows_to s boarders ends in
+    let many = length_rows s boarders ends c.requires.ends.one_each in
+    let front = c.front_in-front.result.now in
+    let lt : c.loop-school.school < length rows = omega (
       arith,
       c.loop-school-test.true,
       c.school_count-count.ensures,
-      ap (λ (s : State). length s.dossier.schools) c.state.ensures,
-      right.bars_each,
-      right.rows_each,
+      ap (λ (t : State). length t.dossier.schools) c.state.ensures,
+      c.requires.boarders.rows_are.one_each,
+      many,
     ) in
-    let P = λ (xs : List RowWish). AreHoused (is_proposed_at c.args.links.now) (λ k. false) xs
-    (slice_index c.args.free.now c.loop-school.school) c.in_ok-housed.field-0.over c.in_ok-housed.field-0.housed in
-    one_more c.args.links.now rows c.args.free.now c.loop-school.school c.loop-school.overfilled
-    c.loop-school.all.items c.loop-school.invariant lt c.index-rows-place.result
-    (slice_get_read rows (length rows) c.loop-school.school c.index-rows-place.result refl lt c.index-rows-place.is)
-    c.in_ok-housed.field-0.over c.in_ok-housed.field-0.housed (subst P c.deref.ensures.value c.in_ok-housed.ensures)
+    one_more links rows c.args.free.now c.loop-school.school c.loop-school.overfilled
+    c.loop-school.all.items c.loop-school.invariant lt (row_in s front)
+    (row_found s boarders ends c.requires.ends.one_each c.loop-school.school front c.front_in-front.ensures)
+    c.in_ok-housed.field-0.over c.in_ok-housed.field-0.housed c.in_ok-housed.ensures
     c.put.new.self c.push.new.self.items c.put.ensures c.in_ok-push.ensures.items
 
 pub returns : goal.returns
 returns c =
-    let right = c.requires.rows.1 in
-    all_schools c.args.links.now c.args.rows.now c.args.free.now c.loop-school.school c.loop-school.overfilled
+    let s = c.args.links.now.state in
+    let rows = rows_to s c.args.boarders.now c.args.ends.now in
+    let many = length_rows s c.args.boarders.now c.args.ends.now c.requires.ends.one_each in
+    all_schools c.args.links.now rows c.args.free.now c.loop-school.school c.loop-school.overfilled
     c.loop-school.all.items (omega (
       arith,
       c.loop-school-test.false,
       c.loop-school.auto.school-end,
       c.school_count-count.ensures,
-      ap (λ (s : State). length s.dossier.schools) c.state.ensures,
-      right.bars_each,
-      right.rows_each,
+      ap (λ (t : State). length t.dossier.schools) c.state.ensures,
+      c.requires.boarders.rows_are.one_each,
+      many,
     )) c.loop-school.invariant

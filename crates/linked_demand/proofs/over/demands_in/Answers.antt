@@ -2,46 +2,55 @@ use Rattle.std.proofs.Common.{List, Vec, ◌++◌, ap, sym, ◌∙◌}
 use Rattle.std.specs.declared.alloc.Global.{Global}
 use Rattle.proposals.specs.declared.demands.Demand.{Demand}
 use Rattle.linked_demand.specs.Demand.{firsts, is_proposed_at}
+use Rattle.linked_demand.specs.Rows.{needs_bed, row_in}
 use Rattle.linked_demand.proofs.RoundFalls.{item_open}
-use Rattle.linked_demand.proofs.RowSteps.{firsts_all, firsts_more, firsts_same, not_above, not_proposed}
+use Rattle.linked_demand.proofs.RowSteps.{firsts_all, firsts_more, firsts_same, not_above, not_needed, not_proposed}
 use Rattle.linked_demand.proofs.over.demands_in.Goals as goal
-use Rattle.linked_demand.proofs.over.demands_in.Goals.{then-named-item+then-proposes+in_ok-push, else-named-item}
-use Rattle.linked_demand.proofs.over.demands_in.Goals.{else-named-item-via-then-named-item+else-proposes}
-use Rattle.linked_demand.proofs.over.demands_in.Goals.{else-named-item-via-else-named-item}
+use Rattle.linked_demand.proofs.over.demands_in.Goals.{then-named-item+then-needs_bed+then-proposes+in_ok-push}
+use Rattle.linked_demand.proofs.over.demands_in.Goals.{else-named-item, else-named-item-via-else-named-item}
+use Rattle.linked_demand.proofs.over.demands_in.Goals.{else-named-item-via-then-named-item+then-needs_bed+else-proposes}
+use Rattle.linked_demand.proofs.over.demands_in.Goals.{else-named-item-via-then-named-item+else-needs_bed}
 
 pub proposes-requires : goal.proposes-requires
-proposes-requires c = item_open c.args.links.now c.args.row.now c.requires c.loop-item.item-index c.loop-item-test.true
-    _
+proposes-requires c =
+    item_open c.args.links.now c.args.front.now c.requires.items c.loop-item.item-index c.loop-item-test.true _
+    (sym c.needs_bed.ensures ∙ c.if-needs_bed.true)
 
 pub loop-item-init : goal.loop-item-init
 loop-item-init c =
-    ap (λ (ds : List Demand). ds ++ firsts (is_proposed_at c.args.links.now) 0 c.args.row.now)
+    ap (λ (ds : List Demand). ds
+    ++ firsts (is_proposed_at c.args.links.now) 0 (row_in c.args.links.now.state c.args.front.now))
     (sym c.new-demands.ensures.items)
 
 pub loop-item-preserved : goal.loop-item-preserved
 loop-item-preserved c =
     let p = is_proposed_at c.args.links.now in
-    let row = c.args.row.now in
+    let q = needs_bed c.args.links.now.state in
+    let front = c.args.front.now in
     let i = c.loop-item.item-index in
     let lt = c.loop-item-test.true in
     let last = c.loop-item.named in
     let found = c.loop-item.demands.items in
     elim c.if-named-item.branch [
-      | then-named-item+then-proposes+in_ok-push w ↦
-          firsts_more p row i _ lt last found c.if-named-item.demands.items c.if-named-item.named w.if-named-item.true
+      | then-named-item+then-needs_bed+then-proposes+in_ok-push w ↦
+          firsts_more p q front i _ lt last found c.if-named-item.demands.items c.if-named-item.named
+          w.if-named-item.true (sym w.needs_bed.ensures ∙ w.if-needs_bed.true)
           (sym w.proposes.ensures ∙ w.if-proposes.true)
           (ap (λ (v : Vec Demand Global). v.items) w.demands-is ∙ w.in_ok-push.ensures.items) w.named-is
           c.loop-item.invariant
       | else-named-item w ↦
-          firsts_same p row i _ lt last found c.if-named-item.demands.items c.if-named-item.named
+          firsts_same p q front i _ lt last found c.if-named-item.demands.items c.if-named-item.named
           (ap (λ (v : Vec Demand Global). v.items) w.demands-is) w.named-is
           (elim w.else-named-item.branch [
-            | else-named-item-via-then-named-item+else-proposes y ↦
-                not_proposed p row i _ lt last (sym y.proposes.ensures ∙ y.if-proposes.false)
-            | else-named-item-via-else-named-item y ↦ not_above p row i _ lt last y.if-named-item.false
+            | else-named-item-via-then-named-item+then-needs_bed+else-proposes y ↦
+                not_proposed p q front i _ lt last (sym y.proposes.ensures ∙ y.if-proposes.false)
+            | else-named-item-via-then-named-item+else-needs_bed y ↦
+                not_needed p q front i _ lt last (sym y.needs_bed.ensures ∙ y.if-needs_bed.false)
+            | else-named-item-via-else-named-item y ↦ not_above p q front i _ lt last y.if-named-item.false
           ]) c.loop-item.invariant
     ]
 
 pub returns : goal.returns
-returns c = firsts_all (is_proposed_at c.args.links.now) c.args.row.now c.loop-item.item-index c.loop-item.named
-    c.loop-item.demands.items c.loop-item-test.false c.loop-item.invariant
+returns c =
+    firsts_all (is_proposed_at c.args.links.now) (needs_bed c.args.links.now.state) c.args.front.now
+    c.loop-item.item-index c.loop-item.named c.loop-item.demands.items c.loop-item-test.false c.loop-item.invariant

@@ -1,6 +1,6 @@
-use Rattle.std.proofs.Common.{ℕ, arith}
-use Rattle.linked_demand.specs.Opens.{seat_row}
-use Rattle.linked_demand.proofs.Closing.{programme_within}
+use Rattle.std.proofs.Common.{ℕ, ◌||◌, List, Bool, false, arith, ap, get_or, length, ◌∙◌}
+use Rattle.linked_demand.specs.Opens.{all_sure, seat_row}
+use Rattle.linked_demand.proofs.Closing.{programme_within, wish_within}
 use Rattle.linked_demand.proofs.Items.{closes_item, item_stands, item_proposed}
 use Rattle.linked_demand.proofs.Leaving.{reach_right, reached_each, reached_is, row_there}
 use Rattle.linked_demand.proofs.links.SeatLinks.proposes.Goals as goal
@@ -10,6 +10,12 @@ index-front-requires c =
     let reach = c.self.invariant.reach in
     let k = closes_item reach.links c.args.self.now c.self.view_is c.args.item c.requires.waits c.requires.item in
     omega (arith, programme_within k, reached_each k c.self.inside.reached.items reach.reached_are)
+
+pub is_seated-requires : goal.is_seated-requires
+is_seated-requires c =
+    let reach = c.self.invariant.reach in
+    let k = closes_item reach.links c.args.self.now c.self.view_is c.args.item c.requires.waits c.requires.item in
+    record { wish = wish_within k; early = ap length c.deref.ensures.value ∙ c.self.invariant.early_each }
 
 pub returns : goal.returns
 returns c =
@@ -22,8 +28,11 @@ returns c =
     let k = closes_item reach.links c.args.self.now c.self.view_is c.args.item c.requires.waits c.requires.item in
     let at = item_stands reach.links c.args.self.now c.self.view_is c.args.item c.requires.waits c.requires.item in
     let front = reach_right k r.reached.items reach.reached_are c.index-front.result.now c.index-front.ensures in
-    let reached = reached_is s orders opens p c.args.item.place c.index-front.result.now
-    c.is_reached-reached.result front at.within c.is_reached-reached.ensures in
+    let near : Bool = c.is_reached-reached.result in
+    let reached = reached_is s orders opens p c.args.item.place c.index-front.result.now near front at.within
+    c.is_reached-reached.ensures in
     item_proposed reach.links c.args.self.now c.self.view_is c.args.item c.requires.waits c.requires.item
     c.requires.flag (seat_row s orders opens p) (row_there s orders opens p (programme_within k))
-    c.is_reached-reached.result c.is_seated.result reached c.is_seated.ensures
+    near c.is_seated.result reached
+    (c.is_seated.ensures
+    ∙ ap (λ (es : List Bool). near || get_or (all_sure s es) c.args.item.wish false) c.deref.ensures.value)

@@ -1,5 +1,5 @@
 use Rattle.std.proofs.Common.{rules, ◌≡◌, refl, sym, length, subst}
-use Rattle.linked_demand.specs.Boarders.{AreBoarders}
+use Rattle.linked_demand.specs.Boarders.{AreBySchool}
 use Rattle.linked_demand.specs.Links.{LinksRow}
 use Rattle.linked_demand.specs.Opens.{opens_of}
 use Rattle.linked_demand.proofs.BarEach.{bar_each_same}
@@ -11,11 +11,12 @@ returns-clause-bars c = bar_each_same c.in_ok-own.own.items c.in_ok-bars.bars.it
 
 pub schools_of-requires : goal.schools_of-requires
 schools_of-requires c =
-    let P = λ (l : LinksRow). AreBoarders l.state.dossier c.deref.result.now in
+    let boarders = c.as_slice-boarders.result.now in
+    let P = λ (l : LinksRow). AreBySchool l.state.dossier l.orders boarders in
     let Q = λ (l : LinksRow). l.opens ≡ opens_of l.state c.args.ceilings.now in
     let R = λ (l : LinksRow). length c.args.ceilings.now ≡ length l.state.dossier.schools in
-    let right : AreBoarders c.args.state.now.dossier c.deref.result.now =
-    rw c.deref.ensures.value c.requires.lineup.boarders in
+    let right : AreBySchool c.args.state.now.dossier c.args.orders.now.orders boarders =
+    rw c.as_slice-boarders.ensures.value c.requires.lineup.boarders in
     record {
       boarders = subst P (sym c.in_ok-links.ensures) right;
       opens = subst Q (sym c.in_ok-links.ensures) refl;

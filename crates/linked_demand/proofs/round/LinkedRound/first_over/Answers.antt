@@ -6,12 +6,9 @@ pub get-requires : goal.get-requires
 get-requires c =
     let r = c.self.inside in
     let lt : c.args.i < length r.overfilled =
-    answer_within r.links r.ceilings.items r.bars.items r.free.items r.rows.items r.overfilled r.marked r.housed.items
-    c.args.self.now c.self.invariant c.self.view_is c.args.i c.requires in
+    answer_within c.self.invariant.under c.self.view_is c.args.i c.requires in
     omega arith
 
 pub returns : goal.returns
 returns c =
-    let r = c.self.inside in
-    c.get.ensures ∙ answer_read r.links r.ceilings.items r.bars.items r.free.items r.rows.items r.overfilled
-    r.marked r.housed.items c.args.self.now c.self.invariant c.self.view_is c.args.i c.requires
+    c.get.ensures ∙ answer_read c.self.invariant.under c.self.view_is c.args.i c.requires

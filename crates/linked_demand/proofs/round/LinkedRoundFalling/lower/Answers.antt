@@ -1,145 +1,76 @@
-use Rattle.std.proofs.Common.{◌<◌, arith, length, ◌∙◌, ap}
-use Rattle.linked_demand.proofs.RoundFalls.{all_wait, items_own}
+use Rattle.std.proofs.Common.{◌≡◌, ap}
+use Rattle.linked_demand.specs.Links.{LinksRow}
+use Rattle.linked_demand.specs.Rows.{AreFirst}
+use Rattle.linked_demand.proofs.FirstBoarders.{first_cut, row_found}
+use Rattle.linked_demand.proofs.Lowered.{lowered, lowered_along, round_now, stay, steps_now}
+use Rattle.linked_demand.proofs.Rounding.{bars_fallen}
 use Rattle.linked_demand.proofs.Waiting.{all_open_wait}
-use Rattle.std.proofs.lemmas.List.{length-set}
-use Rattle.linked_demand.proofs.Rounding.{bar_within, bars_fallen}
-use Rattle.linked_demand.proofs.Lowered.{one_free_each, within_bars, stay, round_now, system_now, offers_now, seen_now}
-use Rattle.linked_demand.proofs.Lowered.{steps_now, marks_long, now_long, in_housed, in_overs, lowered}
 use Rattle.linked_demand.proofs.round.LinkedRoundFalling.lower.Goals as goal
 
-pub index_mut-requires : goal.index_mut-requires
-index_mut-requires g c =
+pub close_past-end-requires-clause-front : goal.close_past-end-requires-clause-front
+close_past-end-requires-clause-front g c =
     let r = c.self.inside in
-    let lt : c.args.i < length r.bars.items =
-    bar_within r.links r.ceilings.items r.bars.items r.free.items r.rows.items r.overfilled r.marked r.housed.items
-    c.args.self.now c.self.invariant c.self.view_is c.args.i c.requires.in_range in
-    omega arith
+    let whole = c.self.invariant in
+    let boarders = r.boarders.now in
+    let ends = r.ends.items in
+    let front = c.front_in-front.result.now in
+    let first : AreFirst boarders ends c.args.i front = rw c.deref.ensures.value at c.front_in-front.ensures in
+    let found = row_found r.links.state boarders ends whole.ends_are.one_each c.args.i front first in
+    first_cut r.links r.bars.items r.free.items c.deref-2.result.now c.args.to boarders ends whole.boarders_are
+    whole.ends_are whole.under.round c.args.i front first
+    (stay whole.under c.self.view_is c.args.i c.args.to c.requires.in_range c.requires.lower found
+    c.deref-2.result.now c.deref-2.ensures.value)
 
-pub index_mut-requires-2 : goal.index_mut-requires-2
-index_mut-requires-2 g c =
+pub house_marked-requires-clause-waits : goal.house_marked-requires-clause-waits
+house_marked-requires-clause-waits g c =
     let r = c.self.inside in
-    let lt : c.args.i < length r.bars.items = bar_within r.links r.ceilings.items r.bars.items r.free.items
-    r.rows.items r.overfilled r.marked r.housed.items c.args.self.now c.self.invariant c.self.view_is c.args.i
-    c.requires.in_range in
-    omega (arith, lt, c.self.invariant.round.rows_each)
-
-pub close_past-requires : goal.close_past-requires
-close_past-requires g c =
-    let r = c.self.inside in
-    record {
-      row = all_wait r.links r.bars.items r.free.items c.args.i c.args.to r.rows.items
-          c.index_mut-2.result.now c.self.invariant.round
-          (within_bars r.links r.ceilings.items r.bars.items r.free.items r.rows.items r.overfilled r.marked
-          r.housed.items
-          c.args.self.now c.self.invariant c.self.view_is c.args.i c.args.to c.requires.in_range
-          c.requires.lower c.index_mut-2.result.now c.index_mut-2.ensures.value) c.index_mut-2.ensures.value;
-      items = items_own r.links r.bars.items r.free.items c.args.i c.args.to r.rows.items
-          c.index_mut-2.result.now c.self.invariant.round
-          (within_bars r.links r.ceilings.items r.bars.items r.free.items r.rows.items r.overfilled r.marked
-          r.housed.items
-          c.args.self.now c.self.invariant c.self.view_is c.args.i c.args.to c.requires.in_range
-          c.requires.lower c.index_mut-2.result.now c.index_mut-2.ensures.value) c.index_mut-2.ensures.value;
-      bars = omega (arith, c.deref.ensures.len, c.self.invariant.round.bars_each);
-      marked = c.self.invariant.marked_each;
-      stay = stay r.links r.ceilings.items r.bars.items r.free.items r.rows.items r.overfilled r.marked r.housed.items
-          c.args.self.now c.self.invariant c.self.view_is c.args.i c.args.to c.requires.in_range
-          c.requires.lower c.index_mut-2.result.now c.index_mut-2.ensures.value c.deref.result.now
-          c.deref.ensures.value;
-    }
-
-pub cut_school-requires : goal.cut_school-requires
-cut_school-requires g c =
-    let r = c.self.inside in
-    record {
-      housed = in_housed r.links r.ceilings.items r.bars.items r.free.items r.rows.items r.overfilled r.marked
-          r.housed.items c.args.self.now c.self.invariant c.self.view_is c.args.i c.args.to c.requires.in_range
-          c.requires.lower c.index_mut-2.result.now c.index_mut-2.ensures.value c.close_past.new.links
-          c.close_past.new.row c.close_past.ensures.state c.close_past.ensures.orders c.close_past.ensures.cut
-          c.deref.result.now c.deref.ensures.value c.close_past.new.marked c.close_past.ensures.marked;
-      overfilled = in_overs r.links r.ceilings.items r.bars.items r.free.items r.rows.items r.overfilled r.marked
-          r.housed.items c.args.self.now c.self.invariant c.self.view_is c.args.i c.args.to c.requires.in_range
-          c.requires.lower c.index_mut-2.result.now c.index_mut-2.ensures.value c.close_past.new.links
-          c.close_past.new.row c.close_past.ensures.state c.close_past.ensures.orders c.close_past.ensures.cut
-          c.deref.result.now c.deref.ensures.value c.close_past.new.marked c.close_past.ensures.marked;
-    }
-
-pub house_marked-requires : goal.house_marked-requires
-house_marked-requires g c =
-    let r = c.self.inside in
-    let links = c.close_past.new.links in
-    let round = round_now r.links r.ceilings.items r.bars.items r.free.items r.rows.items r.overfilled r.marked
-    r.housed.items c.args.self.now c.self.invariant c.self.view_is c.args.i c.args.to c.requires.in_range
-    c.requires.lower c.index_mut-2.result.now c.index_mut-2.ensures.value c.close_past.new.links
-    c.close_past.new.row c.close_past.ensures.state c.close_past.ensures.orders c.close_past.ensures.cut in
-    record {
-      marked = marks_long r.links r.ceilings.items r.bars.items r.free.items r.rows.items r.overfilled r.marked
-          r.housed.items c.args.self.now c.self.invariant c.self.view_is c.args.i c.args.to c.requires.in_range
-          c.requires.lower c.index_mut-2.result.now c.index_mut-2.ensures.value c.close_past.new.links
-          c.close_past.new.row c.close_past.ensures.state c.close_past.ensures.orders c.close_past.ensures.cut
-          c.deref.result.now c.deref.ensures.value c.close_past.new.marked c.close_past.ensures.marked;
-      waits = all_open_wait links.state round.marks_each _ links.opens round.opens_are;
-      free = ap length c.deref-2.ensures.value
-          ∙ now_long r.links r.ceilings.items r.bars.items r.free.items r.rows.items r.overfilled r.marked
-          r.housed.items c.args.self.now c.self.invariant c.self.view_is c.args.i c.args.to c.requires.in_range
-          c.requires.lower c.index_mut-2.result.now c.index_mut-2.ensures.value c.close_past.new.links
-          c.close_past.new.row c.close_past.ensures.state c.close_past.ensures.orders c.close_past.ensures.cut
-          c.deref.result.now c.deref.ensures.value c.close_past.new.marked c.close_past.ensures.marked r.free.items
-          (one_free_each r.links r.bars.items r.free.items r.rows.items c.self.invariant.round);
-      housed = ap length c.cut_school.ensures.housed ∙ length-set r.housed.items c.args.i _
-          ∙ now_long r.links r.ceilings.items r.bars.items r.free.items r.rows.items r.overfilled r.marked
-          r.housed.items c.args.self.now c.self.invariant c.self.view_is c.args.i c.args.to c.requires.in_range
-          c.requires.lower c.index_mut-2.result.now c.index_mut-2.ensures.value c.close_past.new.links
-          c.close_past.new.row c.close_past.ensures.state c.close_past.ensures.orders c.close_past.ensures.cut
-          c.deref.result.now c.deref.ensures.value c.close_past.new.marked c.close_past.ensures.marked
-          r.housed.items c.self.invariant.housed_are.one_each;
-      overfilled = ap length c.cut_school.ensures.overfilled ∙ length-set r.overfilled c.args.i _
-          ∙ now_long r.links r.ceilings.items r.bars.items r.free.items r.rows.items r.overfilled r.marked
-          r.housed.items c.args.self.now c.self.invariant c.self.view_is c.args.i c.args.to c.requires.in_range
-          c.requires.lower c.index_mut-2.result.now c.index_mut-2.ensures.value c.close_past.new.links
-          c.close_past.new.row c.close_past.ensures.state c.close_past.ensures.orders c.close_past.ensures.cut
-          c.deref.result.now c.deref.ensures.value c.close_past.new.marked c.close_past.ensures.marked
-          r.overfilled c.self.invariant.housed_are.answer_each;
-    }
+    let whole = c.self.invariant in
+    let front = c.front_in-front.result.now in
+    let links = c.close_past-end.new.links in
+    let first : AreFirst r.boarders.now r.ends.items c.args.i front =
+    rw c.deref.ensures.value at c.front_in-front.ensures in
+    let found = row_found r.links.state r.boarders.now r.ends.items whole.ends_are.one_each c.args.i front first in
+    let state : links.state ≡ r.links.state = ap (λ (l : LinksRow). l.state) c.close_past-end.ensures.links in
+    let orders : links.orders ≡ r.links.orders = ap (λ (l : LinksRow). l.orders) c.close_past-end.ensures.links in
+    let round = round_now whole.under c.self.view_is c.args.i c.args.to c.requires.in_range c.requires.lower found
+    state orders c.close_past-end.ensures.cut in
+    all_open_wait links.state round.marks_each _ links.opens round.opens_are
 
 pub invariant_of-self : goal.invariant_of-self
 invariant_of-self g c =
     let r = c.self.inside in
-    lowered r.links r.ceilings.items r.bars.items r.free.items r.rows.items r.overfilled r.marked
-    r.housed.items c.args.self.now c.self.invariant c.self.view_is c.args.i c.args.to c.requires.in_range
-    c.requires.lower c.index_mut-2.result.now c.index_mut-2.ensures.value c.close_past.new.links
-    c.close_past.new.row c.close_past.ensures.state c.close_past.ensures.orders c.close_past.ensures.cut
-    c.deref.result.now c.deref.ensures.value c.close_past.new.marked c.close_past.ensures.marked c.deref-2.result.now
-    c.deref-2.ensures.value c.cut_school.new.overfilled c.cut_school.new.housed.items c.cut_school.ensures.overfilled
+    let whole = c.self.invariant in
+    let boarders = r.boarders.now in
+    let ends = r.ends.items in
+    let front = c.front_in-front.result.now in
+    let links = c.close_past-end.new.links in
+    let first : AreFirst boarders ends c.args.i front = rw c.deref.ensures.value at c.front_in-front.ensures in
+    let found = row_found r.links.state boarders ends whole.ends_are.one_each c.args.i front first in
+    let state : links.state ≡ r.links.state = ap (λ (l : LinksRow). l.state) c.close_past-end.ensures.links in
+    let orders : links.orders ≡ r.links.orders = ap (λ (l : LinksRow). l.orders) c.close_past-end.ensures.links in
+    lowered_along r.links links r.ceilings.items _ r.free.items boarders ends c.house_marked.new.overfilled
+    c.house_marked.new.marked c.house_marked.new.housed.items c.close_past-end.ensures.links whole.boarders_are
+    whole.ends_are c.args.i c.close_past-end.result front first c.close_past-end.ensures.within
+    (lowered whole.under c.self.view_is c.args.i c.args.to c.requires.in_range c.requires.lower found state orders
+    c.close_past-end.ensures.cut c.deref-2.ensures.value c.close_past-end.ensures.marked c.deref-3.result.now
+    c.deref-3.ensures.value c.cut_school.new.overfilled c.cut_school.new.housed.items c.cut_school.ensures.overfilled
     c.cut_school.ensures.housed c.house_marked.new.overfilled c.house_marked.new.marked
-    c.house_marked.new.housed.items c.house_marked.ensures.all c.house_marked.ensures.unmarked
+    c.house_marked.new.housed.items c.house_marked.ensures.all c.house_marked.ensures.unmarked)
 
-pub returns : goal.returns
-returns g c =
+pub returns-clause-bars : goal.returns-clause-bars
+returns-clause-bars g c = bars_fallen c.self.invariant.under c.self.view_is c.args.i c.args.to
+
+pub returns-clause-steps : goal.returns-clause-steps
+returns-clause-steps g c =
     let r = c.self.inside in
-    record {
-      bars = bars_fallen r.links r.ceilings.items r.bars.items r.free.items r.rows.items r.overfilled r.marked
-          r.housed.items
-          c.args.self.now c.self.invariant c.self.view_is c.args.i c.args.to;
-      same = system_now r.links r.ceilings.items r.bars.items r.free.items r.rows.items r.overfilled r.marked
-          r.housed.items
-          c.args.self.now c.self.invariant c.self.view_is c.args.i c.args.to c.requires.in_range
-          c.requires.lower c.index_mut-2.result.now c.index_mut-2.ensures.value c.close_past.new.links
-          c.close_past.new.row c.close_past.ensures.state c.close_past.ensures.orders c.close_past.ensures.cut;
-      offers = offers_now r.links r.ceilings.items r.bars.items r.free.items r.rows.items r.overfilled r.marked
-          r.housed.items
-          c.args.self.now c.self.invariant c.self.view_is c.args.i c.args.to c.requires.in_range
-          c.requires.lower c.index_mut-2.result.now c.index_mut-2.ensures.value c.close_past.new.links
-          c.close_past.new.row c.close_past.ensures.state c.close_past.ensures.orders c.close_past.ensures.cut;
-      round = seen_now r.links r.ceilings.items r.bars.items r.free.items r.rows.items r.overfilled r.marked
-          r.housed.items
-          c.args.self.now c.self.invariant c.self.view_is c.args.i c.args.to c.requires.in_range
-          c.requires.lower c.index_mut-2.result.now c.index_mut-2.ensures.value c.close_past.new.links
-          c.close_past.new.row c.close_past.ensures.state c.close_past.ensures.orders c.close_past.ensures.cut;
-      steps = steps_now r.links r.ceilings.items r.bars.items r.free.items r.rows.items r.overfilled r.marked
-          r.housed.items
-          c.args.self.now c.self.invariant c.self.view_is c.args.i c.args.to c.requires.in_range
-          c.requires.lower c.index_mut-2.result.now c.index_mut-2.ensures.value c.close_past.new.links
-          c.close_past.new.row c.close_past.ensures.state c.close_past.ensures.orders
-          c.close_past.ensures.cut c.deref.result.now c.deref.ensures.value c.args.steps.now
-          c.close_past.new.steps c.close_past.ensures.steps;
-    }
+    let whole = c.self.invariant in
+    let front = c.front_in-front.result.now in
+    let links = c.close_past-end.new.links in
+    let first : AreFirst r.boarders.now r.ends.items c.args.i front =
+    rw c.deref.ensures.value at c.front_in-front.ensures in
+    let found = row_found r.links.state r.boarders.now r.ends.items whole.ends_are.one_each c.args.i front first in
+    let state : links.state ≡ r.links.state = ap (λ (l : LinksRow). l.state) c.close_past-end.ensures.links in
+    let orders : links.orders ≡ r.links.orders = ap (λ (l : LinksRow). l.orders) c.close_past-end.ensures.links in
+    steps_now whole.under c.self.view_is c.args.i c.args.to c.requires.in_range c.requires.lower found
+    state orders c.close_past-end.ensures.cut c.deref-2.result.now c.deref-2.ensures.value c.args.steps.now
+    c.close_past-end.new.steps c.close_past-end.ensures.steps

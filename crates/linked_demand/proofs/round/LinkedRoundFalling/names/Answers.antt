@@ -1,51 +1,54 @@
-use Rattle.std.proofs.Common.{◌≡◌, ℕ, List, map, filter, nat_le, subst, sym, ◌∙◌, ap, length, arith, Some, refl}
-use Rattle.std.specs.Prelude.{IfOk, slice_get}
-use Rattle.std.proofs.lemmas.Option.{slice_get_read}
+use Rattle.std.proofs.Common.{◌≡◌, ℕ, List, map, filter, nat_le, subst, sym, ◌∙◌, ap}
+use Rattle.std.specs.Prelude.{IfOk}
 use Rattle.proposals.specs.declared.demands.Demand.{Demand}
 use Rattle.proposals.specs.Demands.{demands_of}
 use Rattle.proposals.proofs.Named.{names_are}
 use Rattle.linked_demand.specs.Demand.{is_proposed_at}
 use Rattle.linked_demand.specs.Rounds.{Round, bar_each}
-use Rattle.linked_demand.specs.Rows.{IsFront}
-use Rattle.linked_demand.proofs.RoundFalls.{scan_open, demands_right}
-use Rattle.linked_demand.proofs.Rounding.{bars_seen, bar_within, seen_within_bars}
-use Rattle.linked_demand.proofs.RowFronts.{front_open, told_in_front}
+use Rattle.linked_demand.specs.Rows.{row_in, AreFirst}
+use Rattle.linked_demand.proofs.FirstBoarders.{first_open, first_rise, row_found, upto_open}
+use Rattle.linked_demand.proofs.RoundFalls.{demands_right}
+use Rattle.linked_demand.proofs.Rounding.{bars_seen}
+use Rattle.linked_demand.proofs.RowFronts.{in_front_of, told_in_front}
 use Rattle.linked_demand.proofs.round.LinkedRoundFalling.names.Goals as goal
 
 pub demands_in-requires : goal.demands_in-requires
 demands_in-requires c =
     let r = c.self.inside in
-    let within = seen_within_bars r.links r.ceilings.items r.bars.items r.free.items r.rows.items r.overfilled
-    r.marked r.housed.items c.args.self.now c.self.invariant c.self.view_is c.args.i c.requires in
-    front_open r.links c.args.upto c.deref.result.now c.front_of-front.result.now c.front_of-front.ensures
-    (scan_open r.links r.bars.items r.free.items r.rows.items r.ceilings.items c.args.self.now
-    c.self.invariant.round c.self.view_is c.args.i within
-    c.index.result.now c.index.ensures c.deref.result.now c.deref.ensures.value)
+    let whole = c.self.invariant in
+    let boarders = r.boarders.now in
+    let own = c.front_in-first.result.now in
+    let first : AreFirst boarders r.ends.items c.args.i own = rw c.deref.ensures.value at c.front_in-first.ensures in
+    upto_open r.links c.args.upto own c.front_of-front.result.now
+    (first_rise r.links.state.dossier r.links.orders boarders whole.boarders_are r.ends.items c.args.i own first)
+    c.front_of-front.ensures
+    (first_open r.links r.bars.items r.free.items boarders r.ends.items whole.boarders_are whole.ends_are
+    whole.under.round c.args.i own first)
 
 pub returns : goal.returns
 returns c =
     let r = c.self.inside in
+    let s = r.links.state in
     let seen = c.args.self.now in
     let i = c.args.i in
     let upto = c.args.upto in
+    let whole = c.self.invariant in
+    let round = whole.under.round in
+    let boarders = r.boarders.now in
+    let ends = r.ends.items in
     let bars = bar_each seen.ceilings seen.bars in
-    let within = bar_within r.links r.ceilings.items r.bars.items r.free.items r.rows.items r.overfilled r.marked
-    r.housed.items
-    seen c.self.invariant c.self.view_is i c.requires in
-    let same : bars ≡ seen.bars = bars_seen r.links r.ceilings.items r.bars.items r.free.items r.rows.items
-    r.overfilled r.marked r.housed.items seen c.self.invariant c.self.view_is in
-    let row = c.index.result.now in
-    let found : slice_get r.rows.items i ≡ Some row = slice_get_read r.rows.items (length r.rows.items) i row refl
-    (omega (arith, within, c.self.invariant.round.rows_each)) c.index.ensures in
-    let front : IsFront upto row.items c.front_of-front.result.now =
-    rw c.deref.ensures.value at c.front_of-front.ensures in
+    let same : bars ≡ seen.bars = bars_seen whole.under c.self.view_is in
+    let own = c.front_in-first.result.now in
+    let front = c.front_of-front.result.now in
+    let first : AreFirst boarders ends i own = rw c.deref.ensures.value at c.front_in-first.ensures in
+    let found = row_found s boarders ends whole.ends_are.one_each i own first in
+    let rises = first_rise s.dossier r.links.orders boarders whole.boarders_are ends i own first in
     let up : List Demand → List Demand = λ xs. filter (λ (x : Demand). nat_le x.rank upto) xs in
     let demands : up c.deref-2.result.now ≡ up (demands_of seen.state seen.orders bars i) =
     ap up (c.deref-2.ensures.value ∙ c.in_ok-demands.ensures)
-    ∙ told_in_front (is_proposed_at r.links) upto r.links.state r.bars.items i row.items c.front_of-front.result.now
-    (c.self.invariant.round.rows_are i row found) front
-    ∙ ap up (demands_right r.links r.bars.items r.free.items r.rows.items c.self.invariant.round i within
-    row c.index.ensures row.items refl
+    ∙ told_in_front (is_proposed_at r.links) upto s r.bars.items i (row_in s own) (row_in s front)
+    (round.rows_are i (row_in s own) found) (in_front_of s upto own front rises c.front_of-front.ensures)
+    ∙ ap up (demands_right r.links r.bars.items r.free.items _ round i (row_in s own) found
     ∙ ap (λ (v : Round). demands_of v.state v.orders v.bars i) c.self.view_is
     ∙ ap (λ (bs : List ℕ). demands_of seen.state seen.orders bs i) (sym same)) in
     let P : List ℕ → Type 0 = λ ks. IfOk c.names_up_to.result (λ names. names.items ≡ ks) in

@@ -4,9 +4,6 @@ use Rattle.linked_demand.proofs.round.LinkedRoundFalling.overfilled.Goals as goa
 
 pub returns : goal.returns
 returns c =
-    let r = c.self.inside in
     let copied : c.in_ok-to_vec.field-0.items ≡ c.places.result.now = search rules in
     copied ∙ c.places.ensures
-    ∙ overfilled_seen r.links r.ceilings.items r.bars.items r.free.items r.rows.items r.overfilled r.marked
-    r.housed.items
-    c.args.self.now c.self.invariant c.self.view_is
+    ∙ overfilled_seen c.self.invariant.under c.self.view_is

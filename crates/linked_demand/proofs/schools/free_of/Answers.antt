@@ -2,7 +2,7 @@ use Rattle.std.proofs.Common.{ℕ, List, [], ◌∷◌, ◌++◌, map, sym, ◌�
 use Rattle.std.specs.List.{range_with_len}
 use Rattle.std.proofs.lemmas.List.FromFn.{map-range_with_len_more}
 use Rattle.admit_core.specs.State.{free_beds}
-use Rattle.linked_demand.proofs.fill.free_of.Goals as goal
+use Rattle.linked_demand.proofs.schools.free_of.Goals as goal
 
 pub loop-school-preserved : goal.loop-school-preserved
 loop-school-preserved c =
