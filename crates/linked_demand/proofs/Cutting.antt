@@ -8,9 +8,10 @@ use Rattle.admit_core.specs.declared.dossier.Wish.{Wish}
 use Rattle.admit_core.specs.declared.state.Mark.{Mark}
 use Rattle.admit_core.specs.State.{State}
 use Rattle.linked_demand.specs.declared.rows.RowWish.{RowWish}
-use Rattle.linked_demand.specs.Links.{LinksRow, WaitsAt}
+use Rattle.linked_demand.specs.Links.{AllOpenWait, LinksRow, WaitsAt}
 use Rattle.linked_demand.specs.Rows.{closed, needs_bed, row_in, row_item, AllWait, AreItems, CutsAt, RanksRise}
 use Rattle.linked_demand.proofs.Falling.{front_at, in_front}
+use Rattle.linked_demand.proofs.Waiting.{closed_wait}
 use Rattle.linked_demand.proofs.Passing.{passing, passing_at, passing_from, passing_front}
 
 closed_none : (row : List RowWish) (n : ℕ) (opens : List Bool) → n ≡ length row → closed (drop n row) opens ≡ opens
@@ -146,3 +147,14 @@ same_links to row start now end far =
     far.now_is
     ∙ ap (λ (os : List Bool). let r : LinksRow = record start { opens = os } in r)
     (sym (ap (λ (r : LinksRow). r.opens) far.now_is))
+
+-- what is open waits all the while
+pub open_still : (to : ℕ) (row : List RowWish) (start now : LinksRow) (end : ℕ) → SoFar to row start now end
+    → AllOpenWait start.state start.opens → AllOpenWait now.state now.opens
+open_still to row start now end far waits =
+    let P = λ (r : LinksRow). AllOpenWait r.state r.opens in
+    subst P (sym far.now_is) (closed_all (drop end row))
+  where
+    closed_all : (xs : List RowWish) → AllOpenWait start.state (closed xs start.opens)
+    closed_all [] = waits
+    closed_all (x ∷ xs) = closed_wait start.state (closed xs start.opens) x.wish (closed_all xs)

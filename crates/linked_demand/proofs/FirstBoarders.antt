@@ -22,6 +22,7 @@ use Rattle.linked_demand.proofs.Filling.{items_rise}
 use Rattle.linked_demand.proofs.RoundFalls.{rows_open}
 use Rattle.linked_demand.proofs.RowFronts.{in_front_of}
 use Rattle.linked_demand.proofs.RowsTo.{row_there}
+use Rattle.linked_demand.proofs.Waiting.{all_open_wait}
 
 module _ (d : DossierRows) (orders : List CallOrder) (boarders : List (Vec RowWish Global))
     (by_school : AreBySchool d orders boarders) where
@@ -114,6 +115,7 @@ first_cut l bars free low to boarders ends by_school are right h front first sta
     let row = row_in l.state front in
     let found = row_found l.state boarders ends are.one_each h front first in
     record {
+      open_wait = all_open_wait l.state right.marks_each bars l.opens right.opens_are;
       wishes = first_within l.state.dossier l.orders boarders by_school ends h front first;
       rises = first_rise l.state.dossier l.orders boarders by_school ends h front first;
       waits = λ k x at. let (w, m, waits) = (right.rows_are h row found).each k x at in (w, m, waits.waits);

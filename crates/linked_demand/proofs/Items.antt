@@ -27,6 +27,7 @@ use Rattle.linked_demand.proofs.Closing.{Closes, claim_right, closes_read, propo
 use Rattle.linked_demand.proofs.Closing.{wish_there, wish_within}
 use Rattle.linked_demand.proofs.Leaving.{Reads}
 use Rattle.linked_demand.proofs.Ticking.{claim_fits}
+use Rattle.linked_demand.proofs.Waiting.{single_seat}
 
 -- the one place of a number is that of its first one
 place_is : (c : ℕ) (xs : List ℕ) (k : ℕ) → IsPlaceOf c xs k → position_or_len (nat_eq c) xs ≡ k
@@ -94,6 +95,14 @@ module _ {s : State} {orders : List CallOrder} {opens : List Bool} {lines : List
     item_claim all all_read claim claim_read =
         let right = claim_right closes_item x.place item_stands all all_read claim claim_read in
         claim_fits closes_item _ _ claim right (length s.dossier.wishes) refl
+
+    -- where that is of one wish, the candidate is not live in the programme
+    pub item_single : (all : List (List ℕ)) → all ≡ get_or claims x.programme all → (claim : List ℕ)
+        → claim ≡ get_or all x.place [] → length claim ≡ 1 → has_seat_there s x.wish ≡ false
+    item_single all all_read claim claim_read =
+        let k = closes_item in
+        let right = claim_right k x.place item_stands all all_read claim claim_read in
+        single_seat s links.marks_each x.wish (wish_of_item s.dossier x) k.mark k.at claim right
 
     -- where it is open, it says whether it is proposed
     pub item_proposed : get_or row.opens x.wish false ≡ true → (line : LineRow) → line ≡ get_or lines x.programme line

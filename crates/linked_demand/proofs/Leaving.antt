@@ -14,13 +14,14 @@ use Rattle.admit_core.specs.declared.ranking.CallOrder.{CallOrder}
 use Rattle.admit_core.specs.State.{State, entries, holds_seat, seats_left}
 use Rattle.linked_demand.specs.Line.{LineRow, reach, next, is_reached, is_answer, last_new}
 use Rattle.linked_demand.specs.Opens.{flagged, is_flagged_in, wants_by, line_of, seat_row}
-use Rattle.linked_demand.specs.Links.{IsSeatPlace, claim_of}
-use Rattle.linked_demand.specs.Wants.{wants_along, AreBelow, seat_rows, reach_in, IsReached}
+use Rattle.linked_demand.specs.Links.{claim_of, AllOpenWait, IsSeatPlace}
+use Rattle.linked_demand.specs.Wants.{wants_along, seat_rows, reach_in, AllNeedSeatAlone, AreBelow, IsReached}
 use Rattle.linked_demand.proofs.Closing.{Closes, claim_flagged, fewer, row_is, links_with, lines_set, read_range}
 use Rattle.linked_demand.proofs.Closing.{programme_within, claim_right}
 use Rattle.linked_demand.proofs.Flagging.{wants_right, row_within}
 use Rattle.linked_demand.proofs.Reach.{reach_within, reach_behind, reach_moved, reached_by_count, fresh_none}
 use Rattle.linked_demand.proofs.Reach.{fresh_some}
+use Rattle.linked_demand.proofs.Waiting.{closed_wait, row_alone}
 
 -- one who leaves their seat wanted one, wants none any more, and was reached
 not_before : (wanted wants before : Bool) → (wanted && (not wants && before)) ≡ false → wanted ≡ true
@@ -270,6 +271,11 @@ module _ {s : State} {orders : List CallOrder} {opens : List Bool} {claims : Lis
 
   pub row_below : AreBelow (length s.dossier.wishes) row
   row_below = row_within s.dossier orders w.programme (length s.dossier.wishes) row (claims_right k row r.row_read) refl
+
+  pub row_still : AllOpenWait s opens → AllNeedSeatAlone s (set opens i false) row
+  row_still waits =
+      row_alone s k.links.marks_each (set opens i false) (closed_wait s opens i waits) orders w.programme row
+      (claims_right k row r.row_read)
 
   pub stays_closed : leaves ≡ false → Moves k place r.stands before None
   stays_closed stays =

@@ -1,12 +1,12 @@
 -- What is open waits, and needs a seat where it is its candidate's only wish in its programme.
 use Rattle.std.proofs.Common.{ℕ, zero, suc, ◌<◌, ◌≡◌, Bool, true, false, not, ◌&&◌, ◌||◌, List, [], ◌∷◌, map, length}
-use Rattle.std.proofs.Common.{get_or, inl, inr, refl, sym, ◌∙◌, ap, arith, nat_eq, Some, subst}
+use Rattle.std.proofs.Common.{get_or, set, inl, inr, refl, sym, ◌∙◌, ap, arith, nat_eq, Some, subst}
 use Rattle.std.specs.Prelude.{◌==◌, slice_get}
 use Rattle.std.specs.List.{list_any, range_with_len}
 use Rattle.std.proofs.Math.Bool.{or-false}
 use Rattle.std.proofs.lemmas.Bool.{cases_Bool, and_parts, and_from, eqb-true, eq-eqb, or_from, or_parts, false≢true}
-use Rattle.std.proofs.lemmas.Bool.{and_left}
-use Rattle.std.proofs.lemmas.List.{get_or-map, length-map}
+use Rattle.std.proofs.lemmas.Bool.{and_left, cases_eq, cases_lt}
+use Rattle.std.proofs.lemmas.List.{get_or-map, get_or-set_other, get_or-set_same, get_or_past, length-map, length-set}
 use Rattle.std.proofs.lemmas.List.Folds.{list_any_none}
 use Rattle.std.proofs.lemmas.List.FromFn.{get_or-range_with_len, length-range_with_len}
 use Rattle.admit_core.proofs.Plain.{any-filter}
@@ -185,3 +185,39 @@ all_open_wait s long bars opens is k opened =
         waits = (and_parts (is_waiting m) (not (is_barred s bars w m)) (sym flag ∙ opened)).0;
       },
     )
+
+-- where one more wish is closed, what is open waits still
+pub closed_wait : (s : State) (opens : List Bool) (i : ℕ) → AllOpenWait s opens → AllOpenWait s (set opens i false)
+closed_wait s opens i waits k opened =
+    waits k (elim (cases_eq k i) [
+      | inl here ↦ absurd (false≢true (sym unset ∙ ap (λ (j : ℕ). get_or (set opens i false) j false) (sym here) ∙ opened))
+      | inr other ↦ sym (get_or-set_other opens i k false false other) ∙ opened
+    ])
+  where
+    unset : get_or (set opens i false) i false ≡ false
+    unset =
+        elim (cases_lt i (length opens)) [
+          | inl within ↦ get_or-set_same opens i false false within
+          | inr past ↦ get_or_past (set opens i false) i false (omega (arith, past, length-set opens i false))
+        ]
+
+only_one : (k : ℕ) (xs : List ℕ) → length xs ≡ 1 → is_among k xs ≡ true → xs ≡ k ∷ []
+only_one k [] one among = absurd (omega (arith, one))
+only_one k (x ∷ []) one among =
+    ap (λ (j : ℕ). j ∷ []) (sym (eqb-true k x (sym (or-false (nat_eq k x)) ∙ among)))
+only_one k (x ∷ y ∷ xs) one among = absurd (omega (arith, one))
+
+-- a wish that waits and is a claim by itself is not live in its programme
+pub single_seat : (s : State) → length s.marks ≡ length s.dossier.wishes → (k : ℕ) (w : Wish) (m : Mark)
+    → WaitsAt s k w m → (claim : List ℕ) → claim ≡ claim_of s.dossier w.programme w.candidate → length claim ≡ 1
+    → has_seat_there s k ≡ false
+single_seat s long k w m at claim claim_is one =
+    let d = s.dossier in
+    let p = w.programme in
+    let c = w.candidate in
+    let here = wish_of d.wishes s.marks k w m at.here in
+    let among : is_among k (claim_of d p c) ≡ true =
+    among_claim d p c k w here ∙ and_from (nat_eq c c) (nat_eq p p) (eq-eqb c c refl) (eq-eqb p p refl) in
+    let single : claim_of d p c ≡ k ∷ [] =
+    only_one k (claim_of d p c) (sym (ap length claim_is) ∙ one) among in
+    no_seat s long k w m at (alone_single d p c k w here single)

@@ -13,7 +13,7 @@ use Rattle.admit_core.specs.State.{State, entries, holds_bed, has_school, is_wai
 use Rattle.admit_core.specs.Proposals.{is_open}
 use Rattle.day_state.specs.Kept.{has_bed_there, mark_in, wish_in}
 use Rattle.linked_demand.specs.declared.rows.RowWish.{RowWish}
-use Rattle.linked_demand.specs.Links.{LinksRow, WaitsAt}
+use Rattle.linked_demand.specs.Links.{AllOpenWait, LinksRow, WaitsAt}
 use Rattle.linked_demand.specs.Opens.{line_of}
 
 -- the place of a wish's candidate in the line of its programme
@@ -160,6 +160,7 @@ pub record StayOpen (l : LinksRow) (bars : List ℕ) (to : ℕ) (row : List RowW
 
 -- the first boarders of a school, of whose row a part can be cut off and closed
 pub record CanBeCut (l : LinksRow) (bars : List ℕ) (to : ℕ) (front : List RowWish) : Type 0 where
+  pub open_wait : AllOpenWait l.state l.opens
   pub wishes : All (λ x. x.wish < length l.state.dossier.wishes) front
   pub rises : RanksRise front
   pub waits : AllWait l.state (row_in l.state front)

@@ -30,6 +30,16 @@ fn stops_by_closing(
     wanted && !wants
 }
 
+/// Whether the candidate of a wish that waits is live in its programme: they are not where they have
+/// no other one there.
+fn is_live_beside(state: &DayState<'_>, claim: &[u32], wish: u32) -> bool
+    requires wish { wish < length state.now.dossier.wishes }
+    requires alone { length claim.now ≡ 1 → has_seat_there state.now wish ≡ false }
+    ensures { result ≡ has_seat_there state.now wish }
+{
+    claim.len() != 1 && state.is_live_in_its_programme(wish)
+}
+
 /// Closes a wish of a row, in whose programme so many places are reached. Whether its candidate is
 /// reached and wants no seat any more: one who is not reached is not asked.
 pub fn leaves_by_closing(
@@ -45,6 +55,8 @@ pub fn leaves_by_closing(
     requires opens { length opens.old ≡ length state.now.dossier.wishes }
     requires place { item.place < length claims.now }
     requires claim { All (λ k. k < length opens.old) (slice_index_or claims.now item.place []) }
+    requires alone { length (slice_index_or claims.now item.place []) ≡ 1
+        → has_seat_there state.now item.wish ≡ false }
     ensures opens { opens.new ≡ slice_set opens.old item.wish false }
     ensures leaves { result ≡ (nat_lt item.place reached
         && stops_wanting (has_seat_there state.now item.wish) opens.old opens.new
@@ -52,8 +64,9 @@ pub fn leaves_by_closing(
 {
     let place = item.place as usize;
     if place < reached {
-        let is_live = state.is_live_in_its_programme(item.wish);
-        return stops_by_closing(is_live, claims.at(place), beside, cursors, opens, item.wish);
+        let claim = claims.at(place);
+        let is_live = is_live_beside(state, claim, item.wish);
+        return stops_by_closing(is_live, claim, beside, cursors, opens, item.wish);
     }
     opens.close(item.wish);
     false

@@ -73,6 +73,7 @@ pub fn next_wanting(state: &DayState<'_>, opens: &OpenWishes, claims: &Claims, f
     requires from { from ≤ length claims.now }
     requires claims { AreBelow (length state.now.dossier.wishes) claims.now }
     requires opens { length opens.now ≡ length state.now.dossier.wishes }
+    requires alone { AllNeedSeatAlone state.now opens.now claims.now }
     ensures place { result ≡ from + next (drop from (wants_along state.now opens.now claims.now)) }
     ensures within { result ≤ length claims.now }
 {
@@ -80,7 +81,7 @@ pub fn next_wanting(state: &DayState<'_>, opens: &OpenWishes, claims: &Claims, f
     let mut at = from;
     while at < count {
         at += 1;
-        if wants_seat(state, opens, claims.at(at - 1)) {
+        if wants_alone(state, opens, claims.at(at - 1)) {
             return at;
         }
     }
@@ -98,10 +99,11 @@ pub fn last_wanting(
     requires reached { reached ≤ length claims.now }
     requires claims { AreBelow (length state.now.dossier.wishes) claims.now }
     requires opens { length opens.now ≡ length state.now.dossier.wishes }
+    requires alone { AllNeedSeatAlone state.now opens.now claims.now }
     ensures answer { result ≡ last_new (wants_along state.now opens.now claims.now) before reached }
     ensures within { IfSome result (λ n. n < length claims.now) }
 {
-    if before < reached && wants_seat(state, opens, claims.at(reached - 1)) {
+    if before < reached && wants_alone(state, opens, claims.at(reached - 1)) {
         Some(reached - 1)
     } else {
         None

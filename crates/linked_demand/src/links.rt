@@ -144,6 +144,7 @@ impl<'a, 'd> SeatLinks<'a, 'd> {
     )
         requires waits { (w : Wish) × (m : Mark) × WaitsAt self.old.state item.wish w m }
         requires item { item ≡ row_item self.old.state self.old.orders item.wish }
+        requires open_wait { AllOpenWait self.old.state self.old.opens }
         requires bars { length bars.now ≡ length self.old.state.dossier.schools }
         requires marked { length marked.old ≡ length self.old.state.dossier.wishes }
         ensures value { self.new ≡ record self.old

@@ -5,7 +5,7 @@ use Rattle.std.proofs.lemmas.Option.{slice_get-get_or}
 use Rattle.linked_demand.specs.declared.rows.RowWish.{RowWish}
 use Rattle.linked_demand.specs.Links.{LinksRow}
 use Rattle.linked_demand.specs.Rows.{needs_bed, row_in}
-use Rattle.linked_demand.proofs.Cutting.{cut_there, item_still, read_in_row, same_at, same_links, so_far_start}
+use Rattle.linked_demand.proofs.Cutting.{cut_there, item_still, open_still, read_in_row, same_at, same_links, so_far_start}
 use Rattle.linked_demand.proofs.Cutting.{so_far_step, waits_still}
 use Rattle.linked_demand.proofs.Passing.{one_more, passing, passing_all}
 use Rattle.linked_demand.proofs.Staying.{none_new, none_marked}
@@ -53,6 +53,7 @@ close-requires g c =
           (omega (arith, more)) read c.requires.front.waits;
       item = item_still c.args.to row start c.loop-end.links (passing q front end) (passing q front n) x far
           (omega (arith, more)) read c.requires.front.items;
+      open_wait = open_still c.args.to row start c.loop-end.links (passing q front end) far c.requires.front.open_wait;
       bars = c.requires.bars ∙ schools;
       marked = c.loop-end.invariant.marked.as_long ∙ c.requires.marked
           ∙ ap (λ (r : LinksRow). length r.state.dossier.wishes) (sym far.now_is);

@@ -3,13 +3,13 @@ use Rattle.std.proofs.Common.{slice_set, None, subst}
 use Rattle.std.specs.Prelude.{All}
 use Rattle.std.proofs.lemmas.List.{length-set}
 use Rattle.linked_demand.specs.Line.{next, last_new}
-use Rattle.linked_demand.specs.Links.{LinksRow}
+use Rattle.linked_demand.specs.Links.{AllOpenWait, LinksRow}
 use Rattle.linked_demand.specs.Opens.{all_sure, line_of}
-use Rattle.linked_demand.specs.Wants.{wants_along}
+use Rattle.linked_demand.specs.Wants.{wants_along, AllNeedSeatAlone}
 use Rattle.linked_demand.proofs.Closing.{wish_within, programme_within, claims_each, row_within}
-use Rattle.linked_demand.proofs.Items.{closes_item, item_claim, item_reads, item_stands}
+use Rattle.linked_demand.proofs.Items.{closes_item, item_claim, item_reads, item_single, item_stands}
 use Rattle.linked_demand.proofs.Leaving.{before_within, row_below, stays_closed, moves_closed, reached_each, reach_put}
-use Rattle.linked_demand.proofs.Leaving.{reach_kept, in_claims, claim_there}
+use Rattle.linked_demand.proofs.Leaving.{reach_kept, in_claims, claim_there, row_still}
 use Rattle.linked_demand.proofs.Moving.{newly_none, newly_some}
 use Rattle.linked_demand.proofs.Ticking.{claim_fits, told_none, told_some}
 use Rattle.linked_demand.proofs.links.SeatLinks.close.Goals as goal
@@ -29,6 +29,8 @@ leaves_by_closing-leaves-requires g c =
       claim = subst P (sym links.opens_each)
           (item_claim links c.args.self.now c.self.view_is c.args.item c.requires.waits c.requires.item
           row c.index-claims.ensures claim refl);
+      alone = item_single links c.args.self.now c.self.view_is c.args.item c.requires.waits c.requires.item row
+          c.index-claims.ensures claim refl;
     }
 
 pub index-claims-requires : goal.index-claims-requires
@@ -87,6 +89,32 @@ last_wanting-requires-clause-claims g c =
     c.leaves_by_closing-leaves.new.opens c.leaves_by_closing-leaves.ensures.opens
     c.leaves_by_closing-leaves.result c.leaves_by_closing-leaves.ensures.leaves in
     row_below reads
+
+pub next_wanting-now-requires-clause-alone : goal.next_wanting-now-requires-clause-alone
+next_wanting-now-requires-clause-alone g c =
+    let r = c.self.inside in
+    let reads = item_reads c.self.invariant.reach c.args.self.now c.self.view_is c.args.item c.requires.waits
+    c.requires.item
+    c.index-claims.result.now c.index-claims.ensures c.index-before.result.now c.index-before.ensures
+    c.leaves_by_closing-leaves.new.opens c.leaves_by_closing-leaves.ensures.opens
+    c.leaves_by_closing-leaves.result c.leaves_by_closing-leaves.ensures.leaves in
+    let P = λ (l : LinksRow). AllOpenWait l.state l.opens in
+    let Q = λ (fs : List Bool). AllNeedSeatAlone r.state.now fs c.index-claims.result.now in
+    subst Q (sym c.leaves_by_closing-leaves.ensures.opens)
+    (row_still reads (subst P (sym c.self.view_is) c.requires.open_wait))
+
+pub last_wanting-requires-clause-alone : goal.last_wanting-requires-clause-alone
+last_wanting-requires-clause-alone g c =
+    let r = c.self.inside in
+    let reads = item_reads c.self.invariant.reach c.args.self.now c.self.view_is c.args.item c.requires.waits
+    c.requires.item
+    c.index-claims.result.now c.index-claims.ensures c.index-before.result.now c.index-before.ensures
+    c.leaves_by_closing-leaves.new.opens c.leaves_by_closing-leaves.ensures.opens
+    c.leaves_by_closing-leaves.result c.leaves_by_closing-leaves.ensures.leaves in
+    let P = λ (l : LinksRow). AllOpenWait l.state l.opens in
+    let Q = λ (fs : List Bool). AllNeedSeatAlone r.state.now fs c.index-claims.result.now in
+    subst Q (sym c.leaves_by_closing-leaves.ensures.opens)
+    (row_still reads (subst P (sym c.self.view_is) c.requires.open_wait))
 
 pub invariant_of-self-else-leaves : goal.invariant_of-self-else-leaves
 invariant_of-self-else-leaves g c =
