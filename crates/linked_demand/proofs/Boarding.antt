@@ -1,5 +1,5 @@
 -- What a list of boarders tells.
-use Rattle.std.proofs.Common.{ℕ, suc, ◌<◌, ◌≡◌, true, List, [], ◌∷◌, filter, length, get_or, inl}
+use Rattle.std.proofs.Common.{ℕ, suc, ◌<◌, ◌≡◌, true, false, List, [], ◌∷◌, filter, length, get_or, inl}
 use Rattle.std.proofs.Common.{inr, refl, sym, ◌∙◌, ap, arith, nat_eq, nat_le, not, Option, Some, drop, subst, take}
 use Rattle.std.proofs.Common.{unwrap_or}
 use Rattle.std.specs.Prelude.{slice_get, All}
@@ -45,7 +45,7 @@ all_by_rank d places by_rank k lt =
     ∙ among-filter (boards_at d) k (length d.wishes) lt
 
 abbrev no_boarder : Boarder
-no_boarder = record { wish = 0; school = 0; rank = 0; programme = 0 }
+no_boarder = record { wish = 0; school = 0; rank = 0; programme = 0; shared = false }
 
 pub places_within : (d : DossierRows) (bs : List Boarder) → All (IsBoarder d) bs
     → All (λ k. k < length d.wishes) (wishes_of bs)

@@ -14,7 +14,7 @@ use Rattle.admit_core.specs.State.{State}
 use Rattle.linked_demand.specs.declared.rows.RowWish.{RowWish}
 use Rattle.linked_demand.specs.Boarders.{boards_in, rank_at, AreBySchool}
 use Rattle.linked_demand.specs.Rows.{item_at, row_in, rows_to, AreByRankEach, AreEnds, AreFirst, AreOpenFirst}
-use Rattle.linked_demand.specs.Rows.{CanBeCut, IsFront, RanksRise, StayOpen}
+use Rattle.linked_demand.specs.Rows.{CanBeCut, IsFront, IsItem, RanksRise, StayOpen}
 use Rattle.linked_demand.specs.Links.{LinksRow}
 use Rattle.linked_demand.specs.Rounds.{IsRound}
 use Rattle.linked_demand.proofs.Falling.{in_front}
@@ -34,9 +34,9 @@ module _ (d : DossierRows) (orders : List CallOrder) (boarders : List (Vec RowWi
       (items_rise (item_at d orders) (rank_at d) (λ k. refl) ks
       (IsNonDecreasingBy-filter (rank_at d) (boards_in d h) by_school.places by_school.by_rank.rises))
 
-  item_within : (h : ℕ) (own : Vec RowWish Global) → slice_get boarders h ≡ Some own → (k : ℕ) (x : RowWish)
-      → slice_get own.items k ≡ Some x → x.wish < length d.wishes
-  item_within h own found k x at =
+  item_right : (h : ℕ) (own : Vec RowWish Global) → slice_get boarders h ≡ Some own → (k : ℕ) (x : RowWish)
+      → slice_get own.items k ≡ Some x → IsItem d orders x
+  item_right h own found k x at =
       let f = item_at d orders in
       let ks = filter (boards_in d h) by_school.places in
       let P = λ (xs : List RowWish). slice_get xs k ≡ Some x in
@@ -46,15 +46,18 @@ module _ (d : DossierRows) (orders : List CallOrder) (boarders : List (Vec RowWi
       let is : f (get_or ks k 0) ≡ x =
       sym (get_or-map f ks k 0 x k_in) ∙ sym (unwrap_or-slice_get (map f ks) k x)
       ∙ ap (λ (o : Option RowWish). unwrap_or o x) there in
+      let wish : get_or ks k 0 ≡ x.wish = ap (λ (z : RowWish). z.wish) is in
       let Q = λ (n : ℕ). n < length d.wishes in
-      subst Q (ap (λ (z : RowWish). z.wish) is)
-      (All-filter (boards_in d h) (λ j. j < length d.wishes) by_school.places by_school.within k 0 k_in)
+      record {
+        within = subst Q wish (All-filter (boards_in d h) Q by_school.places by_school.within k 0 k_in);
+        item = sym is ∙ ap f wish;
+      }
 
   -- all boarders of a school
   pub own_within : (h : ℕ) (own : Vec RowWish Global) → slice_get boarders h ≡ Some own
       → All (λ x. x.wish < length d.wishes) own.items
   own_within h own found k e lt =
-      item_within h own found k (get_or own.items k e) (slice_get-get_or own.items k e lt)
+      (item_right h own found k (get_or own.items k e) (slice_get-get_or own.items k e lt)).within
 
   module _ (ends : List ℕ) (h : ℕ) (front : List RowWish) (first : AreFirst boarders ends h front) where
     in_own : (k : ℕ) (x : RowWish) → slice_get front k ≡ Some x → slice_get first.own.items k ≡ Some x
@@ -62,10 +65,10 @@ module _ (d : DossierRows) (orders : List CallOrder) (boarders : List (Vec RowWi
         let P = λ (xs : List RowWish). slice_get xs k ≡ Some x in
         (in_front first.own.items (slice_index ends h) k x (subst P first.front_is at)).1
 
-    pub first_within : All (λ x. x.wish < length d.wishes) front
-    first_within k e lt =
+    pub first_items : All (IsItem d orders) front
+    first_items k e lt =
         let x = get_or front k e in
-        item_within h first.own first.found k x (in_own k x (slice_get-get_or front k e lt))
+        item_right h first.own first.found k x (in_own k x (slice_get-get_or front k e lt))
 
     pub first_rise : RanksRise front
     first_rise j k x y le a b =
@@ -101,7 +104,7 @@ first_open l bars free boarders ends by_school are right h front first =
     let row = row_in l.state front in
     let found = row_found l.state boarders ends are.one_each h front first in
     record {
-      wishes = first_within l.state.dossier l.orders boarders by_school ends h front first;
+      own = first_items l.state.dossier l.orders boarders by_school ends h front first;
       items = rows_open l bars free rows right h row found;
       rises = (right.rows_are h row found).rises;
     }
@@ -116,7 +119,7 @@ first_cut l bars free low to boarders ends by_school are right h front first sta
     let found = row_found l.state boarders ends are.one_each h front first in
     record {
       open_wait = all_open_wait l.state right.marks_each bars l.opens right.opens_are;
-      wishes = first_within l.state.dossier l.orders boarders by_school ends h front first;
+      own = first_items l.state.dossier l.orders boarders by_school ends h front first;
       rises = first_rise l.state.dossier l.orders boarders by_school ends h front first;
       waits = λ k x at. let (w, m, waits) = (right.rows_are h row found).each k x at in (w, m, waits.waits);
       items = right.items_are h row found;
@@ -133,10 +136,9 @@ upto_open l upto own front rises is opens =
     λ k x found.
     let P = λ (xs : List RowWish). slice_get xs k ≡ Some x in
     (in_front (row_in l.state own) here.end k x (subst P here.front_is found)).1 in
-    let P = λ (xs : List RowWish). All (λ (x : RowWish). x.wish < length l.state.dossier.wishes) xs in
+    let P = λ (xs : List RowWish). All (IsItem l.state.dossier l.orders) xs in
     record {
-      wishes = subst P (sym is.front_is)
-          (All-take (λ (x : RowWish). x.wish < length l.state.dossier.wishes) is.end own opens.wishes);
+      own = subst P (sym is.front_is) (All-take (IsItem l.state.dossier l.orders) is.end own opens.own);
       items = λ k x found. opens.items k x (at k x found);
       rises = λ j k x y le a b. opens.rises j k x y le (at j x a) (at k y b);
     }

@@ -44,7 +44,8 @@ wish_of_item d x = record (wish_in d.wishes x.wish) { programme = x.programme }
 pub item_made : (d : DossierRows) (orders : List CallOrder) (places : List ℕ)
     → ((i : ℕ) (w : Wish) → slice_get d.wishes i ≡ Some w → IsSeatPlace d orders w (slice_index places i))
     → (b : Boarder) → IsBoarder d b → (place : ℕ) → place ≡ slice_index places b.wish
-    → record { rank = b.rank; wish = b.wish; programme = b.programme; place = place } ≡ item_at d orders b.wish
+    → record { rank = b.rank; wish = b.wish; programme = b.programme; place = place; shared = b.shared }
+    ≡ item_at d orders b.wish
 item_made d orders places places_are b right place read =
     let w = wish_in d.wishes b.wish in
     let at = wish_there d.wishes b.wish w right.within refl in
@@ -52,7 +53,13 @@ item_made d orders places places_are b right place read =
     read
     ∙ sym (place_is w.candidate (line_of d orders w.programme) (slice_index places b.wish)
     (places_are b.wish w at)) in
-    λ i. record { rank = right.rank i; wish = b.wish; programme = right.programme i; place = place_now i }
+    λ i. record {
+      rank = right.rank i;
+      wish = b.wish;
+      programme = right.programme i;
+      place = place_now i;
+      shared = right.shared i;
+    }
 
 module _ {s : State} {orders : List CallOrder} {opens : List Bool} {lines : List LineRow}
     {claims : List (List (List ℕ))} {places : List ℕ} {sure : List Bool}

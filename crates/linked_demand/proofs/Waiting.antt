@@ -1,6 +1,6 @@
 -- What is open waits, and needs a seat where it is its candidate's only wish in its programme.
 use Rattle.std.proofs.Common.{ℕ, zero, suc, ◌<◌, ◌≡◌, Bool, true, false, not, ◌&&◌, ◌||◌, List, [], ◌∷◌, map, length}
-use Rattle.std.proofs.Common.{get_or, set, inl, inr, refl, sym, ◌∙◌, ap, arith, nat_eq, Some, subst}
+use Rattle.std.proofs.Common.{get_or, set, inl, inr, refl, sym, ◌∙◌, ap, arith, nat_eq, Option, Some, None, subst}
 use Rattle.std.specs.Prelude.{◌==◌, slice_get}
 use Rattle.std.specs.List.{list_any, range_with_len}
 use Rattle.std.proofs.Math.Bool.{or-false}
@@ -20,12 +20,13 @@ use Rattle.admit_core.specs.DossierRows.{DossierRows, candidate_of}
 use Rattle.admit_core.specs.Lists.{is_among}
 use Rattle.admit_core.specs.OwnWishes.{own_places}
 use Rattle.admit_core.specs.Proposals.{is_open, is_barred}
-use Rattle.admit_core.specs.State.{State, entries, is_live, is_live_status, is_waiting, is_waiting_status, holds_seat}
-use Rattle.day_state.specs.Kept.{mark_in, wish_in, lives_at, has_seat_there}
+use Rattle.admit_core.specs.State.{State, entries, has_school, holds_bed, holds_seat, is_live, is_live_status, is_waiting}
+use Rattle.admit_core.specs.State.{is_waiting_status}
+use Rattle.day_state.specs.Kept.{mark_in, wish_in, lives_at, has_bed_there, has_seat_there, holds_bed_in}
 use Rattle.day_state.proofs.Places.{own_any, candidate_in as candidate_is}
 use Rattle.linked_demand.specs.Links.{WaitsAt, AllOpenWait, NeedsSeatAlone, claim_of}
 use Rattle.linked_demand.specs.Opens.{line_of, opens_of, wanting_at}
-use Rattle.linked_demand.specs.Seats.{is_beside, is_doubled}
+use Rattle.linked_demand.specs.Seats.{is_beside, is_doubled, same_school, shares_school}
 use Rattle.linked_demand.specs.Wants.{AllNeedSeatAlone}
 use Rattle.linked_demand.proofs.Closing.{length_entries, wish_of}
 use Rattle.linked_demand.proofs.Falling.{flag_map}
@@ -50,37 +51,58 @@ elsewhere true own true t none = none
 elsewhere false own other t none = refl
 elsewhere live own false t none = absurd (false≢true t)
 
--- of some wishes none is live in the programme of one that is not, where no other one is of its programme
-none_lives : (d : DossierRows) (ms : List Mark) (k : ℕ) → is_live (mark_in ms k) ≡ false → (xs : List ℕ)
-    → list_any (is_beside d k) xs ≡ false
-    → list_any (lives_at d.wishes ms (λ w. w.programme == (wish_in d.wishes k).programme)) xs ≡ false
-none_lives d ms k not_live [] none = refl
-none_lives d ms k not_live (x ∷ xs) none =
-    let p = (wish_in d.wishes k).programme in
-    let own = (wish_in d.wishes x).programme == p in
-    let parts = or_parts (is_beside d k x) (list_any (is_beside d k) xs) none in
+-- of some wishes none is live that passes a test, where one is not live and no other one passes
+none_lives : (test : Wish → Bool) (d : DossierRows) (ms : List Mark) (k : ℕ) → is_live (mark_in ms k) ≡ false
+    → (xs : List ℕ) → list_any (λ j. not (nat_eq j k) && test (wish_in d.wishes j)) xs ≡ false
+    → list_any (lives_at d.wishes ms test) xs ≡ false
+none_lives test d ms k not_live [] none = refl
+none_lives test d ms k not_live (x ∷ xs) none =
+    let others = λ (j : ℕ). not (nat_eq j k) && test (wish_in d.wishes j) in
+    let own = test (wish_in d.wishes x) in
+    let parts = or_parts (others x) (list_any others xs) none in
     let first : (is_live (mark_in ms x) && own) ≡ false =
     elim (cases_Bool (nat_eq x k)) [
       | inl here ↦ and_left (is_live (mark_in ms x)) own
           (ap (λ (j : ℕ). is_live (mark_in ms j)) (eqb-true x k here) ∙ not_live)
       | inr other ↦ elsewhere (is_live (mark_in ms x)) own (not (nat_eq x k)) (ap not other) parts.0
     ] in
-    or_from (is_live (mark_in ms x) && own)
-    (list_any (lives_at d.wishes ms (λ w. w.programme == p)) xs) first (none_lives d ms k not_live xs parts.1)
+    or_from (is_live (mark_in ms x) && own) (list_any (lives_at d.wishes ms test) xs) first
+    (none_lives test d ms k not_live xs parts.1)
 
 module _ (s : State) (long : length s.marks ≡ length s.dossier.wishes) (k : ℕ) where
+  abbrev d : DossierRows
+  d = s.dossier
+
+  abbrev mine : Wish
+  mine = wish_in d.wishes k
+
+  waits_not_live : is_waiting (mark_in s.marks k) ≡ true → is_live (mark_in s.marks k) ≡ false
+  waits_not_live waits = waiting_is_not_live (mark_in s.marks k).status waits
+
   -- a wish that waits is not live in its programme where no other one is of it
   pub no_seat : (w : Wish) (m : Mark) → WaitsAt s k w m → is_doubled s.dossier k ≡ false → has_seat_there s k ≡ false
   no_seat w m at single =
-      let d = s.dossier in
       let mark = (entry_is d.wishes s.marks k w m at.here).1 in
-      let not_live : is_live (mark_in s.marks k) ≡ false =
-      ap is_live mark ∙ waiting_is_not_live m.status at.waits in
-      let own = λ (w : Wish). w.programme == (wish_in d.wishes k).programme in
-      let none : holds_seat s (candidate_of d k) (wish_in d.wishes k).programme ≡ false =
-      sym (own_any own s (candidate_of d k) long)
-      ∙ none_lives d s.marks k not_live (own_places d (candidate_of d k)) single in
-      ap (λ (c : ℕ). holds_seat s c (wish_in d.wishes k).programme) (sym (candidate_is d.wishes k)) ∙ none
+      let not_live = waits_not_live (ap is_waiting mark ∙ at.waits) in
+      let own = λ (w : Wish). w.programme == mine.programme in
+      ap (λ (c : ℕ). holds_seat s c mine.programme) (sym (candidate_is d.wishes k))
+      ∙ sym (own_any own s (candidate_of d k) long)
+      ∙ none_lives own d s.marks k not_live (own_places d (candidate_of d k)) single
+
+  -- nor in its school where no other one has it
+  pub no_bed : is_waiting (mark_in s.marks k) ≡ true → shares_school s.dossier k ≡ false → has_bed_there s k ≡ false
+  no_bed waits single = by_school mine.school single
+    where
+      by_school : (school : Option ℕ)
+          → list_any (λ j. not (nat_eq j k) && same_school school (wish_in d.wishes j).school)
+          (own_places d (candidate_of d k)) ≡ false
+          → holds_bed_in s mine.candidate school ≡ false
+      by_school None none = refl
+      by_school (Some h) none =
+          let own = λ (w : Wish). has_school w h in
+          ap (λ (c : ℕ). holds_bed s c h) (sym (candidate_is d.wishes k))
+          ∙ sym (own_any own s (candidate_of d k) long)
+          ∙ none_lives own d s.marks k (waits_not_live waits) (own_places d (candidate_of d k)) none
 
 wish_there : (ws : List Wish) (j : ℕ) → j < length ws → slice_get ws j ≡ Some (wish_in ws j)
 wish_there [] j lt = absurd (omega arith)

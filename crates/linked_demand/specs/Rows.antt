@@ -15,6 +15,7 @@ use Rattle.day_state.specs.Kept.{has_bed_there, mark_in, wish_in}
 use Rattle.linked_demand.specs.declared.rows.RowWish.{RowWish}
 use Rattle.linked_demand.specs.Links.{AllOpenWait, LinksRow, WaitsAt}
 use Rattle.linked_demand.specs.Opens.{line_of}
+use Rattle.linked_demand.specs.Seats.{shares_school}
 
 -- the place of a wish's candidate in the line of its programme
 abbrev pub line_place : DossierRows → List CallOrder → Wish → ℕ
@@ -27,6 +28,7 @@ item_of d orders k w = record {
   wish = k;
   programme = w.programme;
   place = line_place d orders w;
+  shared = shares_school d k;
 }
 
 -- and of the wish at a place
@@ -35,6 +37,11 @@ item_at d orders k = item_of d orders k (wish_in d.wishes k)
 
 abbrev pub row_item : State → List CallOrder → ℕ → RowWish
 row_item s orders k = item_at s.dossier orders k
+
+-- an item is that of its wish
+pub record IsItem (d : DossierRows) (orders : List CallOrder) (x : RowWish) : Type 0 where
+  pub within : x.wish < length d.wishes
+  pub item : x ≡ item_at d orders x.wish
 
 -- each item of a row is that of its wish
 abbrev pub AreItems : State → List CallOrder → List RowWish → Type 0
@@ -147,7 +154,7 @@ AreByRankEach boarders =
 
 -- the first boarders of a school, whose row is of open wishes by rank
 pub record AreOpenFirst (l : LinksRow) (front : List RowWish) : Type 0 where
-  pub wishes : All (λ x. x.wish < length l.state.dossier.wishes) front
+  pub own : All (IsItem l.state.dossier l.orders) front
   pub items : AreOpen l (row_in l.state front)
   pub rises : RanksRise (row_in l.state front)
 
@@ -161,7 +168,7 @@ pub record StayOpen (l : LinksRow) (bars : List ℕ) (to : ℕ) (row : List RowW
 -- the first boarders of a school, of whose row a part can be cut off and closed
 pub record CanBeCut (l : LinksRow) (bars : List ℕ) (to : ℕ) (front : List RowWish) : Type 0 where
   pub open_wait : AllOpenWait l.state l.opens
-  pub wishes : All (λ x. x.wish < length l.state.dossier.wishes) front
+  pub own : All (IsItem l.state.dossier l.orders) front
   pub rises : RanksRise front
   pub waits : AllWait l.state (row_in l.state front)
   pub items : AreItems l.state l.orders (row_in l.state front)

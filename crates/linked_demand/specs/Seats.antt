@@ -1,6 +1,7 @@
 -- What is known of the wishes of a dossier while the programmes are gone through one after another.
 use Rattle.std.specs.Prelude.{◌≡◌, ℕ, ◌<◌, Bool, true, false, not, ◌&&◌, ◌||◌, ◌==◌, List, length, map, filter, is_some}
-use Rattle.std.specs.Prelude.{nat_eq, nat_lt, nat_le, ◌+◌, Some, slice_get, slice_index, slice_index_or, if◌then◌else◌}
+use Rattle.std.specs.Prelude.{nat_eq, nat_lt, nat_le, ◌+◌, Option, Some, None, slice_get, slice_index, slice_index_or}
+use Rattle.std.specs.Prelude.{if◌then◌else◌}
 use Rattle.std.specs.List.{list_any, range_with_len, before_first}
 use Rattle.day_state.specs.Kept.{wish_in}
 use Rattle.admit_core.specs.declared.dossier.Wish.{Wish}
@@ -9,6 +10,7 @@ use Rattle.admit_core.specs.DossierRows.{DossierRows, candidate_of, limit_of}
 use Rattle.admit_core.specs.Lists.{is_among}
 use Rattle.admit_core.specs.OwnWishes.{own_places}
 use Rattle.admit_core.specs.Proposals.{order_of}
+use Rattle.admit_core.specs.State.{is_school}
 use Rattle.linked_demand.specs.Links.{IsSeatPlace, claim_of}
 use Rattle.linked_demand.specs.Opens.{line_of}
 
@@ -32,7 +34,20 @@ is_beside d k j = not (nat_eq j k) && applies_at d (wish_in d.wishes k).programm
 abbrev pub is_doubled : DossierRows → ℕ → Bool
 is_doubled d k = list_any (is_beside d k) (own_places d (candidate_of d k))
 
--- where neither this holds nor the candidate is called by a limit, a wish that waits needs a seat
+-- two wishes have one school
+abbrev pub same_school : Option ℕ → Option ℕ → Bool
+same_school None o = false
+same_school (Some h) o = is_school o h
+
+-- the candidate of the wish at a place has another one with its school
+abbrev pub shares_school : DossierRows → ℕ → Bool
+shares_school d k =
+    list_any (λ j. not (nat_eq j k)
+    && same_school (wish_in d.wishes k).school (wish_in d.wishes j).school)
+    (own_places d (candidate_of d k))
+
+-- where they have no other one in the programme and are not called by a limit, a wish that waits
+-- needs a seat
 abbrev pub may_be_sure : DossierRows → List Bool → ℕ → Bool
 may_be_sure d early k = slice_index_or early k false || is_doubled d k
 

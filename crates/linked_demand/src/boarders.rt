@@ -1,10 +1,13 @@
 //! The wishes with a school, by their rank there.
-ghost use Rattle.std.specs.Prelude.{◌≡◌, ℕ, ◌<◌, length, is_some, slice_get, slice_index, All, IfOk, IfSome, Some};
+ghost use Rattle.std.specs.Prelude.{◌≡◌, ℕ, ◌<◌, ◌&&◌, length, is_some, nat_eq, not, slice_get, slice_index, All, IfOk, IfSome, Some};
+ghost use Rattle.std.specs.List.{list_any};
 ghost use Rattle.admit_core.specs.declared.dossier.Wish.{Wish};
+ghost use Rattle.admit_core.specs.State.{is_school};
+ghost use Rattle.day_state.specs.Kept.{wish_in};
 ghost use Rattle.linked_demand.specs.Boarders.{AreBoarders, AreByPlace, AreBySchool, IsBoarder};
 ghost use Rattle.linked_demand.specs.Links.{IsSeatPlace};
 ghost use Rattle.linked_demand.specs.Rows.{item_at};
-ghost use Rattle.linked_demand.specs.Seats.{boards_at};
+ghost use Rattle.linked_demand.specs.Seats.{boards_at, shares_school};
 
 use crate::rows::{RowWish, put_in, rows_with_room};
 use crate::wishes::wish_count;
@@ -13,13 +16,15 @@ use day_state::DayState;
 use proposals::{Ranked, sort_by_rank, wish_at};
 use std::alloc::Global;
 
-/// A wish with a school: its rank there, and its programme.
+/// A wish with a school: its rank there, its programme, and whether its candidate has another wish
+/// with the school.
 #[derive(Clone, Copy)]
 struct Boarder {
     wish: u32,
     school: u32,
     rank: u32,
     programme: u32,
+    shared: bool,
 }
 
 impl Ranked for Boarder {
@@ -28,6 +33,36 @@ impl Ranked for Boarder {
     fn rank(&self) -> u32 {
         self.rank
     }
+}
+
+/// Whether the wish at a place has a school.
+fn has_school(state: &DayState<'_>, place: u32, school: u32) -> bool
+    requires { place < length state.now.dossier.wishes }
+    ensures { result ≡ is_school (wish_in state.now.dossier.wishes place).school school }
+{
+    match wish_at(state, place).school {
+        None => false,
+        Some(own) => own == school,
+    }
+}
+
+/// Whether another one of some wishes has a school.
+fn has_other(state: &DayState<'_>, own: &[u32], wish: u32, school: u32) -> bool
+    requires { All (λ k. k < length state.now.dossier.wishes) own.now }
+    ensures { result ≡ list_any (λ k. not (nat_eq k wish)
+        && is_school (wish_in state.now.dossier.wishes k).school school) own.now }
+{
+    own.iter().any(|place| *place != wish && has_school(state, *place, school))
+}
+
+/// Whether the candidate of a wish has another one with its school.
+fn is_shared(state: &DayState<'_>, wish: u32, school: u32) -> bool
+    requires wish { wish < length state.now.dossier.wishes }
+    requires school { (wish_in state.now.dossier.wishes wish).school ≡ Some school }
+    ensures { result ≡ shares_school state.now.dossier wish }
+{
+    let own = state.own_wishes_beside(wish);
+    has_other(state, own, wish, school)
 }
 
 /// The wish at a place, where it has a school.
@@ -45,6 +80,7 @@ fn boarder_at(state: &DayState<'_>, place: u32) -> Option<Boarder>
             school,
             rank: wish.board_rank,
             programme: wish.programme,
+            shared: is_shared(state, place, school),
         }),
     }
 }
@@ -109,6 +145,7 @@ fn item_of(state: &DayState<'_>, orders: &CallOrders, places: &[u32], boarder: B
         wish: boarder.wish,
         programme: boarder.programme,
         place: places[boarder.wish as usize],
+        shared: boarder.shared,
     }
 }
 

@@ -11,7 +11,7 @@ ghost use Rattle.linked_demand.specs.Links.{LinksRow, WaitsAt, AllOpenWait};
 ghost use Rattle.linked_demand.specs.Demand.{is_proposed_at};
 ghost use Rattle.std.specs.Option.{ForSome};
 ghost use Rattle.linked_demand.specs.Filled.{bed_sought, wants_bed};
-ghost use Rattle.linked_demand.specs.Rows.{needs_bed, row_item, IsOpenItem};
+ghost use Rattle.linked_demand.specs.Rows.{needs_bed, row_item, IsItem, IsOpenItem};
 
 use crate::closed::leaves_by_closing;
 use crate::cursors::Cursors;
@@ -201,12 +201,16 @@ impl<'a, 'd> SeatLinks<'a, 'd> {
         self.opens.get(wish) && !self.state.is_live_in_its_school(wish)
     }
 
-    /// Whether the wish of an item waits, and its candidate has no bed in its school.
+    /// Whether the wish of an item waits, and its candidate has no bed in its school. It is not
+    /// asked who is live there where a candidate has no other wish with the school.
     pub fn needs_bed(&self, item: RowWish) -> bool
-        requires { item.wish < length self.now.state.dossier.wishes }
+        requires { IsItem self.now.state.dossier self.now.orders item }
         ensures { result ≡ needs_bed self.now.state item }
     {
-        waits(self.state, item.wish) && !self.state.is_live_in_its_school(item.wish)
+        if !waits(self.state, item.wish) {
+            return false;
+        }
+        !item.shared || !self.state.is_live_in_its_school(item.wish)
     }
 
     /// The school in which a wish demands a bed: it is proposed, and its candidate has none there.

@@ -1,4 +1,4 @@
-use Rattle.std.proofs.Common.{◌≡◌, ◌-◌, ◌+◌, ◌≤◌, ℕ, true, Some, arith, get_or, length, ap, subst}
+use Rattle.std.proofs.Common.{false, ◌≡◌, ◌-◌, ◌+◌, ◌≤◌, ℕ, true, Some, arith, get_or, length, ap, subst}
 use Rattle.std.proofs.Common.{sym, ◌∙◌}
 use Rattle.std.specs.Prelude.{slice_get}
 use Rattle.std.proofs.lemmas.Option.{slice_get-get_or}
@@ -13,7 +13,7 @@ use Rattle.linked_demand.proofs.Telling.{steps_told, marks_told}
 use Rattle.linked_demand.proofs.cut.close_past.Goals as goal
 
 abbrev no_item : RowWish
-no_item = record { rank = 0; wish = 0; programme = 0; place = 0 }
+no_item = record { rank = 0; wish = 0; programme = 0; place = 0; shared = false }
 
 pub loop-end-init : goal.loop-end-init
 loop-end-init g c =
