@@ -5,7 +5,7 @@ use Rattle.std.specs.Fmt.{decimal, char_count, format_spec, padded_integral, sty
 use Rattle.std.proofs.lemmas.Bool.{cases_lt, le-ltb, lt-ltb}
 use Rattle.std.proofs.lemmas.Fmt.{decimal_digit, decimal_step}
 use Rattle.calendar.specs.Texts.{text_of, two_digits}
-use Rattle.report.proofs.Pushing.{append_nil}
+use Rattle.std.proofs.lemmas.List.{append-nil}
 
 two_decimal : (n : ℕ) → 10 ≤ n → n < 100 → decimal n ≡ two_digits n
 two_decimal n large small = rw (decimal_step n large (omega arith), decimal_digit (n / 10) (omega arith)) refl
@@ -62,7 +62,7 @@ pushed_date year month day before between low high m d one two =
     rw (
       one,
       two,
-      append_nil (decimal day),
+      append-nil (decimal day),
       dashed day d,
       sym (append_assoc (if nat_lt month 10 then codes "-0" else codes "-") (decimal month) (45 ∷ two_digits day)),
       dashed month m,

@@ -1,8 +1,8 @@
 -- Lines that come from lists.
-use Rattle.std.proofs.Common.{◌≡◌, ℕ, ◌+◌, ◌<◌, List, [], ◌∷◌, ◌++◌, get_or, length, map, flat_map, take, refl, sym, ap}
-use Rattle.std.proofs.Common.{◌∙◌, append_assoc, arith}
+use Rattle.std.proofs.Common.{◌≡◌, ℕ, ◌+◌, ◌<◌, List, [], ◌∷◌, ◌++◌, get_or, length, map, flat_map, take, refl, ap}
+use Rattle.std.proofs.Common.{append_assoc, arith}
 use Rattle.std.specs.List.{enumerate_from}
-use Rattle.std.proofs.lemmas.List.{length-take-le, take_more}
+use Rattle.std.proofs.lemmas.List.{append-nil, length-take-le, take_more}
 use Rattle.std.proofs.lemmas.List.Concat.{flat_map-append}
 use Rattle.report.specs.Words.{further}
 
@@ -17,10 +17,6 @@ enumerate_from-push : {X : Type 0} (n : ℕ) (xs : List X) (x : X) (j : ℕ) →
     → enumerate_from n (xs ++ x ∷ []) ≡ enumerate_from n xs ++ (j, x) ∷ []
 enumerate_from-push n [] x j e = let same : n ≡ j = omega (arith, e) in ap (λ k. (k, x) ∷ []) same
 enumerate_from-push n (y ∷ ys) x j e = ap (λ zs. (n, y) ∷ zs) (enumerate_from-push (n + 1) ys x j (omega (arith, e)))
-
-append_nil : (xs : List ℕ) → xs ++ [] ≡ xs
-append_nil [] = refl
-append_nil (x ∷ xs) = ap (λ ys. x ∷ ys) (append_nil xs)
 
 -- the lines of numbered items, after one more of them
 pub lines_more : {X : Type 0} (lines : ℕ × X → List ℕ) (n : ℕ) (xs : List X) (i j : ℕ) (d : X) → i < length xs
@@ -37,23 +33,4 @@ lines_more lines n xs i j d lt e =
       flat_map-append lines (enumerate_from n front)
           ((j, x) ∷ []),
     )
-    (ap (λ ys. flat_map lines (enumerate_from n front) ++ ys) (append_nil (lines (j, x))))
-
--- the same where the item is known by its place
-pub lines_more_item : {X : Type 0} (lines : ℕ × X → List ℕ) (n : ℕ) (xs : List X) (i j : ℕ) (x : X) → i < length xs
-    → n + i ≡ j → x ≡ get_or xs i x
-    → flat_map lines (enumerate_from n (take (i + 1) xs))
-    ≡ flat_map lines (enumerate_from n (take i xs)) ++ lines (j, x)
-lines_more_item lines n xs i j x lt e is =
-    lines_more lines n xs i j x lt e ∙ ap (λ y. flat_map lines (enumerate_from n (take i xs)) ++ lines (j, y)) (sym is)
-
--- parts that were added one after another
-pub after_parts : (start : List ℕ) {one two three four : List ℕ} (a b c d e f : List ℕ)
-    → one ≡ start ++ a → two ≡ one ++ b → three ≡ two ++ c → four ≡ three ++ d
-    → (four ++ e) ++ f ≡ start ++ (a ++ (b ++ (c ++ (d ++ (e ++ f)))))
-after_parts start a b c d e f ones twos threes fours = rw (fours, threes, twos, ones) (simp append_assoc)
-
--- two parts that were added, and two that follow
-pub after_two : (start : List ℕ) {one two : List ℕ} (a b c d : List ℕ)
-    → one ≡ start ++ a → two ≡ one ++ b → (two ++ c) ++ d ≡ start ++ (((a ++ b) ++ c) ++ d)
-after_two start a b c d ones twos = rw (twos, ones) (simp append_assoc)
+    (ap (λ ys. flat_map lines (enumerate_from n front) ++ ys) (append-nil (lines (j, x))))

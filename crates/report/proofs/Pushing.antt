@@ -1,15 +1,11 @@
 -- Pushes one after another.
 use Rattle.std.proofs.Common.{◌≡◌, ℕ, ◌+◌, ◌<◌, ◌≤◌, List, [], ◌∷◌, ◌++◌, ◌∙◌, Result, Ok, Err, String, drop, get_or}
-use Rattle.std.proofs.Common.{length, take, refl, sym, ap}
+use Rattle.std.proofs.Common.{length, take, sym, ap}
 use Rattle.std.proofs.Common.{arith, append_assoc, flat_map, length-append, IsErr, string_bytes, string_len, subst}
 use Rattle.std.proofs.lemmas.Result.{MatchResult-from_err}
-use Rattle.std.proofs.lemmas.List.{take-append-drop, take_all, take_more}
+use Rattle.std.proofs.lemmas.List.{append-nil, take-append-drop, take_all, take_more}
 use Rattle.std.proofs.lemmas.List.Concat.{flat_map-append}
 use Rattle.report.specs.Pushes.{IsCutOff, IsPushed, Pushes}
-
-pub append_nil : (xs : List ℕ) → xs ++ [] ≡ xs
-append_nil [] = refl
-append_nil (x ∷ xs) = ap (λ ys. x ∷ ys) (append_nil xs)
 
 -- the first items and the next one
 more_of : {X : Type 0} (f : X → List ℕ) (xs : List X) (i : ℕ) (d : X) → i < length xs
@@ -17,15 +13,11 @@ more_of : {X : Type 0} (f : X → List ℕ) (xs : List X) (i : ℕ) (d : X) → 
 more_of f xs i d lt =
     let x = get_or xs i d in
     rw (take_more xs i d lt, flat_map-append f (take i xs) (x ∷ []))
-    (ap (λ (ys : List ℕ). flat_map f (take i xs) ++ ys) (append_nil (f x)))
+    (ap (λ (ys : List ℕ). flat_map f (take i xs) ++ ys) (append-nil (f x)))
 
 module _ {Z : Type 0} where
   long : (s : String Z) → string_len s ≡ length (string_bytes s)
   long s = s.bytes.ok.0
-
-  -- nothing was pushed yet
-  pub nothing_pushed : (s : String Z) → IsPushed s s []
-  nothing_pushed s = record { bytes = sym (append_nil (string_bytes s)); room = omega arith }
 
   -- the same bytes by another name
   pub pushed_as : {old new : String Z} {a w : List ℕ} → IsPushed old new a → a ≡ w → IsPushed old new w
@@ -46,7 +38,15 @@ module _ {Z : Type 0} where
     added = a ++ q.added;
     missing = q.missing ++ c;
     parts = rw q.parts (simp append_assoc);
+    not_all = omega (
+      arith,
+      q.not_all,
+      length-append a q.added,
+      length-append (a ++ b) c,
+      length-append a b,
+    );
     bytes = q.bytes ∙ ap (λ (bs : List ℕ). bs ++ q.added) p.bytes ∙ append_assoc (string_bytes old) a q.added;
+    room = omega (arith, p.room, q.room);
     full = omega (
       arith,
       q.full,
@@ -66,8 +66,10 @@ module _ {Z : Type 0} where
     added = q.added;
     missing = q.missing ++ c;
     parts = rw q.parts (append_assoc q.added q.missing c);
+    not_all = omega (arith, q.not_all, length-append a c);
     bytes = q.bytes;
     full = omega (arith, q.full, length-append a c);
+    room = q.room;
   }
 
   pub cut_off_as : {old new : String Z} {a w : List ℕ} → IsCutOff old new a → a ≡ w → IsCutOff old new w
@@ -76,7 +78,7 @@ module _ {Z : Type 0} where
   -- a push, and a last one that was cut off
   pub cut_off_next : {old mid new : String Z} {a b : List ℕ} → IsPushed old mid a → IsCutOff mid new b
       → IsCutOff old new (a ++ b)
-  cut_off_next {a = a} {b = b} p q = cut_off_as (cut_off_then [] p q) (append_nil (a ++ b))
+  cut_off_next {a = a} {b = b} p q = cut_off_as (cut_off_then [] p q) (append-nil (a ++ b))
 
   -- a last push
   pub pushes_then : {T E : Type 0} (r : Result T E) {old mid : String Z} (new : String Z) {a : List ℕ} (b : List ℕ)
@@ -87,6 +89,16 @@ module _ {Z : Type 0} where
   pub pushes_as : {T E : Type 0} (r : Result T E) (old new : String Z) {a w : List ℕ} → a ≡ w → Pushes r old new a
       → Pushes r old new w
   pushes_as r old new e p = subst (λ (w : List ℕ). Pushes r old new w) e p
+
+  -- what was cut off, with two texts that would have followed it
+  pub cut_before_two : {old new : String Z} {a : List ℕ} (b c : List ℕ) → IsCutOff old new a
+      → IsCutOff old new ((a ++ b) ++ c)
+  cut_before_two b c q = cut_off_first c (cut_off_first b q)
+
+  -- two last texts, pushed by one call
+  pub pushes_two : {T E : Type 0} (r : Result T E) {old mid : String Z} (new : String Z) {a : List ℕ} (b c : List ℕ)
+      → IsPushed old mid a → Pushes r mid new (b ++ c) → Pushes r old new ((a ++ b) ++ c)
+  pushes_two r {old} new {a} b c p q = pushes_as r old new (sym (append_assoc a b c)) (pushes_then r new (b ++ c) p q)
 
   -- a push that failed
   pub cut_off : {T E : Type 0} {old new : String Z} {w : List ℕ} (r : Result T E) → IsErr r → IsCutOff old new w

@@ -1,15 +1,17 @@
 //! The lines of a day.
-ghost use Rattle.std.specs.Prelude.{◌≡◌, ◌<◌, ◌++◌, ◌∷◌, [], All, IfOk, IsOk, flat_map, length, map};
+ghost use Rattle.std.specs.Prelude.{◌≡◌, ◌<◌, ◌++◌, ◌∷◌, [], All, IfOk, IsOk, codes, flat_map, length, map};
 ghost use Rattle.std.specs.Fmt.{decimal};
 ghost use Rattle.report.specs.DayText.{IsFallOf, IsLapseOf, IsPassOf, auto_line, dated_day_text, day_text, evening_text, fall_line, freed_line, lapse_line, offer_line, pass_text, passes_text};
-ghost use Rattle.report.specs.Ids.{wish_id};
+ghost use Rattle.report.specs.Ids.{numbers_text, wish_id};
 ghost use Rattle.report.specs.Pushes.{Pushes};
 ghost use Rattle.report.specs.Words.{further};
 
 use crate::date::push_date;
 use crate::ids::{push_line, push_numbers, school_id, wish_id};
 use crate::piece::{Piece, push_after, push_all, push_text};
-use admit_core::{Change, DayRecord, Dossier, Fall, Lapse, OutOfMemory, PassEnd, Terms};
+use admit_core::{
+    Change, DayRecord, Dossier, Fall, Lapse, OutOfMemory, PassEnd, PassRecord, Terms,
+};
 use calendar::{Civil, deadline, on_day};
 use std::alloc::{AllocError, Global};
 
@@ -100,6 +102,21 @@ fn push_autos(text: &mut String, dossier: &Dossier, autos: &[Change]) -> Result<
     Ok(())
 }
 
+/// Adds the lines of a pass's falls, and of the bars that they end with.
+fn push_fallen(text: &mut String, dossier: &Dossier, pass: &PassRecord) -> Result<(), AllocError>
+    requires { All (IsFallOf dossier.now) pass.now.falls }
+    ensures { Pushes result text.old text.new (flat_map (fall_line dossier.now) pass.now.falls
+        ++ numbers_text (λ h. h.id) (codes "bar") dossier.now.schools pass.now.bars) }
+{
+    push_falls(text, dossier, pass.falls.as_slice())?;
+    push_numbers(
+        text,
+        "bar",
+        dossier.schools.as_slice(),
+        pass.bars.as_slice(),
+    )
+}
+
 /// Adds the last lines of a pass: the offers, the automatic answers, and what these freed.
 fn push_made(text: &mut String, dossier: &Dossier, end: &PassEnd) -> Result<(), AllocError>
     requires { IsPassOf dossier.now end.now }
@@ -117,7 +134,7 @@ fn push_made(text: &mut String, dossier: &Dossier, end: &PassEnd) -> Result<(), 
 fn push_numbered(text: &mut String, before: &str, number: usize) -> Result<(), AllocError>
     ensures { Pushes result text.old text.new (before.now ++ decimal number ++ 10 ∷ []) }
 {
-    let number = Piece::Count(number);
+    let number = Piece::Count(number as u64);
     push_all(text, &[Piece::Text(before), number, Piece::Text("\n")])
 }
 
@@ -131,15 +148,8 @@ fn push_pass(
     requires { IsPassOf dossier.now end.now }
     ensures { Pushes result text.old text.new (pass_text dossier.now (number, end.now)) }
 {
-    let pass = &end.pass;
     push_numbered(text, "pass ", number)?;
-    push_falls(text, dossier, pass.falls.as_slice())?;
-    push_numbers(
-        text,
-        "bar",
-        dossier.schools.as_slice(),
-        pass.bars.as_slice(),
-    )?;
+    push_fallen(text, dossier, &end.pass)?;
     push_made(text, dossier, end)
 }
 

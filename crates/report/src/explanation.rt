@@ -1,88 +1,150 @@
 //! The line that explains a wish.
-ghost use Rattle.std.specs.Prelude.{◌≡◌, ◌<◌, ◌++◌, ◌∷◌, IfOk, OnOk, length, string_bytes};
+ghost use Rattle.std.specs.Prelude.{◌≡◌, ◌<◌, ◌∷◌, [], IfOk, codes, length};
+ghost use Rattle.std.specs.Fmt.{decimal};
 ghost use Rattle.admit_core.specs.Lines.{status_word};
-ghost use Rattle.report.specs.ExplainText.{NamesSchool, cause_words, explain_text, explanation_words, limit_words, stamp_words};
-ghost use Rattle.report.specs.Words.{further};
+ghost use Rattle.report.specs.ExplainText.{NamesSchool, cause_words, explain_text, limit_words, stamp_words};
+ghost use Rattle.report.specs.Pushes.{Pushes};
+ghost use Rattle.report.specs.Words.{further, line};
 
 use crate::ids::{school_id, wish_id};
+use crate::piece::Piece::{Number, Text, Word};
+use crate::piece::{push_all, push_text};
 use admit_core::{BarCause, Dossier, Explanation, OutOfMemory, Stamp, Status};
 use std::alloc::{AllocError, Global};
 
-/// Adds the end of a line: a word, a status, and since when a wish has it.
+/// Adds the line of a wish that has a status since a pass of a day.
 fn push_status(
     text: &mut String,
+    wish: u32,
     word: &str,
     status: Status,
     stamp: Stamp,
 ) -> Result<(), AllocError>
-    ensures { OnOk result (string_bytes text.new ≡ string_bytes text.old
-        ++ further 32 (word.now ∷ status_word status ∷ stamp_words stamp)) }
+    ensures { Pushes result text.old text.new (line
+        (codes "wish" ∷ decimal wish ∷ word.now ∷ status_word status ∷ stamp_words stamp)) }
 {
-    let Stamp { day, pass } = stamp;
-    let status = status.word();
-    writeln!(text, " {word} {status} day {day} pass {pass}")?;
-    Ok(())
+    let pieces = [
+        Text("wish "),
+        Number(wish),
+        Text(" "),
+        Text(word),
+        Text(" "),
+        Word(status),
+        Text(" day "),
+        Number(stamp.day),
+        Text(" pass "),
+        Number(stamp.pass),
+        Text("\n"),
+    ];
+    push_all(text, &pieces)
 }
 
 /// Adds the end of a line: why a bar is as low as it is.
 fn push_cause(text: &mut String, cause: BarCause) -> Result<(), AllocError>
-    ensures { OnOk result (string_bytes text.new
-        ≡ string_bytes text.old ++ further 32 (cause_words cause)) }
+    ensures { Pushes result text.old text.new (further 32 (cause_words cause)) }
 {
     match cause {
-        BarCause::Ceiling => text.push_str(" ceiling\n"),
-        BarCause::Full { beds } => {
-            writeln!(text, " full {beds}")?;
-            Ok(())
-        }
+        BarCause::Ceiling => push_text(text, " ceiling\n"),
+        BarCause::Full { beds } => push_all(text, &[Text(" full "), Number(beds), Text("\n")]),
     }
 }
 
 /// Adds the end of a line: the position and the call limit, where there is one.
 fn push_limit(text: &mut String, position: u32, limit: u32) -> Result<(), AllocError>
-    ensures { OnOk result (string_bytes text.new
-        ≡ string_bytes text.old ++ further 32 (limit_words position limit)) }
+    ensures { Pushes result text.old text.new (further 32 (limit_words position limit)) }
 {
     if limit == 0 {
-        text.push_str("\n")
-    } else {
-        writeln!(text, " position {position} limit {limit}")?;
-        Ok(())
+        return push_text(text, "\n");
     }
+    let pieces = [
+        Text(" position "),
+        Number(position),
+        Text(" limit "),
+        Number(limit),
+        Text("\n"),
+    ];
+    push_all(text, &pieces)
 }
 
-/// Adds the end of the line that explains a wish, after its id.
+/// Adds the line of a wish that a school's bar keeps from a bed.
+fn push_barred(
+    text: &mut String,
+    wish: u32,
+    school: u32,
+    rank: u32,
+    bar: u32,
+    cause: BarCause,
+) -> Result<(), AllocError>
+    ensures { Pushes result text.old text.new (line
+        (codes "wish" ∷ decimal wish ∷ codes "barred" ∷ codes "school" ∷ decimal school
+        ∷ codes "rank" ∷ decimal rank ∷ codes "bar" ∷ decimal bar ∷ cause_words cause)) }
+{
+    let pieces = [
+        Text("wish "),
+        Number(wish),
+        Text(" barred school "),
+        Number(school),
+        Text(" rank "),
+        Number(rank),
+        Text(" bar "),
+        Number(bar),
+    ];
+    push_all(text, &pieces)?;
+    push_cause(text, cause)
+}
+
+/// Adds the line of a wish for which no seat is left.
+fn push_no_seat(
+    text: &mut String,
+    wish: u32,
+    ahead: u32,
+    left: u32,
+    position: u32,
+    limit: u32,
+) -> Result<(), AllocError>
+    ensures { Pushes result text.old text.new (line
+        (codes "wish" ∷ decimal wish ∷ codes "noseat" ∷ codes "ahead" ∷ decimal ahead
+        ∷ codes "left" ∷ decimal left ∷ limit_words position limit)) }
+{
+    let pieces = [
+        Text("wish "),
+        Number(wish),
+        Text(" noseat ahead "),
+        Number(ahead),
+        Text(" left "),
+        Number(left),
+    ];
+    push_all(text, &pieces)?;
+    push_limit(text, position, limit)
+}
+
+/// Adds the line that explains why the wish at a place stands as it does.
 fn push_explanation(
     text: &mut String,
     dossier: &Dossier,
+    wish: u32,
     explanation: Explanation,
 ) -> Result<(), AllocError>
-    requires { NamesSchool dossier.now explanation }
-    ensures { OnOk result (string_bytes text.new
-        ≡ string_bytes text.old ++ further 32 (explanation_words dossier.now explanation)) }
+    requires wish { wish < length dossier.now.wishes }
+    requires school { NamesSchool dossier.now explanation }
+    ensures { Pushes result text.old text.new (explain_text dossier.now wish explanation) }
 {
+    let id = wish_id(dossier, wish);
     match explanation {
-        Explanation::Gone { status, stamp } => push_status(text, "gone", status, stamp),
-        Explanation::Live { status, stamp } => push_status(text, "live", status, stamp),
+        Explanation::Gone { status, stamp } => push_status(text, id, "gone", status, stamp),
+        Explanation::Live { status, stamp } => push_status(text, id, "live", status, stamp),
         Explanation::Barred {
             school,
             rank,
             bar,
             cause,
-        } => {
-            let school = school_id(dossier, school);
-            write!(text, " barred school {school} rank {rank} bar {bar}")?;
-            push_cause(text, cause)
-        }
+        } => push_barred(text, id, school_id(dossier, school), rank, bar, cause),
         Explanation::NoSeat {
             ahead,
             left,
             position,
             limit,
-        } => {
-            write!(text, " noseat ahead {ahead} left {left}")?;
-            push_limit(text, position, limit)
-        }
+        } => push_no_seat(text, id, ahead, left, position, limit),
     }
 }
 
@@ -98,7 +160,6 @@ pub fn explain_text(
     ensures { IfOk result (λ text. text.items ≡ explain_text dossier.now wish explanation) }
 {
     let mut text = String::new(alloc);
-    write!(text, "wish {}", wish_id(dossier, wish))?;
-    push_explanation(&mut text, dossier, explanation)?;
+    push_explanation(&mut text, dossier, wish, explanation)?;
     Ok(text.into_bytes())
 }

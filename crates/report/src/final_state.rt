@@ -1,27 +1,45 @@
 //! The lines of the final state.
-ghost use Rattle.std.specs.Prelude.{◌≡◌, ◌<◌, ◌∷◌, [], IfOk, length};
+ghost use Rattle.std.specs.Prelude.{◌≡◌, ◌<◌, ◌∷◌, [], IfOk, codes, length};
 ghost use Rattle.std.specs.Fmt.{decimal};
 ghost use Rattle.admit_core.specs.Lines.{status_word};
-ghost use Rattle.report.specs.FinalText.{HasDate, HasDates, dated_row, final_dated_text, final_text, offer_day_at, since_word};
+ghost use Rattle.report.specs.FinalText.{HasDate, HasDates, dated_row, final_dated_text, final_text, offer_day_at};
 ghost use Rattle.report.specs.DayText.{date_on};
 ghost use Rattle.report.specs.Pushes.{Pushes};
-ghost use Rattle.report.specs.Words.{row};
+ghost use Rattle.report.specs.Words.{further, row};
 ghost use Rattle.calendar.specs.Dates.{IsCivil};
+ghost use Rattle.calendar.specs.Texts.{date_text};
 
 use crate::date::push_date;
-use crate::piece::{Piece, push_all, push_text};
+use crate::piece::{push_both, push_text};
 use admit_core::{OutOfMemory, Status, Terms, Wish};
 use calendar::{Civil, on_day};
 use day_state::DayState;
+use itoa::Buffer;
 use std::alloc::{AllocError, Global};
+
+/// What stands behind the id in the row of a wish with this status. It is one text, since rows
+/// are most of the final state.
+fn row_end(status: Status) -> &'static str
+    ensures { result.now ≡ further 44 (status_word status ∷ []) }
+{
+    match status {
+        Status::Waiting => ",waiting\n",
+        Status::Offered => ",offered\n",
+        Status::Accepted => ",accepted\n",
+        Status::Refused => ",refused\n",
+        Status::Withdrawn => ",withdrawn\n",
+        Status::Quit => ",quit\n",
+        Status::AutoRefused => ",auto_refused\n",
+        Status::AutoWithdrawn => ",auto_withdrawn\n",
+        Status::Lapsed => ",lapsed\n",
+    }
+}
 
 /// Adds the row of a wish with its status.
 fn push_row(text: &mut String, id: u32, status: Status) -> Result<(), AllocError>
     ensures { Pushes result text.old text.new (row (decimal id ∷ status_word status ∷ [])) }
 {
-    let id = Piece::Number(id);
-    let status = Piece::Word(status);
-    push_all(text, &[id, Piece::Text(","), status, Piece::Text("\n")])
+    push_both(text, Buffer::new().format(id), row_end(status))
 }
 
 /// Adds the final state: each wish with its status. What follows the first line is a state slot.
@@ -63,25 +81,32 @@ fn offer_date(state: &DayState<'_>, start: Civil, terms: &Terms, place: u32) -> 
     on_day(start, day)
 }
 
-/// Adds since when an offer stands, and nothing where the wish is not offered.
-fn push_since(
-    text: &mut String,
-    state: &DayState<'_>,
-    start: Civil,
-    terms: &Terms,
-    place: u32,
-) -> Result<(), AllocError>
-    requires start { IsCivil start }
-    requires place { place < length state.now.dossier.wishes }
-    requires before { place < length terms.now.before }
-    requires date { HasDate state.now start terms.now.before place }
-    ensures { Pushes result text.old text.new
-        (since_word state.now start terms.now.before place) }
+/// What stands behind the id in the row of a wish with this status where offers have dates, and
+/// the wish is not offered.
+fn dated_row_end(status: Status) -> &'static str
+    ensures { result.now ≡ further 44 (status_word status ∷ [] ∷ []) }
 {
-    if let Status::Offered = state.status(place) {
-        return push_date(text, offer_date(state, start, terms, place));
+    match status {
+        Status::Waiting => ",waiting,\n",
+        Status::Offered => ",offered,\n",
+        Status::Accepted => ",accepted,\n",
+        Status::Refused => ",refused,\n",
+        Status::Withdrawn => ",withdrawn,\n",
+        Status::Quit => ",quit,\n",
+        Status::AutoRefused => ",auto_refused,\n",
+        Status::AutoWithdrawn => ",auto_withdrawn,\n",
+        Status::Lapsed => ",lapsed,\n",
     }
-    Ok(())
+}
+
+/// Adds the row of a wish that is offered since a date.
+fn push_offered_row(text: &mut String, id: u32, since: Civil) -> Result<(), AllocError>
+    ensures { Pushes result text.old text.new
+        (row (decimal id ∷ codes "offered" ∷ date_text since ∷ [])) }
+{
+    push_both(text, Buffer::new().format(id), ",offered,")?;
+    push_date(text, since)?;
+    push_text(text, "\n")
 }
 
 /// Adds the row of a wish at its place, with its status, and the date of its offer where it is
@@ -101,11 +126,11 @@ fn push_dated_row(
     ensures { Pushes result text.old text.new
         (dated_row state.now start terms.now.before (place, wish.now)) }
 {
-    let id = Piece::Number(wish.id);
-    let status = Piece::Word(state.status(place));
-    push_all(text, &[id, Piece::Text(","), status, Piece::Text(",")])?;
-    push_since(text, state, start, terms, place)?;
-    push_text(text, "\n")
+    let status = state.status(place);
+    if let Status::Offered = status {
+        return push_offered_row(text, wish.id, offer_date(state, start, terms, place));
+    }
+    push_both(text, Buffer::new().format(wish.id), dated_row_end(status))
 }
 
 /// Adds the final state where offers have dates, of which `start` is that of day 1: each wish with

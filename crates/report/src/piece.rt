@@ -8,18 +8,18 @@ use admit_core::Status;
 use itoa::Buffer;
 use std::alloc::AllocError;
 
-/// A piece of a line.
+/// A piece of a line: some text, a number in digits, or the word of a status.
 #[derive(Clone, Copy)]
-pub(crate) enum Piece<'a> {
+pub enum Piece<'a> {
     Text(&'a str),
     Number(u32),
-    Count(usize),
+    Count(u64),
     Word(Status),
 }
 
 /// Adds some text.
 #[inline(always)]
-pub(crate) fn push_text(text: &mut String, added: &str) -> Result<(), AllocError>
+pub fn push_text(text: &mut String, added: &str) -> Result<(), AllocError>
     ensures { Pushes result text.old text.new added.now }
 {
     text.push_str(added)
@@ -36,7 +36,7 @@ pub(crate) fn push_both(text: &mut String, one: &str, other: &str) -> Result<(),
 
 /// Adds some text and a number.
 #[inline(always)]
-pub(crate) fn push_after(text: &mut String, before: &str, number: u32) -> Result<(), AllocError>
+pub fn push_after(text: &mut String, before: &str, number: u32) -> Result<(), AllocError>
     ensures { Pushes result text.old text.new (before.now ++ decimal number) }
 {
     push_both(text, before, Buffer::new().format(number))
@@ -58,7 +58,7 @@ fn push_piece(text: &mut String, piece: Piece<'_>) -> Result<(), AllocError>
 /// Adds pieces, one after another. It is inlined where they are written: there it is known what
 /// each of them is.
 #[inline(always)]
-pub(crate) fn push_all(text: &mut String, pieces: &[Piece<'_>]) -> Result<(), AllocError>
+pub fn push_all(text: &mut String, pieces: &[Piece<'_>]) -> Result<(), AllocError>
     ensures { Pushes result text.old text.new (all_text pieces.now) }
 {
     for piece in pieces {

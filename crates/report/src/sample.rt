@@ -1,10 +1,13 @@
 //! The summary of a sample.
-ghost use Rattle.std.specs.Prelude.{◌≡◌, ◌<◌, ◌+◌, ◌++◌, ◌||◌, if◌then◌else◌, IfOk, OnOk, flat_map, not, string_bytes, sum_by};
+ghost use Rattle.std.specs.Prelude.{◌≡◌, ◌<◌, ◌+◌, ◌||◌, if◌then◌else◌, IfOk, flat_map, not, sum_by};
 ghost use Rattle.admit_core.specs.State.{is_gone, is_live, is_live_status, is_waiting, is_waiting_status};
+ghost use Rattle.report.specs.Pushes.{Pushes};
 ghost use Rattle.report.specs.SampleText.{day_summary, falls_in, offers_in, sample_text, state_summary, wishes_with};
 
+use crate::piece::{Piece, push_all};
 use admit_core::{DayRecord, OutOfMemory, PassEnd, Status};
 use day_state::DayState;
+use itoa::Buffer;
 use std::alloc::{AllocError, Global};
 
 /// How many falls and offers passes have. Each count of a pass may be as great as a list is long,
@@ -74,35 +77,77 @@ fn wish_counts(state: &DayState<'_>) -> WishCounts
     counts
 }
 
+/// Adds the summary of a day. What its passes have in all is wider than the number of a piece.
+fn push_summary(text: &mut String, day: &DayRecord) -> Result<(), AllocError>
+    ensures { Pushes result text.old text.new (day_summary day.now) }
+{
+    let PassSums { falls, offers } = pass_sums(day.passes.as_slice());
+    let (mut fall_digits, mut offer_digits) = (Buffer::new(), Buffer::new());
+    let pieces = [
+        Piece::Text("day "),
+        Piece::Number(day.day),
+        Piece::Text(" passes "),
+        Piece::Count(day.passes.len() as u64),
+        Piece::Text(" falls "),
+        Piece::Text(fall_digits.format(falls)),
+        Piece::Text(" offers "),
+        Piece::Text(offer_digits.format(offers)),
+        Piece::Text("\n"),
+    ];
+    push_all(text, &pieces)
+}
+
 /// Adds the summary of each day.
-fn push_days(text: &mut String, days: &[DayRecord]) -> Result<(), AllocError>
-    ensures { OnOk result (string_bytes text.new ≡ string_bytes text.old ++ flat_map
-        day_summary days.now) }
+fn push_summaries(text: &mut String, days: &[DayRecord]) -> Result<(), AllocError>
+    ensures { Pushes result text.old text.new (flat_map day_summary days.now) }
 {
     for day in days {
-        let number = day.day;
-        let passes = day.passes.len();
-        let PassSums { falls, offers } = pass_sums(day.passes.as_slice());
-        writeln!(
-            text,
-            "day {number} passes {passes} falls {falls} offers {offers}"
-        )?;
+        push_summary(text, day)?;
     }
     Ok(())
 }
 
 /// Adds the numbers of wishes that are live, wait and are gone.
 fn push_counts(text: &mut String, state: &DayState<'_>) -> Result<(), AllocError>
-    ensures { OnOk result
-        (string_bytes text.new ≡ string_bytes text.old ++ state_summary state.now) }
+    ensures { Pushes result text.old text.new (state_summary state.now) }
 {
     let WishCounts {
         live,
         waiting,
         gone,
     } = wish_counts(state);
-    writeln!(text, "live {live} waiting {waiting} gone {gone}")?;
-    Ok(())
+    let pieces = [
+        Piece::Text("live "),
+        Piece::Count(live as u64),
+        Piece::Text(" waiting "),
+        Piece::Count(waiting as u64),
+        Piece::Text(" gone "),
+        Piece::Count(gone as u64),
+        Piece::Text("\n"),
+    ];
+    push_all(text, &pieces)
+}
+
+/// Adds the summary of a sample.
+fn push_sample(
+    text: &mut String,
+    number: u32,
+    wishes: u32,
+    days: &[DayRecord],
+    state: &DayState<'_>,
+) -> Result<(), AllocError>
+    ensures { Pushes result text.old text.new (sample_text number wishes days.now state.now) }
+{
+    let pieces = [
+        Piece::Text("sample "),
+        Piece::Number(number),
+        Piece::Text(" wishes "),
+        Piece::Number(wishes),
+        Piece::Text("\n"),
+    ];
+    push_all(text, &pieces)?;
+    push_summaries(text, days)?;
+    push_counts(text, state)
 }
 
 /// The summary of a sample: its numbers of candidates and of wishes, the passes, falls and offers
@@ -117,8 +162,6 @@ pub fn sample_text(
     ensures { IfOk result (λ text. text.items ≡ sample_text number wishes days.now state.now) }
 {
     let mut text = String::new(alloc);
-    writeln!(text, "sample {number} wishes {wishes}")?;
-    push_days(&mut text, days)?;
-    push_counts(&mut text, state)?;
+    push_sample(&mut text, number, wishes, days, state)?;
     Ok(text.into_bytes())
 }
