@@ -1,8 +1,9 @@
 //! The rows of each slot, column by column.
-ghost use Rattle.std.specs.Prelude.{◌≡◌, ◌++◌, ◌∷◌, [], OnOk, string_bytes};
+ghost use Rattle.std.specs.Prelude.{◌≡◌, ◌++◌, ◌∷◌, []};
 ghost use Rattle.std.specs.Fmt.{decimal};
 ghost use Rattle.admit_core.specs.Lines.{status_word};
 ghost use Rattle.dossier_csv.specs.Rows.{kind_word};
+ghost use Rattle.report.specs.Pushes.{Pushes};
 ghost use Rattle.report.specs.Words.{row};
 ghost use Rattle.slot_text.specs.Texts as Texts;
 
@@ -11,6 +12,8 @@ use admit_core::{
     AnswerKind, AnswerRow, BoardRow, CeilingRow, GroupRow, ProgrammeRow, RankRow, SchoolRow, Since,
     StateRow, WishRow,
 };
+use report::Piece::{Number, Text, Word};
+use report::{push_after, push_all, push_text};
 use std::alloc::AllocError;
 
 impl WrittenRow for GroupRow {
@@ -21,8 +24,15 @@ impl WrittenRow for GroupRow {
     }
 
     fn push(&self, text: &mut String) -> Result<(), AllocError> {
-        let (id, scholar, resident) = (self.id, self.scholar_pct, self.resident_pct);
-        writeln!(text, "{id},{scholar},{resident}")
+        let pieces = [
+            Number(self.id),
+            Text(","),
+            Number(self.scholar_pct),
+            Text(","),
+            Number(self.resident_pct),
+            Text("\n"),
+        ];
+        push_all(text, &pieces)
     }
 }
 
@@ -34,8 +44,17 @@ impl WrittenRow for ProgrammeRow {
     }
 
     fn push(&self, text: &mut String) -> Result<(), AllocError> {
-        let (id, group, seats, limit) = (self.id, self.group, self.seats, self.limit);
-        writeln!(text, "{id},{group},{seats},{limit}")
+        let pieces = [
+            Number(self.id),
+            Text(","),
+            Number(self.group),
+            Text(","),
+            Number(self.seats),
+            Text(","),
+            Number(self.limit),
+            Text("\n"),
+        ];
+        push_all(text, &pieces)
     }
 }
 
@@ -47,8 +66,8 @@ impl WrittenRow for SchoolRow {
     }
 
     fn push(&self, text: &mut String) -> Result<(), AllocError> {
-        let (id, beds, ceiling) = (self.id, self.beds, self.ceiling);
-        writeln!(text, "{id},{beds},{ceiling}")
+        let (id, beds, ceiling) = (Number(self.id), Number(self.beds), Number(self.ceiling));
+        push_all(text, &[id, Text(","), beds, Text(","), ceiling, Text("\n")])
     }
 }
 
@@ -70,10 +89,19 @@ impl WrittenRow for RankRow {
     }
 
     fn push(&self, text: &mut String) -> Result<(), AllocError> {
-        let (group, candidate, rank) = (self.group, self.candidate, self.rank);
-        let scholar = flag_word(self.scholar);
-        let resident = flag_word(self.resident);
-        writeln!(text, "{group},{candidate},{rank},{scholar},{resident}")
+        let pieces = [
+            Number(self.group),
+            Text(","),
+            Number(self.candidate),
+            Text(","),
+            Number(self.rank),
+            Text(","),
+            Text(flag_word(self.scholar)),
+            Text(","),
+            Text(flag_word(self.resident)),
+            Text("\n"),
+        ];
+        push_all(text, &pieces)
     }
 }
 
@@ -85,8 +113,12 @@ impl WrittenRow for BoardRow {
     }
 
     fn push(&self, text: &mut String) -> Result<(), AllocError> {
-        let (school, candidate, rank) = (self.school, self.candidate, self.rank);
-        writeln!(text, "{school},{candidate},{rank}")
+        let (school, candidate) = (Number(self.school), Number(self.candidate));
+        let rank = Number(self.rank);
+        push_all(
+            text,
+            &[school, Text(","), candidate, Text(","), rank, Text("\n")],
+        )
     }
 }
 
@@ -98,48 +130,74 @@ impl WrittenRow for WishRow {
     }
 
     fn push(&self, text: &mut String) -> Result<(), AllocError> {
-        let (id, candidate, programme) = (self.id, self.candidate, self.programme);
-        let preference = self.preference;
+        let (id, candidate) = (Number(self.id), Number(self.candidate));
+        let (programme, preference) = (Number(self.programme), Number(self.preference));
+        let comma = Text(",");
         match self.school {
-            Some(school) => writeln!(text, "{id},{candidate},{programme},{school},{preference}"),
-            None => writeln!(text, "{id},{candidate},{programme},,{preference}"),
+            Some(school) => {
+                let school = Number(school);
+                let pieces = [
+                    id,
+                    comma,
+                    candidate,
+                    comma,
+                    programme,
+                    comma,
+                    school,
+                    comma,
+                    preference,
+                    Text("\n"),
+                ];
+                push_all(text, &pieces)
+            }
+            None => {
+                let pieces = [
+                    id,
+                    comma,
+                    candidate,
+                    comma,
+                    programme,
+                    Text(",,"),
+                    preference,
+                    Text("\n"),
+                ];
+                push_all(text, &pieces)
+            }
         }
     }
 }
 
-/// Adds a month or a day, with a zero in front where it has one digit.
-fn push_two_or_more(text: &mut String, number: u32) -> Result<(), AllocError>
-    ensures { OnOk result (string_bytes text.new
-        ≡ string_bytes text.old ++ Texts.two_or_more number) }
+/// Adds a dash and a month or a day, with a zero in front where it has one digit.
+fn push_dashed(text: &mut String, number: u32) -> Result<(), AllocError>
+    ensures { Pushes result text.old text.new (45 ∷ Texts.two_or_more number) }
 {
     if number < 10 {
-        write!(text, "0{number}")
+        push_after(text, "-0", number)
     } else {
-        write!(text, "{number}")
+        push_after(text, "-", number)
     }
 }
 
 /// Adds a date.
 fn push_date(text: &mut String, date: Since) -> Result<(), AllocError>
-    ensures { OnOk result (string_bytes text.new
-        ≡ string_bytes text.old ++ Texts.date_word date) }
+    ensures { Pushes result text.old text.new (Texts.date_word date) }
 {
-    let year = date.year;
-    write!(text, "{year}-")?;
-    push_two_or_more(text, date.month)?;
-    text.push_str("-")?;
-    push_two_or_more(text, date.day)
+    push_after(text, "", date.year)?;
+    push_dashed(text, date.month)?;
+    push_dashed(text, date.day)
 }
 
 /// Adds the date of a row, where it has one, and ends the line.
 fn push_since(text: &mut String, since: Option<Since>) -> Result<(), AllocError>
-    ensures { OnOk result (string_bytes text.new
-        ≡ string_bytes text.old ++ Texts.since_word since ++ 10 ∷ []) }
+    ensures { Pushes result text.old text.new (Texts.since_word since ++ 10 ∷ []) }
 {
-    if let Some(date) = since {
-        push_date(text, date)?;
+    match since {
+        None => push_text(text, "\n"),
+        Some(date) => {
+            push_date(text, date)?;
+            push_text(text, "\n")
+        }
     }
-    text.push_str("\n")
 }
 
 /// The line of a row of the state, with its date.
@@ -151,21 +209,19 @@ impl WrittenRow for StateRow {
     }
 
     fn push(&self, text: &mut String) -> Result<(), AllocError> {
-        let wish = self.wish;
-        let status = self.status.word();
-        write!(text, "{wish},{status},")?;
+        let (wish, status) = (Number(self.wish), Word(self.status));
+        push_all(text, &[wish, Text(","), status, Text(",")])?;
         push_since(text, self.since)
     }
 }
 
 /// Adds the line of a row of the state, without a date.
 pub(crate) fn push_plain(text: &mut String, state: &StateRow) -> Result<(), AllocError>
-    ensures { OnOk result (string_bytes text.new ≡ string_bytes text.old
-        ++ row (decimal state.now.wish ∷ status_word state.now.status ∷ [])) }
+    ensures { Pushes result text.old text.new
+        (row (decimal state.now.wish ∷ status_word state.now.status ∷ [])) }
 {
-    let wish = state.wish;
-    let status = state.status.word();
-    writeln!(text, "{wish},{status}")
+    let (wish, status) = (Number(state.wish), Word(state.status));
+    push_all(text, &[wish, Text(","), status, Text("\n")])
 }
 
 impl WrittenRow for CeilingRow {
@@ -176,8 +232,11 @@ impl WrittenRow for CeilingRow {
     }
 
     fn push(&self, text: &mut String) -> Result<(), AllocError> {
-        let (day, school, ceiling) = (self.day, self.school, self.ceiling);
-        writeln!(text, "{day},{school},{ceiling}")
+        let (day, school, ceiling) = (Number(self.day), Number(self.school), Number(self.ceiling));
+        push_all(
+            text,
+            &[day, Text(","), school, Text(","), ceiling, Text("\n")],
+        )
     }
 }
 
@@ -201,8 +260,8 @@ impl WrittenRow for AnswerRow {
     }
 
     fn push(&self, text: &mut String) -> Result<(), AllocError> {
-        let (day, target) = (self.day, self.target);
-        let kind = kind_word(self.kind);
-        writeln!(text, "{day},{kind},{target}")
+        let (day, target) = (Number(self.day), Number(self.target));
+        let kind = Text(kind_word(self.kind));
+        push_all(text, &[day, Text(","), kind, Text(","), target, Text("\n")])
     }
 }

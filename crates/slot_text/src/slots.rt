@@ -1,17 +1,19 @@
 //! The text of each slot of tables.
-ghost use Rattle.std.specs.Prelude.{◌≡◌, ◌++◌, OnOk, flat_map, string_bytes};
+ghost use Rattle.std.specs.Prelude.{flat_map};
+ghost use Rattle.report.specs.Pushes.{Pushes};
 ghost use Rattle.report.specs.Words.{row};
 ghost use Rattle.slot_text.specs.Texts as Texts;
 
 use crate::rows::push_plain;
 use crate::table::push_table;
 use admit_core::{Slot, StateRow, Tables};
+use report::push_text;
 use std::alloc::AllocError;
 
 /// Adds the lines of a state's rows, without their dates.
 fn push_plain_rows(text: &mut String, rows: &[StateRow]) -> Result<(), AllocError>
-    ensures { OnOk result (string_bytes text.new
-        ≡ string_bytes text.old ++ flat_map (λ x. row (Texts.plain_state.fields x)) rows.now) }
+    ensures { Pushes result text.old text.new
+        (flat_map (λ x. row (Texts.plain_state.fields x)) rows.now) }
 {
     for state in rows {
         push_plain(text, state)?;
@@ -21,17 +23,15 @@ fn push_plain_rows(text: &mut String, rows: &[StateRow]) -> Result<(), AllocErro
 
 /// Adds the text of a state without dates.
 fn push_plain_state(text: &mut String, rows: &[StateRow]) -> Result<(), AllocError>
-    ensures { OnOk result (string_bytes text.new
-        ≡ string_bytes text.old ++ Texts.table_text Texts.plain_state rows.now) }
+    ensures { Pushes result text.old text.new (Texts.table_text Texts.plain_state rows.now) }
 {
-    text.push_str("wish,status\n")?;
+    push_text(text, "wish,status\n")?;
     push_plain_rows(text, rows)
 }
 
 /// Adds the text of a state.
 fn push_state(text: &mut String, rows: &[StateRow], dated: bool) -> Result<(), AllocError>
-    ensures { OnOk result (string_bytes text.new
-        ≡ string_bytes text.old ++ Texts.table_text (Texts.state dated) rows.now) }
+    ensures { Pushes result text.old text.new (Texts.table_text (Texts.state dated) rows.now) }
 {
     match dated {
         true => push_table(text, rows),
@@ -47,8 +47,7 @@ pub fn push_slot(
     slot: Slot,
     dated: bool,
 ) -> Result<(), AllocError>
-    ensures { OnOk result (string_bytes text.new
-        ≡ string_bytes text.old ++ Texts.slot_text dated tables.now slot) }
+    ensures { Pushes result text.old text.new (Texts.slot_text dated tables.now slot) }
 {
     match slot {
         Slot::Groups => push_table(text, tables.groups.as_slice()),

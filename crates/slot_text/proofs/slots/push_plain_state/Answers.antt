@@ -1,14 +1,16 @@
-use Rattle.std.proofs.Common.{◌≡◌, ◌++◌, ◌∙◌, ℕ, List, ap, append_assoc, flat_map, string_bytes, subst}
-use Rattle.std.specs.Prelude.{OnOk}
+use Rattle.std.proofs.Common.{flat_map}
 use Rattle.report.specs.Words.{row}
+use Rattle.report.proofs.Pushing.{cut_off, cut_off_first, pushes_then}
 use Rattle.slot_text.specs.Texts as Texts
 use Rattle.slot_text.proofs.slots.push_plain_state.Goals as goal
 
+pub returns-in_err-push_text : goal.returns-in_err-push_text
+returns-in_err-push_text c =
+    let rows = flat_map (λ x. row (Texts.plain_state.fields x)) c.args.rows.now in
+    cut_off c.from_residual.result c.from_residual.ensures.0 (cut_off_first rows c.in_err-push_text.ensures)
+
 pub returns : goal.returns
 returns c =
-    let start = string_bytes c.args.text.now in
-    let head = row Texts.plain_state.header in
     let rows = flat_map (λ x. row (Texts.plain_state.fields x)) c.args.rows.now in
-    subst (λ (bytes : List ℕ). OnOk c.push_plain_rows.result (string_bytes c.push_plain_rows.new.text ≡ bytes))
-    (ap (λ (bytes : List ℕ). bytes ++ rows) c.in_ok-push_str.ensures.bytes ∙ append_assoc start head rows)
+    pushes_then c.push_plain_rows.result c.push_plain_rows.new.text rows c.in_ok-push_text.ensures
     c.push_plain_rows.ensures

@@ -1,9 +1,8 @@
-use Rattle.std.proofs.Common.{◌≡◌, ◌++◌, flat_map, string_bytes, take}
+use Rattle.std.proofs.Common.{flat_map, take}
+use Rattle.report.specs.Pushes.{IsPushed}
 use Rattle.report.specs.Words.{row}
-use Rattle.slot_text.proofs.table.push_table.Given as goal
+use Rattle.slot_text.proofs.table.push_rows.Given as goal
 
 abbrev pub invariant-loop-row : goal.invariant-loop-row
 invariant-loop-row g l =
-    string_bytes l.text
-    ≡ string_bytes l.fn.text ++ row g.R.WrittenRow.written.header
-    ++ flat_map (λ x. row (g.R.WrittenRow.written.fields x)) (take l.row-index l.rows)
+    IsPushed l.fn.text l.text (flat_map (λ x. row (g.R.WrittenRow.written.fields x)) (take l.row-index l.rows))
