@@ -13,9 +13,13 @@ bar_line before after (place, school) =
     line (codes "bar" ∷ decimal school.id ∷ decimal (slice_index before place)
     ∷ decimal (slice_index after place) ∷ [])
 
--- the school with its beds and those that it needs, then the bars of all schools in file order
-abbrev pub beds_text : DossierRows → ℕ → ℕ → List ℕ → List ℕ → List ℕ
-beds_text d school need before after =
+-- a school with its beds and those that it needs
+abbrev pub need_line : DossierRows → ℕ → ℕ → List ℕ
+need_line d school need =
     line (codes "school" ∷ decimal (school_id d school) ∷ codes "beds" ∷ decimal (beds_of d school)
     ∷ codes "need" ∷ decimal need ∷ [])
-    ++ flat_map (bar_line before after) (enumerate_from 0 d.schools)
+
+-- that line, then the bars of all schools in file order
+abbrev pub beds_text : DossierRows → ℕ → ℕ → List ℕ → List ℕ → List ℕ
+beds_text d school need before after =
+    need_line d school need ++ flat_map (bar_line before after) (enumerate_from 0 d.schools)

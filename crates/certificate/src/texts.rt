@@ -1,11 +1,13 @@
 //! The lines that tell why a chain is refused.
-ghost use Rattle.std.specs.Prelude.{◌≡◌, ◌++◌, ◌∷◌, [], IfOk, OnOk, length, string_bytes};
+ghost use Rattle.std.specs.Prelude.{◌≡◌, ◌++◌, ◌∷◌, [], IfOk, length};
 ghost use Rattle.admit_core.specs.ChainLines.{chain_fault_text};
 ghost use Rattle.certificate.specs.VerdictText.{kept_id, verdict_text};
 ghost use Rattle.certificate.specs.Verdicts.{KeepsSchool};
+ghost use Rattle.report.specs.Pushes.{Pushes};
 ghost use Rattle.report.specs.Words.{further};
 
-use admit_core::{ChainFault, CheckReason, Dossier, OutOfMemory, push_after};
+use admit_core::{ChainFault, CheckReason, Dossier, OutOfMemory};
+use report::{Piece, push_all, push_text};
 use std::alloc::{AllocError, Global};
 
 /// The line of a text that is no chain.
@@ -21,17 +23,37 @@ pub fn chain_fault_text(alloc: Global, fault: ChainFault) -> Result<Vec<u8>, Out
 /// Ends the line of a chain that is not valid, with the id of the school that is still overfilled.
 fn push_kept(text: &mut String, dossier: &Dossier, reason: CheckReason) -> Result<(), AllocError>
     requires { KeepsSchool (length dossier.now.schools) reason }
-    ensures { OnOk result (string_bytes text.new
-        ≡ string_bytes text.old ++ further 32 (kept_id dossier.now reason)) }
+    ensures { Pushes result text.old text.new (further 32 (kept_id dossier.now reason)) }
 {
     match reason {
         CheckReason::StillOver { school } => {
-            let id = dossier.schools.as_slice()[school as usize].id;
-            writeln!(text, " {id}")?;
-            Ok(())
+            let id = Piece::Number(dossier.schools.as_slice()[school as usize].id);
+            push_all(text, &[Piece::Text(" "), id, Piece::Text("\n")])
         }
-        _ => text.push_str("\n"),
+        _ => push_text(text, "\n"),
     }
+}
+
+/// Adds the line of a day's chain that is not valid.
+fn push_verdict(
+    text: &mut String,
+    dossier: &Dossier,
+    row: u64,
+    reason: CheckReason,
+) -> Result<(), AllocError>
+    requires { KeepsSchool (length dossier.now.schools) reason }
+    ensures { Pushes result text.old text.new (verdict_text dossier.now row reason) }
+{
+    let pieces = [
+        Piece::Text("not proved row "),
+        Piece::Count(row),
+        Piece::Text(" reason "),
+        Piece::Number(reason.number()),
+        Piece::Text(" "),
+        Piece::Text(reason.name()),
+    ];
+    push_all(text, &pieces)?;
+    push_kept(text, dossier, reason)
 }
 
 /// The line of a day's chain that is not valid. A school that is still overfilled is told by its
@@ -46,10 +68,6 @@ pub fn verdict_text(
     ensures { IfOk result (λ text. text.items ≡ verdict_text dossier.now row reason) }
 {
     let mut text = String::new(alloc);
-    push_after(&mut text, "not proved row ", row)?;
-    push_after(&mut text, " reason ", reason.number() as u64)?;
-    text.push_str(" ")?;
-    text.push_str(reason.name())?;
-    push_kept(&mut text, dossier, reason)?;
+    push_verdict(&mut text, dossier, row, reason)?;
     Ok(text.into_bytes())
 }

@@ -1,10 +1,13 @@
 //! The lines of blocks.
-ghost use Rattle.std.specs.Prelude.{◌≡◌, ◌++◌, ◌<◌, All, IfOk, OnOk, flat_map, length, string_bytes};
+ghost use Rattle.std.specs.Prelude.{◌≡◌, ◌<◌, All, IfOk, flat_map, length};
 ghost use Rattle.report.specs.Ids.{wish_id};
-ghost use Rattle.envy.specs.Text.{block_line, envy_text};
+ghost use Rattle.report.specs.Pushes.{Pushes};
+ghost use Rattle.report.specs.Words.{further};
+ghost use Rattle.envy.specs.Text.{block_line, envied_words, envy_text};
 
 use crate::blocks::Block;
 use admit_core::{Dossier, OutOfMemory};
+use report::{Piece, push_all, push_text};
 use std::alloc::{AllocError, Global};
 
 /// The id of the wish at a place.
@@ -15,35 +18,56 @@ fn wish_id(dossier: &Dossier, place: u32) -> u32
     dossier.wishes.as_slice()[place as usize].id
 }
 
-/// The line of a block.
-fn block_line(alloc: Global, dossier: &Dossier, block: Block) -> Result<String, AllocError>
-    requires { block.wish < length dossier.now.wishes }
-    ensures { IfOk result (λ text. string_bytes text ≡ block_line dossier.now block) }
+/// Adds the end of a line: who is envied, where somebody is.
+fn push_envied(text: &mut String, envied: Option<u32>) -> Result<(), AllocError>
+    ensures { Pushes result text.old text.new (further 32 (envied_words envied)) }
 {
-    let id = wish_id(dossier, block.wish);
-    let left = block.left;
-    match block.envied {
-        None => format!(in alloc; "block {id} left {left}\n"),
-        Some(envied) => format!(in alloc; "block {id} left {left} envies {envied}\n"),
+    match envied {
+        None => push_text(text, "\n"),
+        Some(candidate) => {
+            let candidate = Piece::Number(candidate);
+            push_all(
+                text,
+                &[Piece::Text(" envies "), candidate, Piece::Text("\n")],
+            )
+        }
     }
 }
 
+/// Adds the line of a block.
+fn push_block(text: &mut String, dossier: &Dossier, block: Block) -> Result<(), AllocError>
+    requires { block.wish < length dossier.now.wishes }
+    ensures { Pushes result text.old text.new (block_line dossier.now block) }
+{
+    let pieces = [
+        Piece::Text("block "),
+        Piece::Number(wish_id(dossier, block.wish)),
+        Piece::Text(" left "),
+        Piece::Number(block.left),
+    ];
+    push_all(text, &pieces)?;
+    push_envied(text, block.envied)
+}
+
 /// Adds a line for each block.
-fn push_blocks(
-    alloc: Global,
-    text: &mut String,
-    dossier: &Dossier,
-    blocks: &[Block],
-) -> Result<(), AllocError>
+fn push_blocks(text: &mut String, dossier: &Dossier, blocks: &[Block]) -> Result<(), AllocError>
     requires { All (λ block. block.wish < length dossier.now.wishes) blocks.now }
-    ensures { OnOk result (string_bytes text.new
-        ≡ string_bytes text.old ++ flat_map (block_line dossier.now) blocks.now) }
+    ensures { Pushes result text.old text.new (flat_map (block_line dossier.now) blocks.now) }
 {
     for block in blocks {
-        let line = block_line(alloc, dossier, *block)?;
-        text.push_str(&line)?;
+        push_block(text, dossier, *block)?;
     }
     Ok(())
+}
+
+/// Adds the lines of blocks, and last their number.
+fn push_envy(text: &mut String, dossier: &Dossier, blocks: &[Block]) -> Result<(), AllocError>
+    requires { All (λ block. block.wish < length dossier.now.wishes) blocks.now }
+    ensures { Pushes result text.old text.new (envy_text dossier.now blocks.now) }
+{
+    push_blocks(text, dossier, blocks)?;
+    let count = Piece::Count(blocks.len() as u64);
+    push_all(text, &[Piece::Text("blocks "), count, Piece::Text("\n")])
 }
 
 /// A line for each block, with the id of its wish, the seats left of the wish's programme and the
@@ -53,8 +77,6 @@ pub fn envy_text(alloc: Global, dossier: &Dossier, blocks: &[Block]) -> Result<V
     ensures { IfOk result (λ text. text.items ≡ envy_text dossier.now blocks.now) }
 {
     let mut text = String::new(alloc);
-    push_blocks(alloc, &mut text, dossier, blocks)?;
-    let count = blocks.len();
-    writeln!(text, "blocks {count}")?;
+    push_envy(&mut text, dossier, blocks)?;
     Ok(text.into_bytes())
 }
