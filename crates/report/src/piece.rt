@@ -55,8 +55,8 @@ fn push_piece(text: &mut String, piece: Piece<'_>) -> Result<(), AllocError>
     }
 }
 
-/// Adds pieces, one after another. It is inlined where they are written: there it is known what
-/// each of them is.
+/// Adds pieces, one after another. What is most of a long text has fewer and longer pieces, pushed
+/// by calls of their own.
 #[inline(always)]
 pub fn push_all(text: &mut String, pieces: &[Piece<'_>]) -> Result<(), AllocError>
     ensures { Pushes result text.old text.new (all_text pieces.now) }
