@@ -1,24 +1,62 @@
 //! A market that is solved, as a text.
-ghost use Rattle.std.specs.Prelude.{◌≡◌, ◌++◌, ◌<◌, All, IfOk, OnOk, flat_map, length, string_bytes, zip};
+ghost use Rattle.std.specs.Prelude.{◌≡◌, ◌<◌, ◌∷◌, [], All, IfOk, codes, flat_map, length, zip};
+ghost use Rattle.std.specs.Fmt.{decimal};
 ghost use Rattle.std.specs.Option.{ForSome};
 ghost use Rattle.std.specs.List.{enumerate_from};
 ghost use Rattle.markets.specs.Text.{cut_line, market_text, match_line, programme_id};
+ghost use Rattle.report.specs.Pushes.{Pushes};
+ghost use Rattle.report.specs.Words.{line};
 
 use crate::named::Named;
 use crate::solution::Solved;
 use admit_core::{Dossier, OutOfMemory, Programme};
+use itoa::Buffer;
 use std::alloc::{AllocError, Global};
+
+/// Adds some text.
+#[inline(always)]
+fn push_text(text: &mut String, added: &str) -> Result<(), AllocError>
+    ensures { Pushes result text.old text.new added.now }
+{
+    text.push_str(added)
+}
+
+/// Adds texts, one after another.
+#[inline(always)]
+fn push_texts(text: &mut String, texts: &[&str]) -> Result<(), AllocError>
+    ensures { Pushes result text.old text.new (flat_map (λ t. t.now) texts.now) }
+{
+    for added in texts {
+        push_text(text, added)?;
+    }
+    Ok(())
+}
+
+/// Adds the first line: how many candidates there are.
+fn push_count(text: &mut String, count: usize) -> Result<(), AllocError>
+    ensures { Pushes result text.old text.new (line (codes "market" ∷ decimal count ∷ [])) }
+{
+    push_texts(text, &["market ", Buffer::new().format(count), "\n"])
+}
+
+/// Adds the line of a programme with its bar.
+fn push_cut(text: &mut String, id: u32, bar: u32) -> Result<(), AllocError>
+    ensures { Pushes result text.old text.new
+        (line (codes "cut" ∷ decimal id ∷ decimal bar ∷ [])) }
+{
+    let (mut first, mut second) = (Buffer::new(), Buffer::new());
+    let (id, bar) = (first.format(id), second.format(bar));
+    push_texts(text, &["cut ", id, " ", bar, "\n"])
+}
 
 /// Adds a line for each programme with its bar.
 fn push_cuts(text: &mut String, programmes: &[Programme], bars: &[u32]) -> Result<(), AllocError>
     requires { length bars.now ≡ length programmes.now }
-    ensures { OnOk result (string_bytes text.new ≡ string_bytes text.old ++ flat_map
-        (cut_line bars.now) (enumerate_from 0 programmes.now)) }
+    ensures { Pushes result text.old text.new
+        (flat_map (cut_line bars.now) (enumerate_from 0 programmes.now)) }
 {
     for (place, programme) in programmes.iter().enumerate() {
-        let id = programme.id;
-        let bar = bars[place];
-        writeln!(text, "cut {id} {bar}")?;
+        push_cut(text, programme.id, bars[place])?;
     }
     Ok(())
 }
@@ -39,17 +77,18 @@ fn push_match(
     place: Option<u32>,
 ) -> Result<(), AllocError>
     requires { ForSome place (λ p. p < length dossier.now.programmes) }
-    ensures { OnOk result (string_bytes text.new ≡ string_bytes text.old ++ match_line dossier.now
-        (candidate, place)) }
+    ensures { Pushes result text.old text.new (match_line dossier.now (candidate, place)) }
 {
+    let mut first = Buffer::new();
+    let candidate = first.format(candidate);
     match place {
         Some(programme) => {
-            let id = programme_id(dossier, programme);
-            writeln!(text, "match {candidate} {id}")?;
+            let mut second = Buffer::new();
+            let id = second.format(programme_id(dossier, programme));
+            push_texts(text, &["match ", candidate, " ", id, "\n"])
         }
-        None => writeln!(text, "match {candidate} none")?,
+        None => push_texts(text, &["match ", candidate, " none\n"]),
     }
-    Ok(())
 }
 
 /// Adds a line for each candidate with their place.
@@ -60,11 +99,11 @@ fn push_matches(
     places: &[Option<u32>],
 ) -> Result<(), AllocError>
     requires { All (λ place. ForSome place (λ p. p < length dossier.now.programmes)) places.now }
-    ensures { OnOk result (string_bytes text.new ≡ string_bytes text.old ++ flat_map
-        (match_line dossier.now) (zip candidates.now places.now)) }
+    ensures { Pushes result text.old text.new
+        (flat_map (match_line dossier.now) (zip candidates.now places.now)) }
 {
-    for (candidate, place) in candidates.iter().zip(places) {
-        push_match(text, dossier, *candidate, *place)?;
+    for at in 0..candidates.len().min(places.len()) {
+        push_match(text, dossier, candidates[at], places[at])?;
     }
     Ok(())
 }
@@ -84,9 +123,8 @@ pub fn market_text(
         solved.now.bars.items solved.now.places.items) }
 {
     let candidates = named.candidates.as_slice();
-    let count = candidates.len();
     let mut text = String::new(alloc);
-    writeln!(text, "market {count}")?;
+    push_count(&mut text, candidates.len())?;
     push_cuts(
         &mut text,
         dossier.programmes.as_slice(),

@@ -1,18 +1,33 @@
-use Rattle.std.proofs.Common.{flat_map, sym, ap, ◌∙◌, ◌++◌, string_bytes, rules}
-use Rattle.std.proofs.lemmas.Iterator.{YieldsList-from_slice, YieldsList-from_zip}
-use Rattle.std.proofs.lemmas.Iterator.Consumers.{YieldsList-end}
-use Rattle.std.proofs.lemmas.List.Folds.{flat_map-map}
+use Rattle.std.proofs.Common.{ℕ, List, None, Option, ap, arith, sym, zip}
+use Rattle.std.proofs.lemmas.Slice.Zip.{get_or-zip, length-zip}
 use Rattle.markets.specs.Text.{match_line}
+use Rattle.report.proofs.Pushing.{cut_item, cut_off, cut_off_as, pushed_all, pushed_as, pushed_item}
 use Rattle.markets.proofs.text.push_matches.Goals as goal
+
+pub returns-in_err-push_match : goal.returns-in_err-push_match
+returns-in_err-push_match c =
+    let candidates : List ℕ = c.args.candidates.now in
+    let places : List (Option ℕ) = c.args.places.now in
+    let i : ℕ = c.loop-at.at in
+    cut_off c.from_residual.result c.from_residual.ensures.0
+    (cut_item (match_line c.args.dossier.now) (zip candidates places) i (0, None)
+    (omega (arith, length-zip candidates places)) c.loop-at.invariant
+    (cut_off_as c.in_err-push_match.ensures
+    (ap (match_line c.args.dossier.now) (sym (get_or-zip candidates places i (0, None) (omega arith) (omega arith))))))
+
+pub loop-at-preserved : goal.loop-at-preserved
+loop-at-preserved c =
+    let candidates : List ℕ = c.args.candidates.now in
+    let places : List (Option ℕ) = c.args.places.now in
+    let i : ℕ = c.loop-at.at in
+    pushed_item (match_line c.args.dossier.now) (zip candidates places) i (0, None)
+    (omega (arith, length-zip candidates places)) c.loop-at.invariant
+    (pushed_as c.in_ok-push_match.ensures
+    (ap (match_line c.args.dossier.now) (sym (get_or-zip candidates places i (0, None) (omega arith) (omega arith)))))
 
 pub returns : goal.returns
 returns c =
-    let line = match_line c.args.dossier.now in
-    let end = YieldsList-end (YieldsList-from_zip {s = c.into_iter-candidate-iterator.result}
-    (YieldsList-from_slice c.args.candidates.now (search rules))
-    (YieldsList-from_slice c.args.places.now (search rules)))
-    c.loop-candidate.yielded c.loop-candidate.candidate-iterator c.loop-candidate.yielded_by c.next.result
-    c.next.new.self c.in-None.is
-    c.next.ensures.steps in
-    c.loop-candidate.invariant ∙ ap (λ t. string_bytes c.args.text.now ++ t)
-    (sym (flat_map-map line (λ p. (p.0.now, p.1.now)) c.loop-candidate.yielded) ∙ ap (flat_map line) end.0)
+    let candidates : List ℕ = c.args.candidates.now in
+    let places : List (Option ℕ) = c.args.places.now in
+    pushed_all (match_line c.args.dossier.now) (zip candidates places) c.loop-at.at
+    (omega (arith, length-zip candidates places)) c.loop-at.invariant

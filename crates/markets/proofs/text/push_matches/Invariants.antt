@@ -1,7 +1,8 @@
-use Rattle.std.proofs.Common.{◌≡◌, ◌++◌, flat_map, string_bytes}
+use Rattle.std.proofs.Common.{flat_map, take, zip}
+use Rattle.report.specs.Pushes.{IsPushed}
 use Rattle.markets.specs.Text.{match_line}
 use Rattle.markets.proofs.text.push_matches.Given as goal
 
-abbrev pub invariant-loop-candidate : goal.invariant-loop-candidate
-invariant-loop-candidate l =
-    string_bytes l.text ≡ string_bytes l.fn.text ++ flat_map (λ p. match_line l.dossier (p.0.now, p.1.now)) l.yielded
+abbrev pub invariant-loop-at : goal.invariant-loop-at
+invariant-loop-at l =
+    IsPushed l.fn.text l.text (flat_map (match_line l.dossier) (take l.at (zip l.candidates l.places)))
