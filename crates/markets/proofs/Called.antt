@@ -72,7 +72,7 @@ named_at ws c lt = eqb-true c (get_or (named ws) (position_or_len (nat_eq c) (na
     (passes_at_first (nat_eq c) (named ws) 0 lt)
 
 -- what stands in what is made of a list is made of one of it
-from_map : (f : ℕ → ℕ) (q : ℕ) (xs : List ℕ) → is_among q (map f xs) ≡ true
+pub from_map : (f : ℕ → ℕ) (q : ℕ) (xs : List ℕ) → is_among q (map f xs) ≡ true
     → (c : ℕ) × ((is_among c xs ≡ true) × (q ≡ f c))
 from_map f q [] t = absurd (false≢true t)
 from_map f q (x ∷ xs) t =
@@ -140,6 +140,38 @@ module _ (d : DossierRows) (valid : IsValid d) (orders : List CallOrder) (are : 
       subst P (unwrap_or-slice_get d.wishes k none ∙ get_or_default d.wishes k none e lt)
       ((all_called d valid orders are).each k lt)
 
+  -- who lists a programme is called for it
+  pub lister_called : (p x : ℕ) → names_it (counted d) p x ≡ true
+      → is_among x (map (number (counted d)) (order_of d orders p)) ≡ true
+  lister_called p x names =
+      let ws : List Wish = counted d in
+      let call : List ℕ = order_of d orders p in
+      let c : ℕ = get_or (named ws) x 0 in
+      let P : Wish → Type 0 = λ w. is_among w.candidate (order_of d orders w.programme) ≡ true in
+      let (w, (called, for)) = one_counted d P (is_for p c) each_called
+      (sym (lists_wish ws p c) ∙ their_list ws p x names) in
+      let parts = and_parts (nat_eq c w.candidate) (nat_eq p w.programme) for in
+      let in_call : is_among c call ≡ true =
+      ap (λ k. is_among k call) (eqb-true c w.candidate parts.0)
+      ∙ ap (λ q. is_among w.candidate (order_of d orders q)) (eqb-true p w.programme parts.1) ∙ called in
+      ap (λ k. is_among k (map (number ws) call)) (sym (their_number ws p x names))
+      ∙ among-map (number ws) c call in_call
+
+  -- and at one place alone
+  pub called_apart : (p i j : ℕ) → i < length (order_of d orders p) → j < length (order_of d orders p)
+      → number (counted d) (get_or (order_of d orders p) i 0) ≡ number (counted d) (get_or (order_of d orders p) j 0)
+      → number (counted d) (get_or (order_of d orders p) i 0) < length (named (counted d))
+      → i ≡ j
+  called_apart p i j i_lt j_lt same lt =
+      let ws : List Wish = counted d in
+      let call : List ℕ = order_of d orders p in
+      let apart = called_once d valid orders are p in
+      let b : ℕ = get_or call i 0 in
+      let c : ℕ = get_or call j 0 in
+      let one : b ≡ c = named_at ws b lt ∙ ap (λ k. get_or (named ws) k 0) same
+      ∙ sym (named_at ws c (omega (arith, lt, same))) in
+      sym (only_place call i apart i_lt) ∙ ap (λ k. position_or_len (nat_eq k) call) one ∙ only_place call j apart j_lt
+
   -- an order is one: it has those who list the programme, and nobody else
   order_is_one : (p : ℕ) → p < length d.programmes
       → (is_distinct (called_in (counted d) p (order_of d orders p))
@@ -162,17 +194,8 @@ module _ (d : DossierRows) (valid : IsValid d) (orders : List CallOrder) (are : 
       all_of (λ x. is_among x order) (filter (names_it ws p) range) (λ x among.
       let names : names_it ws p x ≡ true =
       (and_parts (is_among x range) (names_it ws p x) (sym (among_filter (names_it ws p) x range) ∙ among)).1 in
-      let c : ℕ = get_or (named ws) x 0 in
-      let P : Wish → Type 0 = λ w. is_among w.candidate (order_of d orders w.programme) ≡ true in
-      let (w, (called, for)) = one_counted d P (is_for p c) each_called
-      (sym (lists_wish ws p c) ∙ their_list ws p x names) in
-      let parts = and_parts (nat_eq c w.candidate) (nat_eq p w.programme) for in
-      let in_call : is_among c call ≡ true =
-      ap (λ k. is_among k call) (eqb-true c w.candidate parts.0)
-      ∙ ap (λ q. is_among w.candidate (order_of d orders q)) (eqb-true p w.programme parts.1) ∙ called in
-      let in_numbers : is_among x numbers ≡ true =
-      ap (λ k. is_among k numbers) (sym (their_number ws p x names)) ∙ among-map (number ws) c call in_call in
-      among_filter (names_it ws p) x numbers ∙ and_from (is_among x numbers) (names_it ws p x) in_numbers names) in
+      among_filter (names_it ws p) x numbers
+      ∙ and_from (is_among x numbers) (names_it ws p x) (lister_called p x names) names) in
       rw (once, list, whole) refl
 
   order_at : (p : ℕ) → p < length d.programmes

@@ -7,6 +7,7 @@
 pub mod BelowCount
 pub mod Best
 pub mod Called
+pub mod Calls
 pub mod Existing
 pub mod Filled
 pub mod Held
@@ -28,3 +29,4 @@ pub mod Stable
 pub mod Stamping
 pub mod Telling
 pub mod Tied
+pub mod Walking

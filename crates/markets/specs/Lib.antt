@@ -18,3 +18,4 @@ pub mod Solving
 pub mod Stamps
 pub mod Standing
 pub mod Text
+pub mod Walks

@@ -5,6 +5,7 @@
 //! `let solved = solve(alloc, &market, &mut FirstPicker::new(alloc), &mut steps)?;`
 #![tactic(auto)]
 
+mod calling;
 mod counts;
 mod fault;
 mod filling;

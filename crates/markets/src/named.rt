@@ -1,12 +1,12 @@
 //! The market of a dossier.
-ghost use Rattle.std.specs.Prelude.{◌≡◌, ◌<◌, ◌≤◌, [], length, map, filter, nat_eq, All, IfOk, IsOk, OnOk};
-ghost use Rattle.std.specs.List.{position_or_len, range_with_len};
-ghost use Rattle.std.specs.List.Sorted.{IsStrictlyIncreasing};
+ghost use Rattle.std.specs.Prelude.{◌≡◌, length, map, IfOk};
+ghost use Rattle.std.specs.List.{range_with_len};
+ghost use Rattle.std.specs.List.Sorted.{IsPermutation};
 ghost use Rattle.admit_core.specs.CallOrder.{AreCallOrders};
-ghost use Rattle.admit_core.specs.Lists.{is_among, sorted_by};
-ghost use Rattle.admit_core.specs.Proposals.{order_of};
-ghost use Rattle.markets.specs.Dossiers.{by_preference, called_in, market_candidates, counted, counts, lists_in, market_of, named, own};
+ghost use Rattle.markets.specs.Dossiers.{market_candidates, counted, lists_in, market_of, named};
+ghost use Rattle.markets.specs.Listers.{AreListers};
 
+use crate::calling::{Walk, by_group, group_at};
 use crate::listers::listers_of;
 use crate::market::Market;
 use crate::owned::{counted, lists_of, named};
@@ -23,63 +23,48 @@ pub struct Named {
     pub candidates: Vec<u32>,
 }
 
-/// The number of a candidate of the market; one past the last for one who isn't in it.
-fn number_of(names: &IndexSet<u32, Keyed>, candidate: u32) -> u32
-    requires { length names.now.keys ≤ 16000000 }
-    ensures { result ≡ position_or_len (nat_eq candidate) names.now.keys }
+/// So many empty orders.
+fn empty_orders(alloc: Global, count: u32) -> Result<Vec<Sequence<u32>>, OutOfMemory>
+    ensures { IfOk result (λ v. length v.items ≡ count) }
 {
-    match names.get_index_of(&candidate) {
-        Some(number) => number as u32,
-        None => names.len() as u32,
+    let mut orders = Vec::with_capacity(alloc, count as usize)?;
+    for _order in 0..count {
+        orders.push(Sequence::new(alloc))?;
     }
+    Ok(orders)
 }
 
-/// Whether a number stands in a rising list.
-fn is_in(numbers: &[u32], number: u32) -> bool
-    requires { IsStrictlyIncreasing numbers.now }
-    ensures { result ≡ is_among number numbers.now }
-{
-    numbers.binary_search(&number).is_ok()
-}
-
-/// The call order of a programme.
-fn order_of<'o>(dossier: &Dossier, orders: &'o CallOrders, programme: u32) -> &'o [u32]
-    requires programme { programme < length dossier.now.programmes }
-    requires orders { length orders.now.orders ≡ length dossier.now.groups }
-    ensures { result.now ≡ order_of dossier.now orders.now.orders programme }
-{
-    let group = dossier.programmes.as_slice()[programme as usize].group;
-    orders.orders.as_slice()[group as usize].list.as_slice()
-}
-
-/// A call order by the numbers of its candidates, without those who are not listers. Where there
-/// are no listers, it looks at nobody.
-fn called(
+/// The orders of programmes, in one walk along the call order of each group whose programmes stand
+/// together.
+fn orders_along(
     alloc: Global,
-    order: &[u32],
+    dossier: &Dossier,
+    orders: &CallOrders,
     names: &IndexSet<u32, Keyed>,
-    listers: &[u32],
-) -> Result<Sequence<u32>, OutOfMemory>
-    requires few { length names.now.keys ≤ 16000000 }
-    requires rises { IsStrictlyIncreasing listers.now }
-    ensures called { IfOk result (λ v. v ≡ filter (λ x. is_among x listers.now)
-        (map (λ c. position_or_len (nat_eq c) names.now.keys) order.now)) }
-    ensures always { listers.now ≡ [] → IsOk result }
+    rows: &[Vec<u32>],
+    programmes: &[u32],
+) -> Result<Vec<Sequence<u32>>, OutOfMemory>
+    requires orders { AreCallOrders dossier.now.groups orders.now.orders }
+    requires names { names.now.keys ≡ named (counted dossier.now) }
+    requires rows { AreListers (lists_in (counted dossier.now)) (length dossier.now.programmes)
+        (length (lists_in (counted dossier.now))) rows.now }
+    requires programmes { IsPermutation (range_with_len 0 (length dossier.now.programmes))
+        programmes.now }
+    ensures { IfOk result (λ v. v.items ≡ (market_of dossier.now orders.now.orders).orders) }
 {
-    if listers.is_empty() {
-        return Ok(Sequence::new(alloc));
+    let count = dossier.programmes.len() as u32;
+    let mut walk = Walk::new(alloc, names)?;
+    let mut done = empty_orders(alloc, count)?;
+    for programme in programmes {
+        let place = *programme as usize;
+        let group = group_at(dossier, orders, *programme);
+        walk.enter(alloc, names, orders, group)?;
+        done[place] = walk.called(alloc, rows[place].as_slice())?;
     }
-    let mut numbers = Vec::new(alloc);
-    for candidate in order {
-        let number = number_of(names, *candidate);
-        if is_in(listers, number) {
-            numbers.push(number)?;
-        }
-    }
-    Ok(Sequence::from_vec(numbers))
+    Ok(done)
 }
 
-/// The order of each programme, in one walk along its call order where somebody lists it.
+/// The order of each programme.
 fn orders_in(
     alloc: Global,
     dossier: &Dossier,
@@ -94,14 +79,8 @@ fn orders_in(
 {
     let count = dossier.programmes.len() as u32;
     let rows = listers_of(alloc, lists, count)?;
-    let mut done = Vec::new(alloc);
-    for programme in 0..count {
-        let order = order_of(dossier, orders, programme);
-        let listers = rows[programme as usize].as_slice();
-        let numbers = called(alloc, order, names, listers)?;
-        done.push(numbers)?;
-    }
-    Ok(done)
+    let programmes = by_group(alloc, dossier, count)?;
+    orders_along(alloc, dossier, orders, names, &rows, &programmes)
 }
 
 /// The seats of each programme.

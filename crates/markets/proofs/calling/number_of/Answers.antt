@@ -1,6 +1,6 @@
 use Rattle.std.proofs.Common.{nat_eq, sym, ◌∙◌}
 use Rattle.markets.proofs.Called.{place_of_none}
-use Rattle.markets.proofs.named.number_of.Goals as goal
+use Rattle.markets.proofs.calling.number_of.Goals as goal
 
 pub returns-in-None : goal.returns-in-None
 returns-in-None c = c.len.ensures.len

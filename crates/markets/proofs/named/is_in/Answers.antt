@@ -1,7 +1,0 @@
-use Rattle.std.proofs.Common.{◌∙◌}
-use Rattle.markets.proofs.Called.{found_in}
-use Rattle.markets.proofs.named.is_in.Goals as goal
-
-pub returns : goal.returns
-returns c = c.is_ok.ensures.value
-    ∙ found_in c.args.numbers.now c.args.number c.binary_search.result c.requires c.binary_search.ensures.position
