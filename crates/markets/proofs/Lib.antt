@@ -8,6 +8,7 @@ pub mod BelowCount
 pub mod Best
 pub mod Called
 pub mod Calls
+pub mod Choosing
 pub mod Existing
 pub mod Filled
 pub mod Held

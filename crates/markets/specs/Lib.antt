@@ -1,4 +1,5 @@
 pub mod Bars
+pub mod Choices
 pub mod Dossiers
 pub mod Faults
 pub mod Fillings

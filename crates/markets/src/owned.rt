@@ -3,6 +3,7 @@ ghost use Rattle.std.specs.Prelude.{◌≡◌, ◌<◌, ◌++◌, ◌∷◌, [],
 ghost use Rattle.admit_core.specs.Lists.{sorted_by};
 ghost use Rattle.admit_core.specs.declared.dossier.Wish.{Wish};
 ghost use Rattle.indexmap.specs.IndexSet.{hasher_of};
+ghost use Rattle.markets.specs.Choices.{choice_of, own_choices};
 ghost use Rattle.markets.specs.Dossiers.{by_preference, counts, keyed_by_wishes, named, own};
 
 use admit_core::{OutOfMemory, Sequence, Wish};
@@ -51,56 +52,74 @@ pub fn named(alloc: Global, wishes: &[Wish]) -> Result<IndexSet<u32, Keyed>, Out
     Ok(names)
 }
 
-/// Adds a wish to one of several rows.
-fn add(rows: &mut Vec<Vec<Wish>>, place: usize, wish: Wish) -> Result<(), OutOfMemory>
+/// What a candidate wishes for: a programme, and which of their preferences it is.
+#[derive(Clone, Copy)]
+pub struct Choice {
+    pub preference: u32,
+    pub programme: u32,
+}
+
+/// What a wish is for.
+fn choice_of(wish: Wish) -> Choice
+    ensures { result ≡ choice_of wish }
+{
+    Choice {
+        preference: wish.preference,
+        programme: wish.programme,
+    }
+}
+
+/// Adds a choice to one of several rows.
+fn add(rows: &mut Vec<Vec<Choice>>, place: usize, choice: Choice) -> Result<(), OutOfMemory>
     requires { place < length rows.old.items }
     ensures added { OnOk result (map (λ r. r.items) rows.new.items ≡ slice_set
         (map (λ r. r.items) rows.old.items) place
-        (slice_index_or (map (λ r. r.items) rows.old.items) place [] ++ wish ∷ [])) }
+        (slice_index_or (map (λ r. r.items) rows.old.items) place [] ++ choice ∷ [])) }
     ensures as_many { OnOk result (length rows.new.items ≡ length rows.old.items) }
 {
-    rows[place].push(wish)?;
+    rows[place].push(choice)?;
     Ok(())
 }
 
-/// An empty row for each candidate.
-fn empty_rows(alloc: Global, names: &IndexSet<u32, Keyed>) -> Result<Vec<Vec<Wish>>, OutOfMemory>
-    ensures { IfOk result (λ rows. map (λ r. r.items) rows.items ≡ map (own []) names.now.keys) }
+/// So many empty rows.
+fn empty_rows(alloc: Global, names: &IndexSet<u32, Keyed>) -> Result<Vec<Vec<Choice>>, OutOfMemory>
+    ensures { IfOk result (λ rows. map (λ r. r.items) rows.items ≡ map (own_choices [])
+        names.now.keys) }
 {
-    let mut rows = Vec::new(alloc);
+    let mut rows = Vec::with_capacity(alloc, names.len())?;
     for name in 0..names.len() {
         rows.push(Vec::new(alloc))?;
     }
     Ok(rows)
 }
 
-/// Adds a wish to the row of its candidate.
+/// Adds what a wish is for to the row of its candidate.
 fn lay(
-    rows: &mut Vec<Vec<Wish>>,
+    rows: &mut Vec<Vec<Choice>>,
     names: &IndexSet<u32, Keyed>,
     wish: Wish,
 ) -> Result<(), OutOfMemory>
     requires { length rows.old.items ≡ length names.now.keys }
     ensures laid { (before : List Wish) → map (λ r. r.items) rows.old.items
-        ≡ map (own before) names.now.keys → OnOk result (map (λ r. r.items) rows.new.items
-        ≡ map (own (before ++ wish ∷ [])) names.now.keys) }
+        ≡ map (own_choices before) names.now.keys → OnOk result (map (λ r. r.items) rows.new.items
+        ≡ map (own_choices (before ++ wish ∷ [])) names.now.keys) }
     ensures as_many { OnOk result (length rows.new.items ≡ length rows.old.items) }
 {
     let _ = names.len();
     if let Some(place) = names.get_index_of(&wish.candidate) {
-        add(rows, place, wish)?;
+        add(rows, place, choice_of(wish))?;
         return Ok(());
     }
     Ok(())
 }
 
-/// The wishes of each candidate.
+/// What the wishes of each candidate are for.
 fn rows_of(
     alloc: Global,
     wishes: &[Wish],
     names: &IndexSet<u32, Keyed>,
-) -> Result<Vec<Vec<Wish>>, OutOfMemory>
-    ensures { IfOk result (λ rows. map (λ r. r.items) rows.items ≡ map (own wishes.now)
+) -> Result<Vec<Vec<Choice>>, OutOfMemory>
+    ensures { IfOk result (λ rows. map (λ r. r.items) rows.items ≡ map (own_choices wishes.now)
         names.now.keys) }
 {
     let mut rows = empty_rows(alloc, names)?;
@@ -110,31 +129,36 @@ fn rows_of(
     Ok(rows)
 }
 
-/// Puts wishes in order by preference.
-fn sort_by_preference(wishes: &mut Vec<Wish>) -> Result<(), OutOfMemory>
-    ensures { OnOk result (wishes.new.items ≡ sorted_by (λ w. w.preference) wishes.old.items) }
+/// Puts choices in order by preference.
+fn sort_by_preference(choices: &mut Vec<Choice>) -> Result<(), OutOfMemory>
+    ensures { OnOk result (choices.new.items ≡ sorted_by (λ x. x.preference) choices.old.items) }
 {
-    wishes.sort_by_key(|w| w.preference)?;
+    choices.sort_by_key(|choice| choice.preference)?;
     Ok(())
 }
 
-/// The programmes of a candidate's wishes, by preference.
-fn by_preference(alloc: Global, own: &[Wish]) -> Result<Sequence<u32>, OutOfMemory>
-    ensures { IfOk result (λ list. list ≡ by_preference own.now) }
+/// The programmes of choices, by preference. The choices are put in this order.
+fn by_preference(alloc: Global, own: &mut Vec<Choice>) -> Result<Sequence<u32>, OutOfMemory>
+    ensures { IfOk result (λ list. list ≡
+        map (λ x. x.programme) (sorted_by (λ x. x.preference) own.old.items)) }
 {
-    let mut sorted = own.to_vec(alloc)?;
-    sort_by_preference(&mut sorted)?;
-    let list = sorted.iter().map(|wish| wish.programme).collect(alloc)?;
+    sort_by_preference(own)?;
+    let list = own.iter().map(|choice| choice.programme).collect(alloc)?;
     Ok(Sequence::from_vec(list))
 }
 
-/// The lists of candidates with these wishes.
-fn lists_from(alloc: Global, rows: &[Vec<Wish>]) -> Result<Vec<Sequence<u32>>, OutOfMemory>
-    ensures { IfOk result (λ lists. lists.items ≡ map (λ row. by_preference row.items) rows.now) }
+/// The lists of candidates with these choices.
+fn lists_from(
+    alloc: Global,
+    rows: Vec<Vec<Choice>>,
+) -> Result<Vec<Sequence<u32>>, OutOfMemory>
+    ensures { IfOk result (λ lists. lists.items ≡ map (λ row.
+        map (λ x. x.programme) (sorted_by (λ x. x.preference) row.items)) rows.items) }
 {
-    let mut lists = Vec::new(alloc);
+    let mut lists = Vec::with_capacity(alloc, rows.len())?;
     for row in rows {
-        lists.push(by_preference(alloc, row.as_slice())?)?;
+        let mut row = row;
+        lists.push(by_preference(alloc, &mut row)?)?;
     }
     Ok(lists)
 }
@@ -149,5 +173,5 @@ pub fn lists_of(
         names.now.keys) }
 {
     let rows = rows_of(alloc, wishes, names)?;
-    lists_from(alloc, rows.as_slice())
+    lists_from(alloc, rows)
 }

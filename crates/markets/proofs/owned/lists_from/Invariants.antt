@@ -1,6 +1,7 @@
-use Rattle.std.proofs.Common.{◌≡◌, map, take}
-use Rattle.markets.specs.Dossiers.{by_preference}
+use Rattle.std.proofs.Common.{◌≡◌, map}
+use Rattle.admit_core.specs.Lists.{sorted_by}
 use Rattle.markets.proofs.owned.lists_from.Given as goal
 
 abbrev pub invariant-loop-row : goal.invariant-loop-row
-invariant-loop-row l = l.lists.items ≡ map (λ r. by_preference r.items) (take l.row-index l.rows)
+invariant-loop-row l =
+    l.lists.items ≡ map (λ row. map (λ x. x.programme) (sorted_by (λ x. x.preference) row.items)) l.yielded

@@ -1,7 +1,7 @@
 use Rattle.std.proofs.Common.{◌∙◌, List, [], map, length, take, sym, ap}
 use Rattle.std.proofs.lemmas.List.{length-map, take_all, take_more}
 use Rattle.admit_core.specs.declared.dossier.Wish.{Wish}
-use Rattle.markets.specs.Dossiers.{own}
+use Rattle.markets.specs.Choices.{own_choices}
 use Rattle.markets.proofs.owned.rows_of.Goals as goal
 
 pub loop-wish-init : goal.loop-wish-init
@@ -10,7 +10,7 @@ loop-wish-init c =
     let names = c.args.names.now.keys in
     record {
       laid = c.in_ok-rows.ensures;
-      as_many = sym (length-map rows (λ r. r.items)) ∙ ap length c.in_ok-rows.ensures ∙ length-map names (own []);
+      as_many = sym (length-map rows (λ r. r.items)) ∙ ap length c.in_ok-rows.ensures ∙ length-map names (own_choices []);
     }
 
 pub lay-requires : goal.lay-requires
@@ -24,11 +24,11 @@ loop-wish-preserved c =
     record {
       laid =
           c.in_ok-lay.ensures.laid (take i wishes) c.loop-wish.invariant.laid
-          ∙ ap (λ (ws : List Wish). map (own ws) names) (sym (take_more wishes i _ c.loop-wish-test.true));
+          ∙ ap (λ (ws : List Wish). map (own_choices ws) names) (sym (take_more wishes i _ c.loop-wish-test.true));
       as_many = c.in_ok-lay.ensures.as_many ∙ c.loop-wish.invariant.as_many;
     }
 
 pub returns : goal.returns
 returns c =
     let all = take_all c.loop-wish.wish-index c.args.wishes.now c.loop-wish-test.false in
-    c.loop-wish.invariant.laid ∙ ap (λ (ws : List Wish). map (own ws) c.args.names.now.keys) all
+    c.loop-wish.invariant.laid ∙ ap (λ (ws : List Wish). map (own_choices ws) c.args.names.now.keys) all
