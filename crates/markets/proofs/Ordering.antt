@@ -24,6 +24,7 @@ use Rattle.markets.specs.Stamps.{AreUpTo, BearStamp}
 use Rattle.markets.specs.Firsts.{among_filter, among_range, range_has, one_of_all, any_of}
 use Rattle.markets.specs.Positions.{distinct_from}
 use Rattle.markets.specs.Lawful.{range_rises}
+use Rattle.markets.proofs.Reading.{list_read}
 use Rattle.markets.proofs.Listing.{row_is}
 use Rattle.markets.proofs.Stamping.{none_newer}
 use Rattle.std.specs.declared.alloc.Global.{Global}
@@ -226,12 +227,19 @@ row_read m k stamp rows row slice same lt are read is =
     is ∙ row_is m.lists (length m.orders) (length m.lists) stamp rows row are (omega (arith, same, lt)) read
     ∙ ap (listers m) same
 
-pub told_now : (m : MarketRows) (n k : ℕ) (row order : List ℕ) (result : Bool) → row ≡ listers m k
-    → order ≡ market_order m k
-    → result ≡ has_all_of n row order
-    → result ≡ has_all_of n (listers m k) (market_order m k)
-told_now m n k row order result row_is order_is told = told ∙ ap (λ xs. has_all_of n xs order) row_is
-    ∙ ap (λ xs. has_all_of n (listers m k) xs) order_is
+-- what is told of an order, by its row and its listers as they are read
+pub told_at : (m : MarketRows) (k stamp : ℕ) (rows : List (Vec ℕ Global)) (row : Vec ℕ Global)
+    (item listed order stamps : List ℕ)
+    (result : Bool) → k < length m.orders
+    → OrdersStood m k stamp stamps
+    → AreListers m.lists (length m.orders) (length m.lists) rows → row ≡ get_or rows stamp row → listed ≡ row.items
+    → item ≡ get_or m.orders k item → order ≡ item
+    → result ≡ has_all_of (length stamps) listed order
+    → result ≡ has_all_of (length stamps) (listers m k) (market_order m k)
+told_at m k stamp rows row item listed order stamps result lt so are read listed_is item_is order_is told =
+    told
+    ∙ ap (λ xs. has_all_of (length stamps) xs order) (row_read m k stamp rows row listed so.stamp_is lt are read listed_is)
+    ∙ ap (λ xs. has_all_of (length stamps) (listers m k) xs) (list_read m.orders k item order lt item_is order_is)
 
 pub row_within : (m : MarketRows) (n k : ℕ) (row : List ℕ) → row ≡ listers m k → n ≡ length m.lists
     → All (λ x. x < n) row

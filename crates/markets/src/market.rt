@@ -1,5 +1,5 @@
 //! A market, and why rows are none.
-ghost use Rattle.std.specs.Prelude.{◌≡◌, ◌≤◌, ◌<◌, length, map, slice_index, All, IfOk, IfErr};
+ghost use Rattle.std.specs.Prelude.{◌≡◌, ◌≤◌, ◌<◌, [], length, map, slice_index, All, IfOk, IfErr, IsOk};
 ghost use Rattle.markets.specs.Markets.{IsMarket, IsSmall, list_of, market_order};
 ghost use Rattle.markets.specs.Faults.{IsFaultOf};
 ghost use Rattle.markets.specs.Rows.{rows_of};
@@ -37,7 +37,8 @@ impl Model for Market {
 
 impl Market {
     /// A market of the candidates' lists and the programmes' orders and seats. On a refusal they
-    /// are dropped. It costs their length.
+    /// are dropped. It costs their length. The counts are compared before memory is taken, and the
+    /// tests of a list or an order take none: it is taken for all lists, and then for all orders.
     pub fn new(
         alloc: Global,
         lists: Vec<Vec<u32>>,
@@ -130,8 +131,12 @@ impl Market {
 
 /// The lists as sequences, which keep no room.
 fn sequences(alloc: Global, lists: Vec<Vec<u32>>) -> Result<Vec<Sequence<u32>>, OutOfMemory>
-    ensures { IfOk result (λ v. v.items ≡ map (λ list. list.items) lists.items) }
+    ensures same { IfOk result (λ v. v.items ≡ map (λ list. list.items) lists.items) }
+    ensures always { lists.items ≡ [] → IsOk result }
 {
+    if lists.is_empty() {
+        return Ok(Vec::new(alloc));
+    }
     let sequences = lists
         .into_iter()
         .map(|list| Sequence::from_vec(list))

@@ -1,8 +1,7 @@
 use Rattle.std.proofs.Common.{ℕ, [], sym, length, arith}
 use Rattle.markets.specs.Markets.{MarketRows}
-use Rattle.markets.proofs.Ordering.{orders_start, orders_more, orders_found, orders_none, row_read, told_now}
+use Rattle.markets.proofs.Ordering.{orders_start, orders_more, orders_found, orders_none, row_read, told_at}
 use Rattle.markets.proofs.Ordering.{row_within}
-use Rattle.markets.proofs.Reading.{list_read}
 use Rattle.markets.proofs.orders.bad_among.Goals as goal
 
 pub has_all_of-requires-clause-within : goal.has_all_of-requires-clause-within
@@ -19,34 +18,24 @@ pub returns-then-not-has_all_of : goal.returns-then-not-has_all_of
 returns-then-not-has_all_of c =
     let m : MarketRows = record { lists = c.args.lists.now; orders = c.args.orders.now; seats = [] } in
     let k : ℕ = c.loop-order.order-index in
-    let row = row_read m k c.loop-order.stamp c.args.rows.now c.index-rows-stamp.result c.as_slice-listers.result.now
-    c.loop-order.invariant.stamp_is c.loop-order-test.true c.requires.listers c.index-rows-stamp.is
-    c.as_slice-listers.ensures.value in
-    let order = list_read m.orders k c.order-item.result c.as_slice.result.now c.loop-order-test.true c.order-item.is
-    c.as_slice.ensures in
-    let told = told_now m (length c.loop-order.stamps) k c.as_slice-listers.result.now c.as_slice.result.now
-    c.has_all_of.result row order
-    c.has_all_of.ensures.all in
+    let told = told_at m k c.loop-order.stamp c.args.rows.now c.index-rows-stamp.result c.order-item.result
+    c.as_slice-listers.result.now c.as_slice.result.now c.loop-order.stamps c.has_all_of.result c.loop-order-test.true
+    c.loop-order.invariant c.requires.listers c.index-rows-stamp.is c.as_slice-listers.ensures.value c.order-item.is
+    c.as_slice.ensures c.has_all_of.ensures.all in
     sym (orders_found m k c.loop-order.stamp c.loop-order.stamps c.has_all_of.result c.loop-order-test.true
-    c.loop-order.invariant told
-    c.if-not-has_all_of.true)
+    c.loop-order.invariant told c.if-not-has_all_of.true)
 
 pub loop-order-preserved : goal.loop-order-preserved
 loop-order-preserved c =
     let m : MarketRows = record { lists = c.args.lists.now; orders = c.args.orders.now; seats = [] } in
     let k : ℕ = c.loop-order.order-index in
-    let row = row_read m k c.loop-order.stamp c.args.rows.now c.index-rows-stamp.result c.as_slice-listers.result.now
-    c.loop-order.invariant.stamp_is c.loop-order-test.true c.requires.listers c.index-rows-stamp.is
-    c.as_slice-listers.ensures.value in
-    let order = list_read m.orders k c.order-item.result c.as_slice.result.now c.loop-order-test.true c.order-item.is
-    c.as_slice.ensures in
-    let told = told_now m (length c.loop-order.stamps) k c.as_slice-listers.result.now c.as_slice.result.now
-    c.has_all_of.result row order
-    c.has_all_of.ensures.all in
+    let told = told_at m k c.loop-order.stamp c.args.rows.now c.index-rows-stamp.result c.order-item.result
+    c.as_slice-listers.result.now c.as_slice.result.now c.loop-order.stamps c.has_all_of.result c.loop-order-test.true
+    c.loop-order.invariant c.requires.listers c.index-rows-stamp.is c.as_slice-listers.ensures.value c.order-item.is
+    c.as_slice.ensures c.has_all_of.ensures.all in
     orders_more m k c.loop-order.stamp c.loop-order.stamps c.has_all_of.new.stamps c.has_all_of.result
-    c.loop-order-test.true
-    c.loop-order.invariant
-    c.has_all_of.ensures.as_many c.has_all_of.ensures.up_to told c.if-not-has_all_of.false
+    c.loop-order-test.true c.loop-order.invariant c.has_all_of.ensures.as_many c.has_all_of.ensures.up_to told
+    c.if-not-has_all_of.false
 
 pub returns : goal.returns
 returns c =

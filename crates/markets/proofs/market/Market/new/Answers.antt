@@ -19,19 +19,19 @@ returns-in-Some-2-clause-fault c =
       omega (arith, long, c.if-len.false, c.len.ensures, c.len-2.ensures),
       bad_list_is None c.len-programmes.result lists c.deref.result.now orders c.args.seats.items
           (c.len-programmes.ensures ∙ sym c.deref-3.ensures.len
-          ∙ ap length (c.deref-3.ensures.value ∙ c.in_ok-orders.ensures))
-          (c.deref.ensures.value ∙ c.in_ok-lists.ensures) (sym c.in_ok-candidate.ensures.bad ∙ c.in_default.is),
+          ∙ ap length (c.deref-3.ensures.value ∙ c.in_ok-orders.ensures.same))
+          (c.deref.ensures.value ∙ c.in_ok-lists.ensures.same) (sym c.in_ok-candidate.ensures.bad ∙ c.in_default.is),
       bad_order_is (Some c.in-Some-2.programme) lists c.deref-2.result.now orders c.deref-3.result.now
           c.args.seats.items
-          (c.deref-2.ensures.value ∙ c.in_ok-lists.ensures)
-          (c.deref-3.ensures.value ∙ c.in_ok-orders.ensures) (sym c.in_ok-programme.ensures.bad ∙ c.in-Some-2.is),
+          (c.deref-2.ensures.value ∙ c.in_ok-lists.ensures.same)
+          (c.deref-3.ensures.value ∙ c.in_ok-orders.ensures.same) (sym c.in_ok-programme.ensures.bad ∙ c.in-Some-2.is),
     )
 
 pub returns-clause-stands : goal.returns-clause-stands
 returns-clause-stands c =
     let lists : List (List ℕ) = c.in_ok-lists.lists.items in
     let orders : List (List ℕ) = c.in_ok-orders.orders.items in
-    let long : length orders ≡ length c.args.orders.items = ap length c.in_ok-orders.ensures
+    let long : length orders ≡ length c.args.orders.items = ap length c.in_ok-orders.ensures.same
     ∙ length-map c.args.orders.items (λ v. v.items) in
     market_stands (record { lists = lists; orders = orders; seats = c.args.seats.items })
     (omega (arith, long, c.if-len.false, c.len.ensures, c.len-2.ensures))
@@ -46,9 +46,9 @@ pub invariant_of-result : goal.invariant_of-result
 invariant_of-result c =
     let lists : List (List ℕ) = c.in_ok-lists.lists.items in
     let orders : List (List ℕ) = c.in_ok-orders.orders.items in
-    let lists_long : length lists ≡ length c.args.lists.items = ap length c.in_ok-lists.ensures
+    let lists_long : length lists ≡ length c.args.lists.items = ap length c.in_ok-lists.ensures.same
     ∙ length-map c.args.lists.items (λ v. v.items) in
-    let long : length orders ≡ length c.args.orders.items = ap length c.in_ok-orders.ensures
+    let long : length orders ≡ length c.args.orders.items = ap length c.in_ok-orders.ensures.same
     ∙ length-map c.args.orders.items (λ v. v.items) in
     record {
       valid =
@@ -71,24 +71,24 @@ invariant_of-result c =
 
 pub overflow_cast-programmes : goal.overflow_cast-programmes
 overflow_cast-programmes c =
-    let long = ap length c.in_ok-orders.ensures ∙ length-map c.args.orders.items (λ v. v.items) in
+    let long = ap length c.in_ok-orders.ensures.same ∙ length-map c.args.orders.items (λ v. v.items) in
     omega (arith, c.len-programmes.ensures, long, c.requires.programmes)
 
 pub first_bad_list-requires : goal.first_bad_list-requires
 first_bad_list-requires c =
-    let long = ap length (c.deref.ensures.value ∙ c.in_ok-lists.ensures)
+    let long = ap length (c.deref.ensures.value ∙ c.in_ok-lists.ensures.same)
     ∙ length-map c.args.lists.items (λ v. v.items) in
     omega (arith, long, c.requires.candidates)
 
 pub first_bad_order-requires-clause-candidates : goal.first_bad_order-requires-clause-candidates
 first_bad_order-requires-clause-candidates c =
-    let long = ap length (c.deref-2.ensures.value ∙ c.in_ok-lists.ensures)
+    let long = ap length (c.deref-2.ensures.value ∙ c.in_ok-lists.ensures.same)
     ∙ length-map c.args.lists.items (λ v. v.items) in
     omega (arith, long, c.requires.candidates)
 
 pub first_bad_order-requires-clause-programmes : goal.first_bad_order-requires-clause-programmes
 first_bad_order-requires-clause-programmes c =
-    let long = ap length (c.deref-3.ensures.value ∙ c.in_ok-orders.ensures)
+    let long = ap length (c.deref-3.ensures.value ∙ c.in_ok-orders.ensures.same)
     ∙ length-map c.args.orders.items (λ v. v.items) in
     omega (arith, long, c.requires.programmes)
 
@@ -97,11 +97,11 @@ returns-in-Some-clause-fault c =
     let rows : MarketRows = rows_of c.args.lists.items c.args.orders.items c.args.seats.items in
     let long : length rows.orders ≡ length c.args.orders.items = length-map c.args.orders.items (λ v. v.items) in
     let count : c.len-programmes.result ≡ length rows.orders =
-    omega (arith, c.len-programmes.ensures, ap length c.in_ok-orders.ensures) in (
+    omega (arith, c.len-programmes.ensures, ap length c.in_ok-orders.ensures.same) in (
       omega (arith, long, c.if-len.false, c.len.ensures, c.len-2.ensures),
       bad_list_is (Some c.in-Some.candidate) c.len-programmes.result rows.lists c.deref.result.now rows.orders
           rows.seats count
-          (c.deref.ensures.value ∙ c.in_ok-lists.ensures) (sym c.in_ok-candidate.ensures.bad ∙ c.in-Some.is),
+          (c.deref.ensures.value ∙ c.in_ok-lists.ensures.same) (sym c.in_ok-candidate.ensures.bad ∙ c.in-Some.is),
     )
 
 pub returns-then-len-clause-fault : goal.returns-then-len-clause-fault
@@ -112,10 +112,10 @@ returns-then-len-clause-fault c =
 pub returns-clause-rows : goal.returns-clause-rows
 returns-clause-rows c =
     ap (λ (ls : List (List ℕ)). record { lists = ls; orders = c.in_ok-orders.orders.items; seats = c.args.seats.items })
-    c.in_ok-lists.ensures
+    c.in_ok-lists.ensures.same
     ∙ ap (λ (os : List (List ℕ)). record {
       lists = map (λ v. v.items) c.args.lists.items;
       orders = os;
       seats = c.args.seats.items;
     })
-    c.in_ok-orders.ensures
+    c.in_ok-orders.ensures.same
