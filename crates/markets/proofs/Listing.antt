@@ -12,7 +12,7 @@ use Rattle.std.proofs.lemmas.List.FromFn.{filter_of_map_range_with_len_more}
 use Rattle.std.proofs.lemmas.Option.{slice_get_within, slice_get_read}
 use Rattle.admit_core.specs.Lists.{is_among}
 use Rattle.markets.specs.Markets.{is_list_below}
-use Rattle.markets.specs.Listers.{AreListers, ArePutIn, naming}
+use Rattle.markets.specs.Listers.{AreEmpty, AreListers, ArePutIn, naming}
 use Rattle.markets.specs.Positions.{among_at}
 use Rattle.markets.proofs.BelowCount.{list_distinct, list_below, earlier, last_differs}
 use Rattle.std.proofs.lemmas.Map.Keys.{apart_from_distinct}
@@ -36,21 +36,40 @@ empty_more n rows row are none =
       ];
     }
 
+-- rows of any items that are empty, and one more
+pub none_empty : {A : Type 0} → AreEmpty {A = A} 0 []
+none_empty {A} = record {
+  one_each = refl;
+  each = λ p row at. absurd (omega (arith, slice_get_within {A = Vec A Global} [] p row at));
+}
+
+pub one_more_empty : {A : Type 0} (n : ℕ) (rows : List (Vec A Global)) (row : Vec A Global) → AreEmpty n rows
+    → row.items ≡ []
+    → AreEmpty (n + 1) (rows ++ row ∷ [])
+one_more_empty {A} n rows row are none =
+    record {
+      one_each = omega (arith, length-append rows (row ∷ []), are.one_each);
+      each = λ p other at. elim (get_push rows row other p at) [
+        | inl before ↦ are.each p other before
+        | inr last ↦ ap (λ (v : Vec A Global). v.items) (sym last) ∙ none
+      ];
+    }
+
 -- empty rows are those of no list, whichever they are
 pub listers_start : (lists : List (List ℕ)) (n : ℕ) (rows : List (Vec ℕ Global)) → AreListers [] n 0 rows
     → AreListers lists n 0 rows
 listers_start lists n rows are = record { one_each = are.one_each; each = are.each }
 
 -- nothing is put in, and one more number of the list
-pub put_none : (item : ℕ → ℕ) (rows : List (Vec ℕ Global)) → ArePutIn (λ p. is_among p []) item rows rows
-put_none item rows = record { as_many = refl; each = λ p row at. (row, at, sym (append-nil row.items)) }
+pub put_none : {A : Type 0} (item : ℕ → A) (rows : List (Vec A Global)) → ArePutIn (λ p. is_among p []) item rows rows
+put_none {A} item rows = record { as_many = refl; each = λ p row at. (row, at, sym (append-nil row.items)) }
 
-pub put_more : (item : ℕ → ℕ) (xs : List ℕ) (k : ℕ) (old rows : List (Vec ℕ Global)) (before after : Vec ℕ Global)
+pub put_more : {A : Type 0} (item : ℕ → A) (xs : List ℕ) (k : ℕ) (old rows : List (Vec A Global)) (before after : Vec A Global)
     → is_list_below (length old) xs ≡ true → k < length xs
     → before ≡ get_or rows (get_or xs k 0) before → after.items ≡ before.items ++ item (get_or xs k 0) ∷ []
     → ArePutIn (λ p. is_among p (take k xs)) item old rows
     → ArePutIn (λ p. is_among p (take (k + 1) xs)) item old (set rows (get_or xs k 0) after)
-put_more item xs k old rows before after is_list lt read pushed are =
+put_more {A} item xs k old rows before after is_list lt read pushed are =
     let g : ℕ = get_or xs k 0 in
     let g_lt : g < length rows = omega (arith, list_below (length old) xs g is_list (among_at xs k lt), are.as_many) in
     let front : List ℕ = take k xs in
@@ -76,7 +95,7 @@ put_more item xs k old rows before after is_list lt read pushed are =
             ∙ or_right (is_among p front) (nat_eq p g || false) (or_left (nat_eq p g) false (eq-eqb p g here)) in
             let there : slice_get old p ≡ Some first = ap (slice_get old) here ∙ first_at in
             let are_items : row.items ≡ first.items ++ (if is_among p (take (k + 1) xs) then item p ∷ [] else []) =
-            ap (λ (v : Vec ℕ Global). v.items) (sym is) ∙ pushed ∙ ap (λ (ys : List ℕ). ys ++ item g ∷ []) none
+            ap (λ (v : Vec A Global). v.items) (sym is) ∙ pushed ∙ ap (λ (ys : List A). ys ++ item g ∷ []) none
             ∙ ap (λ q. first.items ++ item q ∷ []) (sym here)
             ∙ ap (λ b. first.items ++ (if b then item p ∷ [] else [])) (sym among) in
             (first, there, are_items)
@@ -91,9 +110,9 @@ put_more item xs k old rows before after is_list lt read pushed are =
     }
 
 -- the whole list
-pub put_whole : (item : ℕ → ℕ) (xs : List ℕ) (k : ℕ) (old rows : List (Vec ℕ Global)) → length xs ≤ k
+pub put_whole : {A : Type 0} (item : ℕ → A) (xs : List ℕ) (k : ℕ) (old rows : List (Vec A Global)) → length xs ≤ k
     → ArePutIn (λ p. is_among p (take k xs)) item old rows → ArePutIn (λ p. is_among p xs) item old rows
-put_whole item xs k old rows past are =
+put_whole {A} item xs k old rows past are =
     let P : List ℕ → Type 0 = λ ys. ArePutIn (λ p. is_among p ys) item old rows in
     subst P (take_all k xs past) are
 

@@ -1,25 +1,26 @@
--- The positions of candidates, noted order by order, and how one is found.
-use Rattle.std.proofs.Common.{ℕ, ◌+◌, ◌≤◌, ◌<◌, ◌≡◌, Bool, true, false, cond, ◌&&◌, List, [], ◌∷◌, ◌++◌, map, length}
-use Rattle.std.proofs.Common.{get_or, inl, inr, refl, sym, ◌∙◌, ap, subst, arith, nat_eq, nat_lt, nat_cmp, Vec}
-use Rattle.std.specs.Prelude.{if◌then◌else◌, Result, Ok, Err}
-use Rattle.std.specs.List.{list_all, before_first, range_with_len, IsDistinct}
-use Rattle.std.specs.List.Sorted.{IsStrictlyIncreasing, IsBinarySearchResult}
-use Rattle.std.specs.Result.{MatchResult, is_ok}
+-- The ranks of candidates, noted order by order, and how one is found.
+use Rattle.std.proofs.Common.{ℕ, zero, suc, ◌+◌, ◌≤◌, ◌<◌, ◌≡◌, Bool, true, false, cond, ◌&&◌, List, [], ◌∷◌, ◌++◌, map}
+use Rattle.std.proofs.Common.{length, get_or, inl, inr, refl, sym, ◌∙◌, ap, subst, arith, nat_eq, nat_lt, Vec, Some, None}
+use Rattle.std.proofs.Common.{option_map}
+use Rattle.std.specs.Prelude.{if◌then◌else◌, is_some}
+use Rattle.std.specs.List.{list_all, before_first, find, range_with_len, IsDistinct}
+use Rattle.std.specs.List.Sorted.{IsNonDecreasingBy}
 use Rattle.std.specs.declared.alloc.Global.{Global}
-use Rattle.std.proofs.Math.ListN.{get_or-map}
-use Rattle.std.proofs.lemmas.Bool.{cases_lt, and_from, lt-ltb, false≢true, false_from_ne_true}
-use Rattle.std.proofs.lemmas.List.{map-append, length-map, get_or_default}
+use Rattle.std.proofs.lemmas.Bool.{cases_Bool, cases_lt, and_from, eqb-true, lt-ltb, ltb-true, ne_eqb, false≢true, false_from_ne_true}
+use Rattle.std.proofs.lemmas.Option.{slice_get_read}
+use Rattle.std.proofs.lemmas.List.{map-append, length-map}
+use Rattle.std.proofs.lemmas.List.{get_or-map as get_or_map}
 use Rattle.std.proofs.lemmas.List.Folds.{list_any_at}
 use Rattle.std.proofs.lemmas.List.Kept.{AllPairs-from_increasing}
-use Rattle.std.proofs.lemmas.List.Sorted.{searched}
 use Rattle.std.proofs.lemmas.List.Sums.{position_or_len_is}
 use Rattle.admit_core.specs.Lists.{is_among}
 use Rattle.markets.specs.Markets.{MarketRows, IsMarket, market_order, is_distinct, market_position}
-use Rattle.markets.specs.Listers.{AreLists, AreListers, ArePutIn, naming}
-use Rattle.markets.specs.Ranked.{ArePositions}
+use Rattle.markets.specs.Listers.{AreEmpty, AreLists, ArePutIn, naming}
+use Rattle.markets.specs.Ranked.{AreRanked, position_in, rank_at, rank_in}
+use Rattle.markets.specs.declared.ranked.Rank.{Rank}
 use Rattle.markets.specs.Firsts.{all_of, among_filter, range_has}
 use Rattle.markets.specs.Positions.{length_before, only_place, order_distinct, order_lists, is_candidate, position_is}
-use Rattle.markets.proofs.Called.{found_in, listers_rise}
+use Rattle.markets.proofs.Called.{listers_rise}
 use Rattle.markets.proofs.Listing.{naming_more}
 use Rattle.markets.proofs.BelowCount.{is_distinct_from}
 
@@ -28,33 +29,32 @@ pub own_position : (xs : List ℕ) (k : ℕ) → IsDistinct nat_eq xs → k < le
     → k + 1 ≡ length (before_first (nat_eq (get_or xs k 0)) xs) + 1
 own_position xs k apart lt = omega (arith, length_before (nat_eq (get_or xs k 0)) xs, only_place xs k apart lt)
 
--- no positions yet
-pub no_positions : (m : MarketRows) (n : ℕ) (rows : List (Vec ℕ Global)) → n ≡ length m.lists → AreListers [] n 0 rows
-    → ArePositions m 0 rows
-no_positions m n rows n_is are = record { one_each = are.one_each ∙ n_is; each = λ x row at. are.each x row at }
+-- no ranks yet
+pub ranks_none : (m : MarketRows) (n : ℕ) (rows : List (Vec Rank Global)) → n ≡ length m.lists → AreEmpty n rows
+    → AreRanked m 0 rows
+ranks_none m n rows n_is are = record { one_each = are.one_each ∙ n_is; each = λ x row at. are.each x row at }
 
-one_more : (f : ℕ → ℕ) (b : Bool) (k : ℕ) → map f (cond b (k ∷ []) []) ≡ (if b then f k ∷ [] else [])
+one_more : (f : ℕ → Rank) (b : Bool) (k : ℕ) → map f (cond b (k ∷ []) []) ≡ (if b then f k ∷ [] else [])
 one_more f true k = refl
 one_more f false k = refl
 
 -- those in one more order
-pub positions_more : (m : MarketRows) (k : ℕ) (order : List ℕ) (rows new : List (Vec ℕ Global))
+pub ranks_more : (m : MarketRows) (k : ℕ) (order : List ℕ) (rows new : List (Vec Rank Global))
     → order ≡ market_order m k
-    → ArePositions m k rows
-    → ArePutIn (λ x. is_among x order) (λ x. length (before_first (nat_eq x) order) + 1) rows new
-    → ArePositions m (k + 1) new
-positions_more m k order rows new order_is are put =
-    let P : List ℕ → Type 0 = λ xs. ArePutIn (λ x. is_among x xs) (λ x. length (before_first (nat_eq x) xs) + 1) rows
-    new in
+    → AreRanked m k rows
+    → ArePutIn (λ x. is_among x order) (λ x. rank_in order k x) rows new
+    → AreRanked m (k + 1) new
+ranks_more m k order rows new order_is are put =
+    let P : List ℕ → Type 0 = λ xs. ArePutIn (λ x. is_among x xs) (λ x. rank_in xs k x) rows new in
     let put_here : P (market_order m k) = subst P order_is put in
     record {
       one_each = put_here.as_many ∙ are.one_each;
       each = λ x row at.
           let (before, found, items) = put_here.each x row at in
-          let f : ℕ → ℕ = λ p. market_position m p x in
+          let f : ℕ → Rank = rank_at m x in
           let b : Bool = is_among x (market_order m k) in
-          items ∙ ap (λ (ys : List ℕ). ys ++ (if b then f k ∷ [] else [])) (are.each x before found)
-          ∙ ap (λ (ys : List ℕ). map f (naming m.orders x k) ++ ys) (sym (one_more f b k))
+          items ∙ ap (λ (ys : List Rank). ys ++ (if b then f k ∷ [] else [])) (are.each x before found)
+          ∙ ap (λ (ys : List Rank). map f (naming m.orders x k) ++ ys) (sym (one_more f b k))
           ∙ sym (map-append f (naming m.orders x k) (cond b (k ∷ []) []))
           ∙ ap (map f) (sym (naming_more m.orders x k));
     }
@@ -83,49 +83,101 @@ past_end m p x absent =
           (λ h. absurd (omega (arith, h))),
     )
 
--- what a search in the programmes of a candidate finds
-pub looked_up : (m : MarketRows) (p x : ℕ) (programmes positions : List ℕ) (r : Result ℕ ℕ) → p < length m.orders
-    → programmes ≡ naming m.orders x (length m.orders)
-    → positions ≡ map (λ q. market_position m q x) (naming m.orders x (length m.orders))
-    → IsBinarySearchResult (λ y. nat_cmp y p) programmes r
-    → MatchResult r (λ i. (i < length positions) × ((d : ℕ) → get_or positions i d ≡ market_position m p x))
-    (λ i. market_position m p x ≡ length (market_order m p) + 1)
-looked_up m p x programmes positions r p_lt are at is =
-    by r (searched programmes p r is up) (found_in programmes p r rises is)
-  where
-    rises : IsStrictlyIncreasing programmes
-    rises = let P : List ℕ → Type 0 = λ xs. IsStrictlyIncreasing xs in
-        subst P (sym are) (listers_rise m.orders x (length m.orders))
+-- the rank that is found
+find_rank : (m : MarketRows) (x p : ℕ) (ps : List ℕ)
+    → find (λ r. nat_eq p r.programme) (map (rank_at m x) ps)
+    ≡ (if is_among p ps then Some (rank_at m x p) else None)
+find_rank m x p [] = refl
+find_rank m x p (q ∷ qs) =
+    elim (cases_Bool (nat_eq p q)) [
+      | inl here ↦ rw here (ap (λ k. Some (rank_at m x k)) (sym (eqb-true p q here)))
+      | inr other ↦ rw other (find_rank m x p qs)
+    ]
 
-    up : (i j : ℕ) → i ≤ j → j < length programmes → get_or programmes i 0 ≤ get_or programmes j 0
-    up i j le lt =
-        elim (cases_lt i j) [
-          | inl below ↦ omega (arith, AllPairs-from_increasing programmes rises i j 0 below lt)
-          | inr past ↦ let same : i ≡ j = omega (arith, le, past) in omega (arith, ap (λ k. get_or programmes k 0) same)
-        ]
+pub ranked_some : (m : MarketRows) (x p v : ℕ) (own : List Rank)
+    → own ≡ map (rank_at m x) (naming m.orders x (length m.orders))
+    → position_in own p ≡ Some v
+    → v ≡ market_position m p x
+ranked_some m x p v own are is =
+    let ps : List ℕ = naming m.orders x (length m.orders) in
+    let t : Rank → Bool = λ r. nat_eq p r.programme in
+    let found : option_map (λ r. r.position) (if is_among p ps then Some (rank_at m x p) else None) ≡ Some v =
+    ap (option_map (λ r. r.position)) (sym (ap (find t) are ∙ find_rank m x p ps)) ∙ is in
+    elim (cases_Bool (is_among p ps)) [
+      | inl among ↦ let same : Some (market_position m p x) ≡ Some v = rw among at found in (let e = same in cc)
+      | inr absent ↦ let none : None ≡ Some v = rw absent at found in absurd (false≢true (ap is_some none))
+    ]
 
-    place : ℕ → ℕ
-    place q = market_position m q x
+pub ranked_none : (m : MarketRows) (x p : ℕ) (own : List Rank) → p < length m.orders
+    → own ≡ map (rank_at m x) (naming m.orders x (length m.orders))
+    → position_in own p ≡ None
+    → market_position m p x ≡ length (market_order m p) + 1
+ranked_none m x p own p_lt are is =
+    let ps : List ℕ = naming m.orders x (length m.orders) in
+    let range : List ℕ = range_with_len 0 (length m.orders) in
+    let test : ℕ → Bool = λ q. is_among x (market_order m q) in
+    let t : Rank → Bool = λ r. nat_eq p r.programme in
+    let found : option_map (λ r. r.position) (if is_among p ps then Some (rank_at m x p) else None) ≡ None =
+    ap (option_map (λ r. r.position)) (sym (ap (find t) are ∙ find_rank m x p ps)) ∙ is in
+    let absent : is_among p ps ≡ false =
+    false_from_ne_true (is_among p ps) (λ among.
+    let some : Some (market_position m p x) ≡ None = rw among at found in
+    false≢true (sym (ap is_some some))) in
+    past_end m p x (sym (ap (λ b. b && test p) (range_has p 0 (length m.orders) (omega arith) (omega (arith, p_lt))))
+    ∙ sym (among_filter test p range) ∙ absent)
 
-    by : (s : Result ℕ ℕ) → MatchResult s (λ i. (i < length programmes) × (get_or programmes i 0 ≡ p))
-        (λ i. (i ≤ length programmes) × ((k : ℕ) → k < i → get_or programmes k 0 < p) ×
-        ((k : ℕ) → i ≤ k → k < length programmes → p < get_or programmes k 0))
-        → is_ok s ≡ is_among p programmes
-        → MatchResult s (λ i. (i < length positions) × ((d : ℕ) → get_or positions i d ≡ market_position m p x))
-        (λ i. market_position m p x ≡ length (market_order m p) + 1)
-    by (Ok i) (lt, here) among =
-        let long : length positions ≡ length programmes =
-        ap length at ∙ length-map (naming m.orders x (length m.orders)) place
-        ∙ ap length (sym are) in
-        let lt_now : i < length positions = omega (arith, lt, long) in (
-          lt_now,
-          λ d. get_or_default positions i d (place 0) lt_now
-              ∙ ap (λ (xs : List ℕ). get_or xs i (place 0)) (at ∙ ap (map place) (sym are))
-              ∙ get_or-map place programmes i 0 ∙ ap place here,
-        )
-    by (Err i) rest among =
-        let t : ℕ → Bool = λ q. is_among x (market_order m q) in
-        let both : (is_among p (range_with_len 0 (length m.orders)) && t p) ≡ false =
-        sym (among_filter t p (range_with_len 0 (length m.orders))) ∙ ap (is_among p) (sym are) ∙ sym among in
-        past_end m p x (sym (ap (λ b. b && t p) (range_has p 0 (length m.orders) (omega arith) (omega (arith, p_lt))))
-        ∙ both)
+-- one's ranks rise by programme
+pub ranks_rise : (m : MarketRows) (x : ℕ) (own : List Rank)
+    → own ≡ map (rank_at m x) (naming m.orders x (length m.orders))
+    → IsNonDecreasingBy (λ r. r.programme) own
+ranks_rise m x own are i j d le lt =
+    let ps : List ℕ = naming m.orders x (length m.orders) in
+    let long : length own ≡ length ps = ap length are ∙ length-map ps (rank_at m x) in
+    let at : (k : ℕ) → k < length ps → (get_or own k d).programme ≡ get_or ps k 0 =
+    λ k k_lt. ap (λ (rs : List Rank). (get_or rs k d).programme) are
+    ∙ ap (λ r. r.programme) (get_or_map (rank_at m x) ps k 0 d k_lt) in
+    let j_in : j < length ps = omega (arith, lt, long) in
+    elim (cases_lt i j) [
+      | inl below ↦
+          let up : get_or ps i 0 < get_or ps j 0 =
+          AllPairs-from_increasing ps (listers_rise m.orders x (length m.orders)) i j 0 below j_in in
+          omega (arith, at i (omega (arith, below, j_in)), at j j_in, up)
+      | inr past ↦
+          let same : i ≡ j = omega (arith, le, past) in
+          omega (arith, ap (λ k. (get_or own k d).programme) same)
+    ]
+
+-- the first that passes is found, and none where all fail
+pub found_first : (t : Rank → Bool) (rs : List Rank) (i : ℕ) (d : Rank) → i < length rs
+    → ((k : ℕ) → k < i → t (get_or rs k d) ≡ false)
+    → t (get_or rs i d) ≡ true
+    → find t rs ≡ Some (get_or rs i d)
+found_first t [] i d lt fails passes = absurd (omega arith)
+found_first t (r ∷ rs) zero d lt fails passes = rw passes refl
+found_first t (r ∷ rs) (suc i) d lt fails passes =
+    rw (fails 0 (omega arith)) (found_first t rs i d (omega arith) (λ k k_lt. fails (suc k) (omega arith)) passes)
+
+pub found_none : (t : Rank → Bool) (rs : List Rank) (d : Rank)
+    → ((k : ℕ) → k < length rs → t (get_or rs k d) ≡ false)
+    → find t rs ≡ None
+found_none t [] d fails = refl
+found_none t (r ∷ rs) d fails = rw (fails 0 (omega arith)) (found_none t rs d (λ k lt. fails (suc k) (omega arith)))
+
+-- a programme that is below another one isn't it
+pub passed_over : (rs : List Rank) (p k : ℕ) → nat_lt (get_or rs k (record { programme = 0; position = 0 })).programme p
+    ≡ true
+    → nat_eq p (get_or rs k (record { programme = 0; position = 0 })).programme ≡ false
+passed_over rs p k below =
+    let none : Rank = record { programme = 0; position = 0 } in
+    let q : ℕ = (get_or rs k none).programme in
+    ne_eqb p q (λ e. omega (arith, e, ltb-true q p below))
+
+-- one's ranks, as they are read
+pub own_ranks : (m : MarketRows) (x : ℕ) (rows : List (Vec Rank Global)) (row : Vec Rank Global) (own : List Rank)
+    → x < length m.lists
+    → AreRanked m (length m.orders) rows
+    → row ≡ get_or rows x row
+    → own ≡ row.items
+    → own ≡ map (rank_at m x) (naming m.orders x (length m.orders))
+own_ranks m x rows row own lt are read is =
+    is ∙ are.each x row (slice_get_read rows (length rows) x row refl (omega (arith, lt, are.one_each)) read)

@@ -87,20 +87,24 @@ fn place_of(places: &[usize], number: u32) -> usize
 fn places_of(alloc: Global, places: &[usize], numbers: &[u32]) -> Result<Vec<usize>, OutOfMemory>
     ensures { IfOk result (λ v. v.items ≡ map (slice_index places.now) numbers.now) }
 {
-    Ok(numbers
-        .iter()
-        .map(|number| place_of(places, *number))
-        .collect(alloc)?)
+    Ok(
+        numbers
+            .iter()
+            .map(|number| place_of(places, *number))
+            .collect(alloc)?,
+    )
 }
 
 /// The numbers at places.
 fn numbers_at(alloc: Global, numbers: &[u32], places: &[usize]) -> Result<Vec<u32>, OutOfMemory>
     ensures { IfOk result (λ v. v.items ≡ map (slice_index numbers.now) places.now) }
 {
-    Ok(places
-        .iter()
-        .map(|place| number_at(numbers, *place))
-        .collect(alloc)?)
+    Ok(
+        places
+            .iter()
+            .map(|place| number_at(numbers, *place))
+            .collect(alloc)?,
+    )
 }
 
 /// Those who list a programme, in the order in which they stand in a list of numbers.

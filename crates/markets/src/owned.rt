@@ -148,10 +148,7 @@ fn by_preference(alloc: Global, own: &mut Vec<Choice>) -> Result<Sequence<u32>, 
 }
 
 /// The lists of candidates with these choices.
-fn lists_from(
-    alloc: Global,
-    rows: Vec<Vec<Choice>>,
-) -> Result<Vec<Sequence<u32>>, OutOfMemory>
+fn lists_from(alloc: Global, rows: Vec<Vec<Choice>>) -> Result<Vec<Sequence<u32>>, OutOfMemory>
     ensures { IfOk result (λ lists. lists.items ≡ map (λ row.
         map (λ x. x.programme) (sorted_by (λ x. x.preference) row.items)) rows.items) }
 {

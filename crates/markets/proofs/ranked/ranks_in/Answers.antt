@@ -1,11 +1,11 @@
 use Rattle.std.proofs.Common.{ℕ, ◌≡◌, ◌<◌, ◌∙◌, ap, arith, length, subst}
 use Rattle.markets.specs.Markets.{is_list_below}
-use Rattle.markets.specs.Ranked.{ArePositions}
-use Rattle.markets.proofs.Ranking.{orders_are_lists, positions_more}
-use Rattle.markets.proofs.ranked.positions_in.Goals as goal
+use Rattle.markets.specs.Ranked.{AreRanked}
+use Rattle.markets.proofs.Ranking.{orders_are_lists, ranks_more}
+use Rattle.markets.proofs.ranked.ranks_in.Goals as goal
 
-pub put_positions-requires-clause-order : goal.put_positions-requires-clause-order
-put_positions-requires-clause-order c =
+pub put_ranks-requires-clause-order : goal.put_ranks-requires-clause-order
+put_ranks-requires-clause-order c =
     let m = c.args.market.now in
     let p : ℕ = c.loop-programme.programme in
     let lt : p < length m.orders = omega (arith, c.loop-programme-test.true, c.programmes-programme-end.ensures) in
@@ -15,17 +15,17 @@ put_positions-requires-clause-order c =
 
 pub loop-programme-preserved : goal.loop-programme-preserved
 loop-programme-preserved c =
-    positions_more c.args.market.now c.loop-programme.programme c.order.result.now c.loop-programme.rows.items
-    c.put_positions.new.rows.items c.order.ensures.order
-    c.loop-programme.invariant c.in_ok-put_positions.ensures
+    ranks_more c.args.market.now c.loop-programme.programme c.order.result.now c.loop-programme.rows.items
+    c.put_ranks.new.rows.items c.order.ensures.order
+    c.loop-programme.invariant c.in_ok-put_ranks.ensures
 
 pub order-requires : goal.order-requires
 order-requires c =
     let P = λ (n : ℕ). c.loop-programme.programme < n in
     subst P c.programmes-programme-end.ensures c.loop-programme-test.true
 
-pub put_positions-requires-clause-short : goal.put_positions-requires-clause-short
-put_positions-requires-clause-short c = c.order.ensures.short
+pub put_ranks-requires-clause-short : goal.put_ranks-requires-clause-short
+put_ranks-requires-clause-short c = c.order.ensures.short
 
 pub returns : goal.returns
 returns c =
@@ -37,5 +37,5 @@ returns c =
       c.loop-programme.auto.programme-end,
       c.programmes-programme-end.ensures,
     ) in
-    let P = λ (k : ℕ). ArePositions c.args.market.now k c.loop-programme.rows.items in
+    let P = λ (k : ℕ). AreRanked c.args.market.now k c.loop-programme.rows.items in
     subst P all c.loop-programme.invariant
