@@ -1,11 +1,15 @@
 //! Texts of reports that stand alone.
-ghost use Rattle.std.specs.Prelude.{◌≡◌, [], All, IfOk};
+ghost use Rattle.std.specs.Prelude.{◌≡◌, ◌<◌, [], length, All, IfOk};
 ghost use Rattle.admit_core.specs.Validity.{IsRanking};
+ghost use Rattle.report.specs.DayText.{IsPassOf};
 
 use crate::orders::group_in;
 use crate::tables::sampled_dossier;
 use crate::texts::text_of;
-use admit_core::{DayRecord, Dossier, InFault, OutOfMemory, RankGroup, Sequence, Terms};
+use admit_core::{
+    Change, DayRecord, Dossier, Fall, Freed, InFault, OutOfMemory, PassEnd, PassRecord, RankGroup,
+    Sequence, Status, Terms,
+};
 use calendar::civil_of;
 use call_order::call_order;
 use day_state::DayState;
@@ -43,7 +47,66 @@ fn day_with(alloc: Global, left: &[u32], free: &[u32]) -> Result<DayRecord, OutO
     })
 }
 
-/// The text of such a day of a dossier, and the same where offers have dates.
+/// A pass of a dossier with a school and four wishes: a fall, two offers and an automatic answer.
+fn pass_of(alloc: Global, dossier: &Dossier) -> Result<PassEnd, OutOfMemory>
+    requires school { 0 < length dossier.now.schools }
+    requires wishes { 3 < length dossier.now.wishes }
+    ensures { IfOk result (IsPassOf dossier.now) }
+{
+    let _ = dossier.wishes.len(); // how many there are
+    let fall = Fall {
+        school: 0,
+        from: 9,
+        to: 2,
+        wishes: Sequence::from_vec(vec![in alloc; 0, 2]?),
+    };
+    let pass = PassRecord {
+        bars: Sequence::from_vec(vec![in alloc; 2]?),
+        falls: Sequence::from_vec(vec![in alloc; fall]?),
+        offers: Sequence::from_vec(vec![in alloc; 1, 3]?),
+    };
+    let change = Change {
+        wish: 0,
+        status: Status::AutoRefused,
+    };
+    Ok(PassEnd {
+        pass,
+        autos: Sequence::from_vec(vec![in alloc; change]?),
+        freed: Freed { seats: 1, beds: 0 },
+    })
+}
+
+/// A day of such a dossier with that pass.
+fn passed_day(alloc: Global, dossier: &Dossier) -> Result<DayRecord, OutOfMemory>
+    requires school { 0 < length dossier.now.schools }
+    requires wishes { 3 < length dossier.now.wishes }
+    ensures { IfOk result (λ day. All (IsPassOf dossier.now) day.passes) }
+{
+    let pass = pass_of(alloc, dossier)?;
+    let day = day_with(alloc, &[5], &[7])?;
+    let passes = Sequence::from_vec(vec![in alloc; pass]?);
+    Ok(DayRecord {
+        day: 2,
+        passes,
+        left: day.left,
+        free: day.free,
+        lapsed: day.lapsed,
+    })
+}
+
+/// The text of that day.
+fn passes_of(alloc: Global, dossier: &Dossier) -> Result<Vec<u8>, OutOfMemory> {
+    if dossier.schools.is_empty() {
+        return Ok(Vec::new(alloc));
+    }
+    if dossier.wishes.len() < 4 {
+        return Ok(Vec::new(alloc));
+    }
+    let day = passed_day(alloc, dossier)?;
+    day_text(alloc, dossier, &day)
+}
+
+/// The text of a day without passes, and the same where offers have dates.
 fn days_of(alloc: Global, dossier: &Dossier) -> Result<Vec<u8>, OutOfMemory> {
     let day = day_with(alloc, &[5], &[7])?;
     let mut told = day_text(alloc, dossier, &day)?;
@@ -81,6 +144,7 @@ fn sample_told(alloc: Global, kind: &str, number: u32) -> Result<Vec<u8>, InFaul
     };
     match kind {
         "day" => Ok(days_of(alloc, &dossier)?),
+        "passes" => Ok(passes_of(alloc, &dossier)?),
         _ => Ok(final_of(alloc, &dossier)?),
     }
 }
@@ -98,7 +162,7 @@ fn group_told(alloc: Global, kind: &str, words: &str) -> Result<Vec<u8>, InFault
 pub(crate) fn report_in(alloc: Global, input: &str) -> Result<String, OutOfMemory> {
     let (kind, words) = input.split_once(" ").unwrap_or((input, ""));
     let told = match kind {
-        "day" | "final" => sample_told(alloc, kind, words.parse::<u32>().unwrap_or(0)),
+        "day" | "passes" | "final" => sample_told(alloc, kind, words.parse::<u32>().unwrap_or(0)),
         _ => group_told(alloc, kind, words),
     };
     match told {
