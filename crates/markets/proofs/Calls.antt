@@ -1,7 +1,6 @@
 -- The orders of a dossier's market, as they are made programme by programme.
-use Rattle.std.proofs.Common.{ℕ, ◌+◌, ◌≤◌, ◌<◌, ◌≡◌, true, List, [], ◌&&◌, map, length, take, get_or, inl, inr, sym, ◌∙◌, ap}
+use Rattle.std.proofs.Common.{ℕ, ◌+◌, ◌≤◌, ◌<◌, ◌≡◌, true, List, [], map, length, take, get_or, inl, inr, sym, ◌∙◌, ap}
 use Rattle.std.proofs.Common.{Some, subst, arith, nat_eq}
-use Rattle.std.specs.Prelude.{slice_index_or}
 use Rattle.std.specs.List.{range_with_len}
 use Rattle.std.specs.List.Sorted.{IsPermutation, IsStrictlyIncreasing}
 use Rattle.std.proofs.Math.ListN.{set}
@@ -110,4 +109,5 @@ done_all f n i ps done long moved past are =
     let among : is_among k (take i ps) ≡ true =
     ap (is_among k) (take_all i ps past) ∙ sym (list_any-IsPermutation (nat_eq k) (range_with_len 0 n) ps moved)
     ∙ range_has k 0 n (omega arith) (omega (arith, k_in)) in
-    get_or_default done k e [] lt ∙ are.each k among lt ∙ sym (get_or-map-range_with_len f 0 n k k e k_in (omega arith)))
+    get_or_default done k e [] lt ∙ are.each k among lt
+    ∙ sym (get_or-map-range_with_len f 0 n k k e k_in (omega arith)))

@@ -1,6 +1,6 @@
 -- What candidates wish for, laid into their rows and put in order.
 use Prim.Native.Nat.{zero}
-use Rattle.std.proofs.Common.{ℕ, suc, ◌≡◌, ◌<◌, ◌≤◌, Bool, true, false, nat_eq, nat_le, List, [], ◌∷◌, ◌++◌, map, length, get_or}
+use Rattle.std.proofs.Common.{ℕ, suc, ◌≡◌, ◌<◌, false, nat_eq, nat_le, List, [], ◌∷◌, ◌++◌, map, length, get_or}
 use Rattle.std.proofs.Common.{inl, inr, refl, sym, ap, ◌∙◌, arith}
 use Rattle.std.proofs.Math.ListN.{set}
 use Rattle.std.specs.List.{list_any, IsDistinct}

@@ -12,7 +12,7 @@ use Rattle.std.proofs.lemmas.List.FromFn.{filter_of_map_range_with_len_more}
 use Rattle.std.proofs.lemmas.Option.{slice_get_within, slice_get_read}
 use Rattle.admit_core.specs.Lists.{is_among}
 use Rattle.markets.specs.Markets.{is_list_below}
-use Rattle.markets.specs.Listers.{AreEmpty, AreListers, ArePutIn, naming}
+use Rattle.markets.specs.Listers.{AreListers, ArePutIn, naming}
 use Rattle.markets.specs.Positions.{among_at}
 use Rattle.markets.proofs.BelowCount.{list_distinct, list_below, earlier, last_differs}
 use Rattle.std.proofs.lemmas.Map.Keys.{apart_from_distinct}
@@ -36,25 +36,6 @@ empty_more n rows row are none =
       ];
     }
 
--- rows of any items that are empty, and one more
-pub none_empty : {A : Type 0} → AreEmpty {A = A} 0 []
-none_empty {A} = record {
-  one_each = refl;
-  each = λ p row at. absurd (omega (arith, slice_get_within {A = Vec A Global} [] p row at));
-}
-
-pub one_more_empty : {A : Type 0} (n : ℕ) (rows : List (Vec A Global)) (row : Vec A Global) → AreEmpty n rows
-    → row.items ≡ []
-    → AreEmpty (n + 1) (rows ++ row ∷ [])
-one_more_empty {A} n rows row are none =
-    record {
-      one_each = omega (arith, length-append rows (row ∷ []), are.one_each);
-      each = λ p other at. elim (get_push rows row other p at) [
-        | inl before ↦ are.each p other before
-        | inr last ↦ ap (λ (v : Vec A Global). v.items) (sym last) ∙ none
-      ];
-    }
-
 -- empty rows are those of no list, whichever they are
 pub listers_start : (lists : List (List ℕ)) (n : ℕ) (rows : List (Vec ℕ Global)) → AreListers [] n 0 rows
     → AreListers lists n 0 rows
@@ -64,7 +45,8 @@ listers_start lists n rows are = record { one_each = are.one_each; each = are.ea
 pub put_none : {A : Type 0} (item : ℕ → A) (rows : List (Vec A Global)) → ArePutIn (λ p. is_among p []) item rows rows
 put_none {A} item rows = record { as_many = refl; each = λ p row at. (row, at, sym (append-nil row.items)) }
 
-pub put_more : {A : Type 0} (item : ℕ → A) (xs : List ℕ) (k : ℕ) (old rows : List (Vec A Global)) (before after : Vec A Global)
+pub put_more : {A : Type 0} (item : ℕ → A) (xs : List ℕ) (k : ℕ) (old rows : List (Vec A Global))
+    (before after : Vec A Global)
     → is_list_below (length old) xs ≡ true → k < length xs
     → before ≡ get_or rows (get_or xs k 0) before → after.items ≡ before.items ++ item (get_or xs k 0) ∷ []
     → ArePutIn (λ p. is_among p (take k xs)) item old rows

@@ -238,7 +238,8 @@ pub told_at : (m : MarketRows) (k stamp : ℕ) (rows : List (Vec ℕ Global)) (r
     → result ≡ has_all_of (length stamps) (listers m k) (market_order m k)
 told_at m k stamp rows row item listed order stamps result lt so are read listed_is item_is order_is told =
     told
-    ∙ ap (λ xs. has_all_of (length stamps) xs order) (row_read m k stamp rows row listed so.stamp_is lt are read listed_is)
+    ∙ ap (λ xs. has_all_of (length stamps) xs order)
+    (row_read m k stamp rows row listed so.stamp_is lt are read listed_is)
     ∙ ap (λ xs. has_all_of (length stamps) (listers m k) xs) (list_read m.orders k item order lt item_is order_is)
 
 pub row_within : (m : MarketRows) (n k : ℕ) (row : List ℕ) → row ≡ listers m k → n ≡ length m.lists

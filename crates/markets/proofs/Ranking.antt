@@ -1,5 +1,5 @@
 -- The ranks of candidates, noted order by order, and how one is found.
-use Rattle.std.proofs.Common.{ℕ, zero, suc, ◌+◌, ◌≤◌, ◌<◌, ◌≡◌, Bool, true, false, cond, ◌&&◌, List, [], ◌∷◌, ◌++◌, map}
+use Rattle.std.proofs.Common.{ℕ, zero, suc, ◌+◌, ◌<◌, ◌≡◌, Bool, true, false, cond, ◌&&◌, List, [], ◌∷◌, ◌++◌, map}
 use Rattle.std.proofs.Common.{length, get_or, inl, inr, refl, sym, ◌∙◌, ap, subst, arith, nat_eq, nat_lt, Vec, Some, None}
 use Rattle.std.proofs.Common.{option_map}
 use Rattle.std.specs.Prelude.{if◌then◌else◌, is_some}
@@ -15,7 +15,8 @@ use Rattle.std.proofs.lemmas.List.Kept.{AllPairs-from_increasing}
 use Rattle.std.proofs.lemmas.List.Sums.{position_or_len_is}
 use Rattle.admit_core.specs.Lists.{is_among}
 use Rattle.markets.specs.Markets.{MarketRows, IsMarket, market_order, is_distinct, market_position}
-use Rattle.markets.specs.Listers.{AreEmpty, AreLists, ArePutIn, naming}
+use Rattle.linked_demand.specs.Keyed.{AreEmpty}
+use Rattle.markets.specs.Listers.{AreLists, ArePutIn, naming}
 use Rattle.markets.specs.Ranked.{AreRanked, position_in, rank_at, rank_in}
 use Rattle.markets.specs.declared.ranked.Rank.{Rank}
 use Rattle.markets.specs.Firsts.{all_of, among_filter, range_has}
@@ -32,7 +33,7 @@ own_position xs k apart lt = omega (arith, length_before (nat_eq (get_or xs k 0)
 -- no ranks yet
 pub ranks_none : (m : MarketRows) (n : ℕ) (rows : List (Vec Rank Global)) → n ≡ length m.lists → AreEmpty n rows
     → AreRanked m 0 rows
-ranks_none m n rows n_is are = record { one_each = are.one_each ∙ n_is; each = λ x row at. are.each x row at }
+ranks_none m n rows n_is are = record { one_each = are.as_many ∙ n_is; each = λ x row at. are.each x row at }
 
 one_more : (f : ℕ → Rank) (b : Bool) (k : ℕ) → map f (cond b (k ∷ []) []) ≡ (if b then f k ∷ [] else [])
 one_more f true k = refl

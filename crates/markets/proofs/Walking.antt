@@ -1,11 +1,11 @@
 -- Those who list a programme, in the order in which they are called.
-use Rattle.std.proofs.Common.{ℕ, zero, suc, ◌+◌, ◌≤◌, ◌<◌, ◌≡◌, ◌≢◌, Bool, true, false, cond, ◌&&◌, List, [], ◌∷◌, map, length}
-use Rattle.std.proofs.Common.{Some, None, take, get_or, inl, inr, refl, sym, ◌∙◌, ap, arith, nat_eq, filter}
+use Rattle.std.proofs.Common.{ℕ, zero, suc, ◌+◌, ◌≤◌, ◌<◌, ◌≡◌, Bool, true, false, List, [], ◌∷◌, map, length}
+use Rattle.std.proofs.Common.{None, take, get_or, inl, inr, refl, sym, ◌∙◌, ap, arith, nat_eq, filter}
 use Rattle.std.specs.Prelude.{is_some}
-use Rattle.std.specs.List.{list_any, range_with_len, AllByRecursion, IsDistinct}
+use Rattle.std.specs.List.{range_with_len, AllByRecursion, IsDistinct}
 use Rattle.std.specs.List.Sorted.{IsNonDecreasing, IsPermutation, IsStrictlyIncreasing}
 use Rattle.std.proofs.Math.ListN.{set}
-use Rattle.std.proofs.lemmas.Bool.{cases_Bool, cases_eq, cases_order, and_parts, and_from, eqb-true, eq-eqb, false≢true, or_cases}
+use Rattle.std.proofs.lemmas.Bool.{cases_Bool, cases_eq, and_parts, and_from, eqb-true, false≢true, or_cases}
 use Rattle.std.proofs.lemmas.Bool.Decides.{Decides-eqb}
 use Rattle.std.proofs.lemmas.List.{get_or-map, length-map, length-set, get_or-set_same, get_or-set_other, same_lists, take_more}
 use Rattle.std.proofs.lemmas.List.Folds.{list_any-append}
@@ -24,7 +24,6 @@ use Rattle.markets.specs.Positions.{among_at}
 use Rattle.markets.specs.Walks.{AreCalled, AreNoted, IsWalk}
 use Rattle.markets.specs.declared.calling.Walk.{Walk}
 use Rattle.markets.proofs.Called.{from_map}
-use Rattle.markets.proofs.BelowCount.{earlier}
 
 -- what passes of a list stands at the places that pass
 filter_of : (t : ℕ → Bool) (f : ℕ → ℕ) (ks : List ℕ) → filter t (map f ks) ≡ map f (filter (λ k. t (f k)) ks)
@@ -48,20 +47,22 @@ by_place xs =
     get_or_same (y ∷ ys) (suc k) d lt = get_or_same ys k d (omega arith)
 
 -- two strictly rising lists with the same members
-all_above : (n : ℕ) (ns : List ℕ) → IsStrictlyIncreasing (n ∷ ns) → AllByRecursion (λ m. n < m) ns
-all_above n ns rises = from ns (λ i lt. AllPairs-from_increasing (n ∷ ns) rises 0 (suc i) 0 (omega arith) (omega arith))
+same_rising : (xs ys : List ℕ) → IsStrictlyIncreasing xs → IsStrictlyIncreasing ys
+    → ((n : ℕ) → is_among n xs ≡ is_among n ys)
+    → xs ≡ ys
+same_rising xs ys xs_rise ys_rise same = same_members xs ys (ascends xs xs_rise) (ascends ys ys_rise) same
   where
-    from : (ms : List ℕ) → ((i : ℕ) → i < length ms → n < get_or ms i 0) → AllByRecursion (λ m. n < m) ms
-    from [] above = tt
-    from (m ∷ ms) above = (above 0 (omega arith), from ms (λ i lt. above (suc i) (omega arith)))
+    above : (n : ℕ) (ms : List ℕ) → ((i : ℕ) → i < length ms → n < get_or ms i 0) → AllByRecursion (λ m. n < m) ms
+    above n [] all = tt
+    above n (m ∷ ms) all = (all 0 (omega arith), above n ms (λ i lt. all (suc i) (omega arith)))
 
-tail_rises : (n : ℕ) (ns : List ℕ) → IsStrictlyIncreasing (n ∷ ns) → IsStrictlyIncreasing ns
-tail_rises n ns rises k lt =
-    AllPairs-from_increasing (n ∷ ns) rises (suc k) (suc (k + 1)) 0 (omega arith) (omega arith)
-
-rising : (ns : List ℕ) → IsStrictlyIncreasing ns → Ascends ns
-rising [] rises = tt
-rising (n ∷ ns) rises = (all_above n ns rises, rising ns (tail_rises n ns rises))
+    ascends : (ns : List ℕ) → IsStrictlyIncreasing ns → Ascends ns
+    ascends [] rises = tt
+    ascends (n ∷ ns) rises = (
+      above n ns (λ i lt. AllPairs-from_increasing (n ∷ ns) rises 0 (suc i) 0 (omega arith) (omega arith)),
+      ascends ns
+          (λ k lt. AllPairs-from_increasing (n ∷ ns) rises (suc k) (suc (k + 1)) 0 (omega arith) (omega arith)),
+    )
 
 -- the places noted so far
 pub record AreNotedTo (i : ℕ) (numbers places : List ℕ) : Type 0 where
@@ -111,7 +112,8 @@ noted_past i numbers places lt past are = record {
   each = λ x x_lt t. are.each x x_lt (last_among x i numbers lt (λ same. omega (arith, same, past, x_lt)) t);
 }
 
-module _ (numbers places listers : List ℕ) (noted : AreNoted numbers places) (are : AreCalled numbers places listers) where
+module _ (numbers places listers : List ℕ) (noted : AreNoted numbers places)
+    (are : AreCalled numbers places listers) where
   at : (x : ℕ) → is_among x listers ≡ true
       → (get_or places x 0 < length numbers) × (get_or numbers (get_or places x 0) 0 ≡ x)
   at x t = noted x (are.within x t) (are.there x t)
@@ -170,9 +172,9 @@ module _ (numbers places listers : List ℕ) (noted : AreNoted numbers places) (
       let range : List ℕ = range_with_len 0 (length numbers) in
       let apart : IsDistinct nat_eq found = IsDistinct-IsPermutation nat_eq nat_eq_sym (map key listers) found moved
       keys_apart in
-      let same : found ≡ those = same_members found those
-      (rising found (IsStrictlyIncreasing-from_distinct found up apart))
-      (rising those (IsStrictlyIncreasing-filter passes range (range_rises 0 (length numbers))))
+      let same : found ≡ those = same_rising found those
+      (IsStrictlyIncreasing-from_distinct found up apart)
+      (IsStrictlyIncreasing-filter passes range (range_rises 0 (length numbers)))
       (λ q. sym (list_any-IsPermutation (nat_eq q) (map key listers) found moved) ∙ members q) in
       ap (map value) same ∙ sym (filter_of (λ x. is_among x listers) value range)
       ∙ ap (filter (λ x. is_among x listers)) (sym (by_place numbers))

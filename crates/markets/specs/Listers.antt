@@ -20,11 +20,6 @@ pub record AreListers (lists : List (List ℕ)) (n k : ℕ) (rows : List (Vec �
   pub each : (p : ℕ) (row : Vec ℕ Global) → slice_get rows p ≡ Some row
       → row.items ≡ naming lists p k
 
--- so many rows, all empty
-pub record AreEmpty {A : Type 0} (n : ℕ) (rows : List (Vec A Global)) : Type 0 where
-  pub one_each : length rows ≡ n
-  pub each : (p : ℕ) (row : Vec A Global) → slice_get rows p ≡ Some row → row.items ≡ []
-
 -- an item of each row is put at its end, where its number passes a test
 pub record ArePutIn {A : Type 0} (here : ℕ → Bool) (item : ℕ → A)
     (old new : List (Vec A Global)) : Type 0 where

@@ -138,7 +138,8 @@ pub fn from_dossier(
 ) -> Result<Named, OutOfMemory>
     requires { AreCallOrders dossier.now.groups orders.now.orders }
     ensures market { IfOk result (λ named. named.market ≡ market_of dossier.now orders.now.orders) }
-    ensures candidates { IfOk result (λ named. named.candidates.items ≡ market_candidates dossier.now) }
+    ensures candidates { IfOk result (λ named.
+        named.candidates.items ≡ market_candidates dossier.now) }
 {
     let _ = &dossier.wishes;
     let seats = seats_of(alloc, dossier)?;

@@ -3,7 +3,8 @@ ghost use Rattle.std.specs.Prelude.{◌≡◌, ◌<◌, ◌≤◌, false, length
 ghost use Rattle.std.specs.List.Sorted.{IsNonDecreasingBy, IsPartitionPoint};
 ghost use Rattle.admit_core.specs.Lists.{is_among};
 ghost use Rattle.markets.specs.Markets.{is_list_below, market_position};
-ghost use Rattle.markets.specs.Listers.{AreEmpty, ArePutIn};
+ghost use Rattle.linked_demand.specs.Keyed.{AreEmpty};
+ghost use Rattle.markets.specs.Listers.{ArePutIn};
 ghost use Rattle.markets.specs.Ranked.{AreRanked, position_in, rank_in};
 
 use crate::market::Market;

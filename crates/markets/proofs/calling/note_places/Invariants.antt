@@ -1,4 +1,4 @@
-use Rattle.std.proofs.Common.{◌≡◌, length, take}
+use Rattle.std.proofs.Common.{◌≡◌, length}
 use Rattle.markets.proofs.Walking.{AreNotedTo}
 use Rattle.markets.proofs.calling.note_places.Given as goal
 

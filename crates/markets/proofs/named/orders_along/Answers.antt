@@ -20,7 +20,9 @@ loop-programme-init c =
       walk = walk_begun c.args.names.now.keys orders c.in_ok-walk.walk c.in_ok-walk.ensures.group
           c.in_ok-walk.ensures.numbers c.in_ok-walk.ensures.places;
       as_many = c.in_ok-done.ensures;
-      each = done_none (λ p. called_in (counted d) p (order_of d orders p)) c.args.programmes.now c.in_ok-done.done.items;
+      each =
+          done_none (λ p. called_in (counted d) p (order_of d orders p)) c.args.programmes.now
+          c.in_ok-done.done.items;
     }
 
 pub group_at-group-requires-clause-programme : goal.group_at-group-requires-clause-programme
@@ -103,8 +105,8 @@ loop-programme-preserved c =
     let listers_are : listers ≡ naming lists p (length lists) = c.as_slice.ensures.value
     ∙ row_is lists (length d.programmes) (length lists) p c.args.rows.now c.index-rows-place.result c.requires.rows p_lt
     c.index-rows-place.is in
-    let numbers_are = walked_at d orders p c.args.names.now.keys c.enter.new.self c.group_at-group.result c.requires.names
-    c.in_ok-enter.ensures.walk c.in_ok-enter.ensures.entered c.group_at-group.ensures.group in
+    let numbers_are = walked_at d orders p c.args.names.now.keys c.enter.new.self c.group_at-group.result
+    c.requires.names c.in_ok-enter.ensures.walk c.in_ok-enter.ensures.entered c.group_at-group.ensures.group in
     record {
       walk = c.in_ok-enter.ensures.walk;
       as_many = length-set done p c.in_ok-done-2.field-0 ∙ c.loop-programme.invariant.as_many;

@@ -10,7 +10,8 @@ loop-wish-init c =
     let names = c.args.names.now.keys in
     record {
       laid = c.in_ok-rows.ensures;
-      as_many = sym (length-map rows (λ r. r.items)) ∙ ap length c.in_ok-rows.ensures ∙ length-map names (own_choices []);
+      as_many =
+          sym (length-map rows (λ r. r.items)) ∙ ap length c.in_ok-rows.ensures ∙ length-map names (own_choices []);
     }
 
 pub lay-requires : goal.lay-requires

@@ -1,14 +1,15 @@
 use Rattle.std.proofs.Common.{ℕ, ◌≡◌, subst, arith}
-use Rattle.markets.specs.Listers.{AreEmpty}
-use Rattle.markets.proofs.Listing.{none_empty, one_more_empty}
+use Rattle.linked_demand.specs.Keyed.{AreEmpty}
+use Rattle.linked_demand.proofs.Keyed.{empty_more, empty_none}
+use Rattle.markets.specs.declared.ranked.Rank.{Rank}
 use Rattle.markets.proofs.ranked.no_ranks.Goals as goal
 
 pub loop-row-init : goal.loop-row-init
-loop-row-init c = rw c.in_ok-rows.ensures.items none_empty
+loop-row-init c = rw c.in_ok-rows.ensures.items (empty_none Rank)
 
 pub loop-row-preserved : goal.loop-row-preserved
 loop-row-preserved c =
-    rw c.in_ok-push.ensures.items (one_more_empty c.loop-row._row c.loop-row.rows.items c.new-empty.result
+    rw c.in_ok-push.ensures.items (empty_more c.loop-row._row c.loop-row.rows.items c.new-empty.result
     c.loop-row.invariant c.new-empty.ensures.items)
 
 pub returns : goal.returns

@@ -1,4 +1,4 @@
-use Rattle.markets.specs.Listers.{AreEmpty}
+use Rattle.linked_demand.specs.Keyed.{AreEmpty}
 use Rattle.markets.proofs.ranked.no_ranks.Given as goal
 
 abbrev pub invariant-loop-row : goal.invariant-loop-row

@@ -1,6 +1,6 @@
-use Rattle.std.proofs.Common.{ℕ, ◌<◌, ◌≤◌, ◌≡◌, Bool, List, false, true, inl, inr, ap, arith, get_or, length, nat_eq, nat_lt}
+use Rattle.std.proofs.Common.{ℕ, ◌<◌, ◌≤◌, ◌≡◌, Bool, List, false, inl, inr, ap, arith, get_or, length, nat_eq}
 use Rattle.std.proofs.Common.{option_map, sym}
-use Rattle.std.proofs.lemmas.Bool.{cases_lt, eq-eqb, eqb-true, ltb-false, ltb-true, ne_eqb}
+use Rattle.std.proofs.lemmas.Bool.{cases_lt, eq-eqb, ltb-false, ne_eqb}
 use Rattle.markets.specs.declared.ranked.Rank.{Rank}
 use Rattle.markets.proofs.Ranking.{found_first, found_none, passed_over}
 use Rattle.markets.proofs.ranked.position_in.Goals as goal

@@ -1,4 +1,4 @@
-use Rattle.std.proofs.Common.{ℕ, List, ◌≡◌, ◌<◌, ◌+◌, ◌∙◌, sym, ap, arith, length}
+use Rattle.std.proofs.Common.{ℕ, List, ◌<◌, ◌+◌, ◌∙◌, sym, ap, arith, length}
 use Rattle.markets.specs.Markets.{MarketRows, market_position}
 use Rattle.markets.proofs.Ranking.{own_ranks, ranked_none, ranked_some, ranks_rise}
 use Rattle.markets.proofs.ranked.Ranked.position_of.Goals as goal
