@@ -93,6 +93,7 @@ impl RowTest<WishRow> for PreferenceMixed {
 
     ghost takes_memory = { Unit {0} };
 
+    #[inline(always)]
     fn stands(&mut self, row: &WishRow, number: u64) -> Result<Option<Reason>, OutOfMemory> {
         let own = FirstWish {
             row: number,
@@ -131,6 +132,7 @@ impl RowTest<WishRow> for PreferenceTaken {
 
     ghost takes_memory = { Unit {0} };
 
+    #[inline(always)]
     fn stands(&mut self, row: &WishRow, number: u64) -> Result<Option<Reason>, OutOfMemory> {
         if row.preference == 0 {
             return Ok(None);

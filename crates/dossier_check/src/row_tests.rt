@@ -65,7 +65,8 @@ impl<R, A: RowTest<R>, B: RowChecks<R>> RowChecks<R> for Then<A, B> {
 
     ghost takes_memory = { A.takes_memory ⊎ B.takes_memory };
 
-    // Else LLVM leaves calls between the tests of a row, since they are called from several scans.
+    // This and the tests of wishes are inlined, so that a scan has all tests of a row in one body:
+    // left to itself, LLVM calls those that several scans have.
     #[inline(always)]
     fn next(&mut self, row: &R, number: u64) -> Result<Option<Reason>, OutOfMemory> {
         if let Some(reason) = self.first.stands(row, number)? {
@@ -91,6 +92,7 @@ impl<R, T: RowTest<R>> RowTest<R> for Unless<T> {
 
     ghost takes_memory = { T.takes_memory };
 
+    #[inline(always)]
     fn stands(&mut self, row: &R, number: u64) -> Result<Option<Reason>, OutOfMemory> {
         if self.is_known {
             return Ok(None);
@@ -158,6 +160,7 @@ impl<R, K: Hash + Eq + Copy + Drop, Q: Key<R, K>> RowTest<R> for Repeats<K, Q> {
 
     ghost takes_memory = { Unit {0} };
 
+    #[inline(always)]
     fn stands(&mut self, row: &R, _number: u64) -> Result<Option<Reason>, OutOfMemory> {
         match note(&mut self.keys, &self.rule, row)? {
             Some(first) => Ok(Some(reason_of(self.shared, first))),
@@ -184,6 +187,7 @@ impl<R, Q: Key<R, u32>> RowTest<R> for RepeatsId<Q> {
 
     ghost takes_memory = { Unit {0} };
 
+    #[inline(always)]
     fn stands(&mut self, row: &R, _number: u64) -> Result<Option<Reason>, OutOfMemory> {
         match self.ids.note(self.alloc, self.keyed, &self.rule, row)? {
             Some(first) => Ok(Some(Reason::Repeat(first))),
@@ -216,6 +220,7 @@ impl<'a, R, Q: Names<R>> RowTest<R> for NamesUnknown<'a, Q> {
 
     ghost takes_memory = { ⊥ };
 
+    #[inline(always)]
     fn stands(&mut self, row: &R, _number: u64) -> Result<Option<Reason>, OutOfMemory> {
         if let Some(id) = self.rule.named_by(row) {
             if !self.ids.contains(id) {

@@ -29,6 +29,7 @@ impl<'a> RowTest<WishRow> for Unranked<'a> {
 
     ghost takes_memory = { Unit {0} };
 
+    #[inline(always)]
     fn stands(&mut self, row: &WishRow, _number: u64) -> Result<Option<Reason>, OutOfMemory> {
         let programmes = self.tables.programmes.as_slice();
         if let Some((place, programme)) = placed_row_of(
@@ -67,6 +68,7 @@ impl<'a> RowTest<WishRow> for NoBoardingRank<'a> {
 
     ghost takes_memory = { ⊥ };
 
+    #[inline(always)]
     fn stands(&mut self, row: &WishRow, _number: u64) -> Result<Option<Reason>, OutOfMemory> {
         if let Some(school) = row.school {
             if !self.boarded.contains(&(school, row.candidate)) {
