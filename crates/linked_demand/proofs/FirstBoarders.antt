@@ -18,7 +18,7 @@ use Rattle.linked_demand.specs.Rows.{CanBeCut, IsFront, IsItem, RanksRise, StayO
 use Rattle.linked_demand.specs.Links.{LinksRow}
 use Rattle.linked_demand.specs.Rounds.{IsRound}
 use Rattle.linked_demand.proofs.Falling.{in_front}
-use Rattle.linked_demand.proofs.Filling.{items_rise}
+use Rattle.linked_demand.proofs.RowsRight.{items_rise}
 use Rattle.linked_demand.proofs.RoundFalls.{rows_open}
 use Rattle.linked_demand.proofs.RowFronts.{in_front_of}
 use Rattle.linked_demand.proofs.RowsTo.{row_there}

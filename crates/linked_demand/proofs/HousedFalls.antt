@@ -23,7 +23,7 @@ use Rattle.linked_demand.specs.Marks.{is_new, MarksWishes}
 use Rattle.linked_demand.specs.Opens.{opens_of}
 use Rattle.linked_demand.specs.Rounds.{IsRound}
 use Rattle.linked_demand.specs.Rows.{CutsAt}
-use Rattle.linked_demand.proofs.Asking.{proposed_entry}
+use Rattle.linked_demand.proofs.KeptAnswers.{proposed_entry}
 use Rattle.linked_demand.proofs.Closing.{wish_of}
 use Rattle.linked_demand.proofs.Demanded.{rises_row}
 use Rattle.linked_demand.proofs.Falling.{flag_map, in_front, front_at}

@@ -21,10 +21,10 @@ use Rattle.linked_demand.specs.Demand.{is_proposed_at, counted}
 use Rattle.linked_demand.specs.Filled.{bed_sought, wants_bed}
 use Rattle.linked_demand.specs.Housed.{AllHoused, GivesUp, housed_in, noted}
 use Rattle.linked_demand.specs.Rounds.{IsRound}
-use Rattle.linked_demand.proofs.Asking.{proposed_entry}
+use Rattle.linked_demand.proofs.KeptAnswers.{proposed_entry}
 use Rattle.linked_demand.proofs.Closing.{any_at}
 use Rattle.linked_demand.proofs.Demanded.{demands_at, ranks_told}
-use Rattle.linked_demand.proofs.Filling.{entry_there}
+use Rattle.linked_demand.proofs.RowsRight.{entry_there}
 use Rattle.linked_demand.proofs.HousedRows.{left_others, housed_by}
 use Rattle.linked_demand.proofs.RoundFalls.{rows_open}
 
@@ -59,13 +59,24 @@ pub record Houses (beds rank : ℕ) (old ys : List Rung) (o : Option ℕ) : Type
   pub many : IfSome o (λ m. beds < length (housed_in (noted rank old)))
 
 -- what the call reads
-pub houses_read : (beds rank own h : ℕ) (old ys : List Rung) (o : Option ℕ) (housed : List (List Rung))
+houses_read : (beds rank own h : ℕ) (old ys : List Rung) (o : Option ℕ) (housed : List (List Rung))
     → h < length housed → rank ≡ own → old ≡ get_or housed h old → Houses beds rank old ys o
     → Houses beds own (get_or housed h []) ys o
 houses_read beds rank own h old ys o housed lt is read houses =
     let P = λ (n : ℕ). Houses beds n old ys o in
     let Q = λ (xs : List Rung). Houses beds own xs ys o in
     subst Q (get_or_read housed h old lt read []) (subst P is houses)
+
+-- where its rank is read of the wish
+pub houses_sought : (links : LinksRow) (s : State) (k h beds : ℕ) (w : Wish) (old ys : List Rung) (o : Option ℕ)
+    (housed : List (List Rung)) → s ≡ links.state → w ≡ wish_in s.dossier.wishes k → h < length housed
+    → old ≡ get_or housed h old → Houses beds w.board_rank old ys o
+    → Houses beds (wish_in links.state.dossier.wishes k).board_rank (get_or housed h []) ys o
+houses_sought links s k h beds w old ys o housed state wish lt read houses =
+    let own = (wish_in links.state.dossier.wishes k).board_rank in
+    let is : w.board_rank ≡ own =
+    ap (λ (v : Wish). v.board_rank) wish ∙ ap (λ (t : State). (wish_in t.dossier.wishes k).board_rank) state in
+    houses_read beds w.board_rank own h old ys o housed lt is read houses
 
 module _ (links : LinksRow) (bars free : List ℕ) (rows : List (List RowWish)) (left : ℕ → Bool)
     (right : IsRound links bars free rows) (w : ℕ) (lt : w < length links.state.dossier.wishes) where

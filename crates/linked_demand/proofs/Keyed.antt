@@ -33,10 +33,7 @@ empty_more {X} n rows row are none = record {
   ];
 }
 
--- no item, an item at the end of one row
-pub put_nowhere : {X : Type 0} (x : X) (rows : List (Vec X Global)) → IsPutIn (λ h. false) x rows rows
-put_nowhere x rows = record { as_many = refl; each = λ h row at. (row, at, add_none row.items) }
-
+-- an item at the end of one row
 pub put_somewhere : {X : Type 0} (g : ℕ) (x : X) (rows : List (Vec X Global)) (before after : Vec X Global)
     → g < length rows → before ≡ get_or rows g before
     → after.items ≡ before.items ++ x ∷ [] → IsPutIn (λ h. nat_eq g h) x rows (set rows g after)
@@ -57,7 +54,7 @@ put_somewhere {X} g x rows before after lt read pushed = record {
   ];
 }
 
--- rows of no place, and of one more that is put in or belongs nowhere
+-- rows of no place, and of one more
 pub rows_none : {X : Type 0} (item : ℕ → X) (belongs : ℕ → ℕ → Bool) (n : ℕ) (rows : List (Vec X Global))
     → AreEmpty n rows → AreRowsOf item belongs n [] rows
 rows_none item belongs n rows none = record { one_each = none.as_many; each = none.each }
@@ -83,15 +80,6 @@ rows_more {X} item belongs n places i here x rows new lt here_is x_is are put = 
             ∙ sym (add_none (map item (filter (belongs h) (take i places))))
             ∙ sym (passed_over (belongs h) item places i lt fails)
       ];
-}
-
-pub rows_over : {X : Type 0} (item : ℕ → X) (belongs : ℕ → ℕ → Bool) (n : ℕ) (places : List ℕ) (i : ℕ)
-    (rows : List (Vec X Global)) → i < length places
-    → ((h : ℕ) → belongs h (get_or places i 0) ≡ false) → AreRowsOf item belongs n (take i places) rows
-    → AreRowsOf item belongs n (take (i + 1) places) rows
-rows_over item belongs n places i rows lt nowhere are = record {
-  one_each = are.one_each;
-  each = λ h row at. are.each h row at ∙ sym (passed_over (belongs h) item places i lt (nowhere h));
 }
 
 -- the programme of a wish stands in its dossier

@@ -2,18 +2,16 @@
 -- Tools: Keeping, Passing, Keyed, Dealing, Putting, PlaceOrder, Marked, Counting.
 -- The lineup: CalledRows, ClaimSpans, Seating, Lining, Lined.
 -- Open wishes and flags: Opens, Falling, Closing, Flagging, Waiting, AnyOpen, MaybeSure,
--- Boarding, Askings.
+-- Boarding, Shutting.
 -- How far seats reach: Reach, Leaving; the proposed wishes: Walking, Fronting, Listing, Fronted.
--- Rows of the schools: RowsTo, Filling, FirstBoarders, Items, RowSteps, RowFronts, Demanded, Naming.
+-- Rows of the schools: RowsTo, RowsRight, FirstBoarders, Items, RowSteps, RowFronts, Demanded, Naming.
 -- A wish is closed: Moving, Ticking, Marking, Staying; the end of a row falls: Cutting, Telling.
 -- A bar falls: OneFall, Answered, RoundFalls, TickLaw, Spending.
 -- Who has a bed: Rungs, RungSteps, HousedRows, HousedFronts, HousedAll, HousedWishes, HousedMarks, HousedFalls;
--- the answers: Asking.
+-- the answers: KeptAnswers.
 -- The system as a whole: BarEach, Rounding, and last Lowered.
 pub mod Answered
 pub mod AnyOpen
-pub mod Askings
-pub mod Asking
 pub mod BarEach
 pub mod CalledRows
 pub mod ClaimSpans
@@ -24,7 +22,6 @@ pub mod Cutting
 pub mod Dealing
 pub mod Demanded
 pub mod Falling
-pub mod Filling
 pub mod FirstBoarders
 pub mod Flagging
 pub mod Fronted
@@ -37,6 +34,7 @@ pub mod HousedRows
 pub mod HousedWishes
 pub mod Items
 pub mod Keeping
+pub mod KeptAnswers
 pub mod Keyed
 pub mod Leaving
 pub mod Lined
@@ -57,11 +55,13 @@ pub mod Reach
 pub mod RoundFalls
 pub mod RowFronts
 pub mod RowSteps
+pub mod RowsRight
 pub mod RowsTo
 pub mod Rounding
 pub mod RungSteps
 pub mod Rungs
 pub mod Seating
+pub mod Shutting
 pub mod Spending
 pub mod Staying
 pub mod Telling

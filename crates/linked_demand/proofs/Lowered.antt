@@ -26,7 +26,7 @@ use Rattle.linked_demand.specs.Rounds.{Round, IsRound, IsRoundAlong, IsRoundUnde
 use Rattle.linked_demand.specs.Housed.{AllHoused, kept, within}
 use Rattle.linked_demand.specs.Marks.{is_new, MarksWishes}
 use Rattle.linked_demand.specs.Ticks.{changes_between}
-use Rattle.linked_demand.proofs.Asking.{answers_all}
+use Rattle.linked_demand.proofs.KeptAnswers.{answers_all}
 use Rattle.linked_demand.proofs.Falling.{flag_map}
 use Rattle.linked_demand.proofs.HousedFalls.{all_fallen}
 use Rattle.linked_demand.proofs.HousedFronts.{nobody}

@@ -25,12 +25,7 @@ use Rattle.linked_demand.proofs.Falling.{flag_map, flags_fallen, in_front, row_f
 module _ (links : LinksRow) (bars free : List ℕ) (h to : ℕ) (rows : List (List RowWish))
     (row : List RowWish) (right : IsRound links bars free rows)
     (within : h < length bars) (found : slice_get rows h ≡ Some row) where
-  pub all_wait : AllWait links.state row
-  all_wait k x at =
-      let (w, m, waits) = (right.rows_are h row found).each k x at in
-      (w, m, waits.waits)
-
-  pub items_own : AreItems links.state links.orders row
+  items_own : AreItems links.state links.orders row
   items_own = right.items_are h row found
 
   pub round_fallen : (le : to ≤ slice_index bars h) (after : LinksRow) (kept : List RowWish)

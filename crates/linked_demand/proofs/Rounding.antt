@@ -28,7 +28,7 @@ use Rattle.linked_demand.specs.Demand.{is_proposed_at, over_at}
 use Rattle.linked_demand.proofs.BarEach.{bar_each_is, bar_each_set}
 use Rattle.linked_demand.proofs.Closing.{proposed_at_is}
 use Rattle.linked_demand.proofs.Falling.{flag_map}
-use Rattle.linked_demand.proofs.Filling.{entry_there}
+use Rattle.linked_demand.proofs.RowsRight.{entry_there}
 use Rattle.linked_demand.proofs.Fronting.{closed_at}
 use Rattle.linked_demand.proofs.Lining.{numbered}
 use Rattle.linked_demand.proofs.Opens.{proposed_by_bars}

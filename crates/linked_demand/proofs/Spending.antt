@@ -24,7 +24,7 @@ use Rattle.linked_demand.specs.Rows.{IsRow, closed, CutsAt}
 use Rattle.linked_demand.specs.Demand.{is_proposed_at}
 use Rattle.linked_demand.specs.Marks.{is_new}
 use Rattle.linked_demand.specs.Ticks.{becomes_barred, becomes_proposed, changes_between}
-use Rattle.linked_demand.proofs.Asking.{proposed_entry}
+use Rattle.linked_demand.proofs.KeptAnswers.{proposed_entry}
 use Rattle.linked_demand.proofs.Counting.{count_sum, count_alike, count_places}
 use Rattle.linked_demand.proofs.Falling.{is_wish_of, flag_closed, found_behind, flag_map}
 use Rattle.linked_demand.proofs.Reach.{count_true, count_false}

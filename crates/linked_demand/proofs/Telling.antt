@@ -109,7 +109,3 @@ module _ (start : LinksRow) (bars : List ℕ) (to : ℕ) (row : List RowWish)
   marks_told marked then after so_far more =
       let P = λ (t : State). MarksWishes t (is_new t bars now new) then after in
       marks_add start bars now new marked then after so_far (subst P (ap (λ (r : LinksRow). r.state) far.now_is) more)
-
-pub steps_end : (row kept : List RowWish) (end after sum : ℕ) → end ≤ length row → kept ≡ take end row
-    → after + end ≡ sum → after + length kept ≡ sum
-steps_end row kept end after sum le kept_is told = omega (arith, told, ap length kept_is, length-take-le end row le)

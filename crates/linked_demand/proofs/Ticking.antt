@@ -19,7 +19,7 @@ use Rattle.linked_demand.specs.Demand.{is_proposed_at}
 use Rattle.linked_demand.specs.Marks.{is_new, is_fresh, MarksWishes}
 use Rattle.linked_demand.proofs.Closing.{Closes, wish_of, places_below}
 use Rattle.linked_demand.proofs.Counting.{count_claim, count_entries, count_nothing}
-use Rattle.linked_demand.proofs.Filling.{entry_is}
+use Rattle.linked_demand.proofs.RowsRight.{entry_is}
 use Rattle.linked_demand.proofs.Lining.{among_claim}
 use Rattle.linked_demand.proofs.Marking.{marks_nothing, marks_weaker}
 

@@ -30,7 +30,7 @@ use Rattle.linked_demand.specs.Seats.{is_beside, is_doubled, same_school, shares
 use Rattle.linked_demand.specs.Wants.{AllNeedSeatAlone}
 use Rattle.linked_demand.proofs.Closing.{length_entries, wish_of}
 use Rattle.linked_demand.proofs.Falling.{flag_map}
-use Rattle.linked_demand.proofs.Filling.{entry_is, entry_there}
+use Rattle.linked_demand.proofs.RowsRight.{entry_is, entry_there}
 use Rattle.linked_demand.proofs.Lining.{among_claim}
 use Rattle.linked_demand.proofs.Seating.{wish_in_is}
 use Rattle.linked_demand.proofs.Marked.{marked_within}

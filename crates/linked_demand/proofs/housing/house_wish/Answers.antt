@@ -1,7 +1,5 @@
-use Rattle.std.proofs.Common.{◌≡◌, ◌<◌, ◌∙◌, ap, arith, length, refl, sym}
-use Rattle.admit_core.specs.State.{State}
-use Rattle.day_state.specs.Kept.{wish_in}
-use Rattle.linked_demand.proofs.HousedWishes.{nothing_sought, houses_read, housed_put, housed_quiet}
+use Rattle.std.proofs.Common.{◌<◌, ◌∙◌, arith, length, refl, sym}
+use Rattle.linked_demand.proofs.HousedWishes.{houses_sought, housed_put, housed_quiet, nothing_sought}
 use Rattle.linked_demand.proofs.housing.house_wish.Goals as goal
 
 pub returns-in_default-clause-all : goal.returns-in_default-clause-all
@@ -15,15 +13,12 @@ returns-then-is_some-clause-all c = λ bars rows left right all.
     let housed = c.args.housed.now.items in
     let within : h < length c.args.links.now.state.dossier.schools = c.in-Some.ensures.school h refl in
     let lt : h < length housed = omega (arith, within, c.requires.housed) in
-    let rank = c.wish_at-rank.result.board_rank in
-    let own = (wish_in c.args.links.now.state.dossier.wishes c.args.wish).board_rank in
-    let is : rank ≡ own =
-    ap (λ w. w.board_rank) c.wish_at-rank.ensures.wish
-    ∙ ap (λ (s : State). (wish_in s.dossier.wishes c.args.wish).board_rank) c.state.ensures in
     housed_put c.args.links.now bars c.args.free.now rows left right c.args.wish c.requires.wish
     c.args.overfilled.now housed all h (sym c.bed_sought.ensures.sought ∙ c.in-Some.is) c.house-over.result
-    c.house-over.new.self (houses_read _ rank own h c.index_mut.result.now c.house-over.new.self
-    c.house-over.result housed lt is c.index_mut.ensures.value (record {
+    c.house-over.new.self
+    (houses_sought c.args.links.now _ c.args.wish h _ _ c.index_mut.result.now c.house-over.new.self
+    c.house-over.result housed c.state.ensures c.wish_at-rank.ensures.wish lt c.index_mut.ensures.value
+    (record {
       stays = c.house-over.ensures.stays;
       few = c.house-over.ensures.few;
       gives_up = c.house-over.ensures.gives_up;
@@ -37,15 +32,12 @@ returns-else-is_some-clause-all c = λ bars rows left right all.
     let housed = c.args.housed.now.items in
     let within : h < length c.args.links.now.state.dossier.schools = c.in-Some.ensures.school h refl in
     let lt : h < length housed = omega (arith, within, c.requires.housed) in
-    let rank = c.wish_at-rank.result.board_rank in
-    let own = (wish_in c.args.links.now.state.dossier.wishes c.args.wish).board_rank in
-    let is : rank ≡ own =
-    ap (λ w. w.board_rank) c.wish_at-rank.ensures.wish
-    ∙ ap (λ (s : State). (wish_in s.dossier.wishes c.args.wish).board_rank) c.state.ensures in
     housed_quiet c.args.links.now bars c.args.free.now rows left right c.args.wish c.requires.wish
     c.args.overfilled.now housed all h (sym c.bed_sought.ensures.sought ∙ c.in-Some.is) c.house-over.result
-    c.house-over.new.self (houses_read _ rank own h c.index_mut.result.now c.house-over.new.self
-    c.house-over.result housed lt is c.index_mut.ensures.value (record {
+    c.house-over.new.self
+    (houses_sought c.args.links.now _ c.args.wish h _ _ c.index_mut.result.now c.house-over.new.self
+    c.house-over.result housed c.state.ensures c.wish_at-rank.ensures.wish lt c.index_mut.ensures.value
+    (record {
       stays = c.house-over.ensures.stays;
       few = c.house-over.ensures.few;
       gives_up = c.house-over.ensures.gives_up;

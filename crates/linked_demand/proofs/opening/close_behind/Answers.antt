@@ -4,7 +4,7 @@ use Rattle.std.proofs.lemmas.List.{get_or-map, length-map, length-set}
 use Rattle.day_state.specs.Kept.{has_bed_there}
 use Rattle.linked_demand.specs.declared.rows.RowWish.{RowWish}
 use Rattle.linked_demand.specs.Boarders.{items_wishes}
-use Rattle.linked_demand.proofs.Askings.{close_one}
+use Rattle.linked_demand.proofs.Shutting.{close_one}
 use Rattle.linked_demand.proofs.opening.close_behind.Goals as goal
 
 abbrev no_item : RowWish

@@ -11,7 +11,7 @@ use Rattle.admit_core.specs.Validity.{IsValid}
 use Rattle.linked_demand.specs.declared.rows.RowWish.{RowWish}
 use Rattle.linked_demand.specs.Boarders.{boards_in, items_wishes}
 use Rattle.linked_demand.specs.Rows.{row_item}
-use Rattle.linked_demand.proofs.Askings.{behind_is, shut_all, shut_more}
+use Rattle.linked_demand.proofs.Shutting.{behind_is, shut_all, shut_more}
 use Rattle.linked_demand.proofs.FirstBoarders.{by_rank_each, own_within}
 use Rattle.linked_demand.proofs.opening.open_under.Goals as goal
 

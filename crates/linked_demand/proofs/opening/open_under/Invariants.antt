@@ -1,4 +1,4 @@
-use Rattle.linked_demand.proofs.Askings.{AreShut}
+use Rattle.linked_demand.proofs.Shutting.{AreShut}
 use Rattle.linked_demand.proofs.opening.open_under.Given as goal
 
 abbrev pub invariant-loop-school : goal.invariant-loop-school

@@ -5,7 +5,7 @@ use Rattle.admit_core.specs.State.{State, free_beds}
 use Rattle.linked_demand.specs.Housed.{AllHoused}
 use Rattle.linked_demand.specs.Rounds.{IsRound}
 use Rattle.linked_demand.specs.Rows.{rows_to, AreEnds}
-use Rattle.linked_demand.proofs.Filling.{rows_right}
+use Rattle.linked_demand.proofs.RowsRight.{rows_right}
 use Rattle.linked_demand.proofs.FirstBoarders.{by_rank_each}
 use Rattle.linked_demand.proofs.HousedFronts.{nobody}
 use Rattle.linked_demand.proofs.Lowered.{round_built, answers_built}

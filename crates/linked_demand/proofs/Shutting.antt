@@ -22,7 +22,7 @@ use Rattle.linked_demand.specs.Boarders.{boards_in, items_wishes, AreByRank}
 use Rattle.linked_demand.specs.Opens.{opens_of}
 use Rattle.linked_demand.specs.Rows.{row_item, IsEnd}
 use Rattle.linked_demand.proofs.Boarding.{all_by_rank, front_of_end}
-use Rattle.linked_demand.proofs.Filling.{places_kept}
+use Rattle.linked_demand.proofs.RowsRight.{places_kept}
 use Rattle.linked_demand.proofs.HousedRows.{filter_among}
 use Rattle.linked_demand.proofs.Rounding.{opens_by_place}
 
