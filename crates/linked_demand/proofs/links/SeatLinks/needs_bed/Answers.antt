@@ -1,5 +1,5 @@
-use Rattle.std.proofs.Common.{◌≡◌, Bool, true, false, not, ap, length, refl, subst, sym, ◌∙◌}
-use Rattle.std.proofs.lemmas.Bool.{and_from, false≢true}
+use Rattle.std.proofs.Common.{◌≡◌, true, false, not, ap, length, refl, subst, sym, ◌∙◌}
+use Rattle.std.proofs.lemmas.Bool.{and_from, not-true}
 use Rattle.admit_core.specs.State.{is_waiting}
 use Rattle.day_state.specs.Kept.{has_bed_there, mark_in}
 use Rattle.linked_demand.specs.declared.rows.RowWish.{RowWish}
@@ -7,10 +7,6 @@ use Rattle.linked_demand.specs.Links.{LinksRow}
 use Rattle.linked_demand.specs.Seats.{shares_school}
 use Rattle.linked_demand.proofs.Waiting.{no_bed}
 use Rattle.linked_demand.proofs.links.SeatLinks.needs_bed.Goals as goal
-
-unset : (b : Bool) → not b ≡ true → b ≡ false
-unset true e = absurd (false≢true e)
-unset false e = refl
 
 pub returns-then-not-item : goal.returns-then-not-item
 returns-then-not-item c =
@@ -21,7 +17,7 @@ returns-then-not-item c =
     let (waits, long) =
     subst Q c.self.view_is (sym c.waits.ensures ∙ c.if-not-waits.false, c.self.invariant.reach.links.marks_each) in
     let single : shares_school s.dossier k ≡ false =
-    sym (ap (λ (x : RowWish). x.shared) c.requires.item) ∙ unset c.args.item.shared c.if-not-item.true in
+    sym (ap (λ (x : RowWish). x.shared) c.requires.item) ∙ not-true c.args.item.shared c.if-not-item.true in
     c.if-not-item.true
     ∙ sym (and_from (is_waiting (mark_in s.marks k)) (not (has_bed_there s k)) waits
     (ap not (no_bed s long k waits single)))
