@@ -49,6 +49,7 @@ impl PreferenceMixed {
     }
 
     /// Notes a wish of a candidate, unless they had one before; then answers that one.
+    #[inline(always)]
     fn note(&mut self, candidate: u32, own: FirstWish) -> Result<Option<FirstWish>, OutOfMemory>
         ensures first { IsLastCandidate (get nat_eq self.old.firsts) self.old.last →
             IfOk result (λ first. first ≡ get nat_eq self.old.firsts candidate) }

@@ -99,6 +99,7 @@ impl<'a> WhoIsRanked<'a> {
 
     /// Whether a candidate is ranked in the group of the programme at a place. Candidates are
     /// mostly asked for in their order.
+    #[inline(always)]
     pub(crate) fn has(&self, group: u32, candidate: u32, near: &mut Near, programme: usize) -> bool
         ensures { (t : Tables) → SaysWhoIsRanked t self.now →
             result ≡ is_in_group t candidate group }
