@@ -1,5 +1,5 @@
 -- Rows that are filled place by place.
-use Rattle.std.proofs.Common.{ℕ, ◌+◌, ◌<◌, ◌≡◌, Bool, false, List, [], ◌∷◌, ◌++◌, map, length, take, get_or, inl, inr}
+use Rattle.std.proofs.Common.{ℕ, ◌+◌, ◌<◌, ◌≡◌, Bool, List, [], ◌∷◌, ◌++◌, map, length, take, get_or, inl, inr}
 use Rattle.std.proofs.Common.{refl, sym, ◌∙◌, ap, arith, nat_eq, filter, Some, Vec, subst}
 use Rattle.std.specs.Prelude.{slice_get, if◌then◌else◌}
 use Rattle.std.specs.declared.alloc.Global.{Global}

@@ -14,7 +14,7 @@ use Rattle.admit_core.specs.State.{State, entries, holds_bed, is_school, is_wait
 use Rattle.linked_demand.specs.declared.rows.RowWish.{RowWish}
 use Rattle.linked_demand.specs.Links.{LinksRow}
 use Rattle.linked_demand.specs.Opens.{opens_of}
-use Rattle.linked_demand.specs.Rows.{needs_bed, row_in, row_item, AllWait, AreItems, AreOpen, CutsAt, IsOpenItem, IsRow}
+use Rattle.linked_demand.specs.Rows.{needs_bed, row_in, row_item, AreItems, AreOpen, CutsAt, IsOpenItem, IsRow}
 use Rattle.linked_demand.specs.Rounds.{IsRound}
 use Rattle.proposals.specs.Demands.{demands_of}
 use Rattle.linked_demand.specs.Demand.{is_proposed_at, firsts}
