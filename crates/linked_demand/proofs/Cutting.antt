@@ -93,7 +93,8 @@ module _ (s : State) (front : List RowWish) (n : ℕ) (x : RowWish) (at : slice_
 
   pub read_in_row : needs_bed s x ≡ true → x ≡ get_or (row_in s front) place x
   read_in_row pass =
-      sym (sym (unwrap_or-slice_get (row_in s front) place x) ∙ ap (λ (o : Option RowWish). unwrap_or o x) (in_row pass))
+      sym (sym (unwrap_or-slice_get (row_in s front) place x)
+      ∙ ap (λ (o : Option RowWish). unwrap_or o x) (in_row pass))
 
 pub so_far_cuts : (to : ℕ) (row : List RowWish) (start now : LinksRow) (end : ℕ) (kept : List RowWish)
     → SoFar to row start now end → kept ≡ take end row

@@ -333,4 +333,5 @@ pub all_of_front : (links : LinksRow) (front : List RowWish) (free i : ℕ) (xs 
 all_of_front links front free i xs le to rises =
     let row = row_in links.state front in
     let all = passing_all (needs_bed links.state) front i le in
-    all_housed (is_proposed_at links) row rises free (passing (needs_bed links.state) front i) xs (omega (arith, all)) to
+    all_housed (is_proposed_at links) row rises free (passing (needs_bed links.state) front i) xs
+    (omega (arith, all)) to

@@ -113,7 +113,8 @@ module _ {links : LinksRow} {ceilings bars free : List ℕ} {rows : List (List R
   module _ {new : LinksRow} {kept_row : List RowWish} (state : new.state ≡ links.state)
       (orders : new.orders ≡ links.orders) (cut : CutsAt to row links.opens kept_row new.opens) where
     pub round_now : IsRound new (set bars i to) free (set rows i kept_row)
-    round_now = round_fallen links bars free i to rows row right.round within_bars found le new kept_row state orders cut
+    round_now =
+        round_fallen links bars free i to rows row right.round within_bars found le new kept_row state orders cut
 
     now_opens : new.opens ≡ opens_of links.state (set bars i to)
     now_opens = round_now.opens_are ∙ ap (λ (s : State). opens_of s (set bars i to)) state

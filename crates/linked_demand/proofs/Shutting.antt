@@ -1,4 +1,4 @@
--- The flags of open wishes, from those of the waiting ones: of one school after another those behind its bar are closed.
+-- The flags of open wishes, from those of the waiting ones: of each school those behind its bar are closed.
 use Rattle.std.proofs.Common.{ℕ, ◌+◌, ◌<◌, ◌≡◌, Bool, true, false, not, ◌&&◌, ◌||◌, List, [], filter, map, length, get_or, inl}
 use Rattle.std.proofs.Common.{inr, set, subst, take, refl, sym, ◌∙◌, ap, arith, nat_eq, nat_le, nat_lt, drop, Option, Some, None, zero-add}
 use Rattle.std.specs.Prelude.{is_some}
@@ -232,5 +232,6 @@ close_one s wishes i p start flags new lt p_is within long each new_is k k_lt =
       | inr other ↦
           get_or-set_other flags p k value false (eqb-false k p other)
           ∙ each k k_lt
-          ∙ ap goal (sym (more ∙ ap (λ b. is_among k (take i wishes) || b) other ∙ or_false (is_among k (take i wishes))))
+          ∙ ap goal
+          (sym (more ∙ ap (λ b. is_among k (take i wishes) || b) other ∙ or_false (is_among k (take i wishes))))
     ]

@@ -212,7 +212,9 @@ all_open_wait s long bars opens is k opened =
 pub closed_wait : (s : State) (opens : List Bool) (i : ℕ) → AllOpenWait s opens → AllOpenWait s (set opens i false)
 closed_wait s opens i waits k opened =
     waits k (elim (cases_eq k i) [
-      | inl here ↦ absurd (false≢true (sym unset ∙ ap (λ (j : ℕ). get_or (set opens i false) j false) (sym here) ∙ opened))
+      | inl here ↦
+          let still = ap (λ (j : ℕ). get_or (set opens i false) j false) (sym here) ∙ opened in
+          absurd (false≢true (sym unset ∙ still))
       | inr other ↦ sym (get_or-set_other opens i k false false other) ∙ opened
     ])
   where

@@ -30,8 +30,8 @@ fn stops_by_closing(
     wanted && !wants
 }
 
-/// Whether the candidate of a wish that waits is live in its programme: they are not where they have
-/// no other one there.
+/// Whether the candidate of a wish that waits is live in its programme: they are not where they
+/// have no other one there.
 fn is_live_beside(state: &DayState<'_>, claim: &[u32], wish: u32) -> bool
     requires wish { wish < length state.now.dossier.wishes }
     requires alone { length claim.now ≡ 1 → has_seat_there state.now wish ≡ false }

@@ -19,7 +19,8 @@ use admit_core::OutOfMemory;
 use proposals::wish_at;
 use std::alloc::Global;
 
-/// The ranks of a school that have a bed, and the first demanded one that has none, if there is one.
+/// The ranks of a school that have a bed, and the first demanded one that has none, if there is
+/// one.
 #[derive(Drop)]
 struct Housing {
     housed: Housed,

@@ -32,8 +32,8 @@ use std::alloc::Global;
 use std::marker::Model;
 use std::sync::ledger::Ledger;
 
-/// Whether an open wish has a seat: by its place, which may be reached, or by need of none, which is
-/// asked of the others alone.
+/// Whether an open wish has a seat: by its place, which may be reached, or by need of none, which
+/// is asked of the others alone.
 fn is_seated(state: &DayState<'_>, early: &[bool], wish: u32, reached: bool) -> bool
     requires wish { wish < length state.now.dossier.wishes }
     requires early { length early.now ≡ length state.now.dossier.wishes }

@@ -78,8 +78,8 @@ impl<'a, 'd> Model for LinkedRound<'a, 'd> {
 impl<'a, 'd> LinkedRound<'a, 'd> {
     /// The schools of a state, with their bars at the ceilings.
     ///
-    /// It costs about the number of wishes: the walk along the call orders is the lineup's, as are the
-    /// boarders of each school by rank.
+    /// It costs about the number of wishes: the walk along the call orders is the lineup's, as are
+    /// the boarders of each school by rank.
     pub fn build(
         alloc: Global,
         state: &'a DayState<'d>,
