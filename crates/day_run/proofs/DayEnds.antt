@@ -1,13 +1,17 @@
 -- The next day of a campaign.
-use Rattle.std.proofs.Common.{ℕ, ◌+◌, ◌≡◌, true, List, subst, ap, refl, ◌∙◌, Option, Ok}
+use Rattle.std.proofs.Common.{ℕ, ◌+◌, ◌≡◌, true, false, List, subst, ap, refl, ◌∙◌, Option, Ok, Err}
 use Rattle.admit_core.specs.declared.records.DayRecord.{DayRecord}
 use Rattle.admit_core.specs.declared.records.Terms.{Terms}
-use Rattle.admit_core.specs.Days.{ceilings_of}
+use Rattle.admit_core.specs.Days.{ceilings_of, unfit_on}
 use Rattle.admit_core.specs.DossierRows.{DossierRows}
 use Rattle.admit_core.specs.EveningLaws.{last_bars}
+use Rattle.admit_core.specs.State.{State}
 use Rattle.day_run.specs.CampaignDays.{EndsNextDay, Progress, Stage, moment_of, progress}
+use Rattle.desk_day.proofs.DayEnds.{keeps_still, tells_none}
+use Rattle.desk_day.specs.AnswersOn.{IsUnfitOf}
 use Rattle.desk_day.specs.DeskStates.{DeskStates}
 use Rattle.desk_day.specs.RunDay.{Moment, IsDayDone}
+use Rattle.desk_day.specs.declared.refusal.DayRefusal.{DayRefusal}
 
 -- where it came about
 pub next_ran : (old p : Progress) (terms : Option Terms) (shown ceilings bars : List ℕ) (d : DossierRows)
@@ -49,4 +53,31 @@ next_ran old p terms shown ceilings bars d desk told told_after choice choice_af
       unopened = tt;
       untold = tt;
       choice = kept;
+    })
+
+-- where there was no memory for it
+pub next_refused : (old p : Progress) (desk : DeskStates) (told : List ℕ) (choice : List ℕ → List ℕ → ℕ)
+    (terms : Option Terms) (refusal : DayRefusal) → p ≡ old → terms ≡ p.terms
+    → IsUnfitOf p.present.dossier (p.day + 1) (unfit_on terms (p.day + 1) p.present) refusal
+    → desk.present ≡ p.present → desk.opening ≡ p.opening
+    → EndsNextDay (record { course = old; told = told; choice = choice })
+    (record {
+      course = progress p.orders p.terms p.day false desk p.bars p.ceilings;
+      told = told;
+      choice = choice;
+    })
+    (Err refusal)
+next_refused old p desk told choice terms refusal is terms_are unfit present opening =
+    let now = progress p.orders p.terms p.day false desk p.bars p.ceilings in
+    subst (λ (q : Progress). EndsNextDay (record { course = q; told = told; choice = choice })
+    (record { course = now; told = told; choice = choice }) (Err refusal)) is
+    (record {
+      runs = tt;
+      unfit = subst (λ (t : Option Terms). IsUnfitOf p.present.dossier (p.day + 1)
+          (unfit_on t (p.day + 1) p.present) refusal) terms_are unfit;
+      stays = record { present = present; bars = refl; ceilings = refl; counted = refl; has_day = refl };
+      same = record { orders = refl; terms = refl; dossier = ap (λ (s : State). s.dossier) present };
+      unopened = keeps_still p.opening desk.opening opening refusal;
+      untold = tells_none told told refl refusal;
+      choice = refl;
     })

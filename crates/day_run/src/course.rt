@@ -94,7 +94,9 @@ impl<'d> Course<'d> {
     {
         self.has_day = false;
         let day = self.day + 1;
-        let ceilings = ceilings_on(alloc, self.desk.now().dossier(), day)?;
+        let Ok(ceilings) = ceilings_on(alloc, self.desk.now().dossier(), day) else {
+            return Err(self.desk.refused(self.terms.as_ref(), day));
+        };
         let done = run_day_along(
             alloc,
             &mut self.desk,

@@ -76,9 +76,6 @@ fn run_alone(
 {
     match Roster::build(alloc, desk.now(), orders) {
         Ok(roster) => run_day_along(alloc, desk, &roster, ceilings, terms, day, picker),
-        Err(_) => {
-            desk.keep_evening();
-            Err(DayRefusal::OutOfMemory)
-        }
+        Err(_) => Err(desk.refused(terms, day)),
     }
 }

@@ -29,11 +29,11 @@ tells_on (Ok x) before after picks more = tt
 tells_on (Err e) before after picks more = (picks, more)
 
 -- nothing was told, and the opening is as it was
-keeps_still : (before after : State) → after ≡ before → (refusal : DayRefusal) → KeepsOpening before after refusal
+pub keeps_still : (before after : State) → after ≡ before → (refusal : DayRefusal) → KeepsOpening before after refusal
 keeps_still before after same (refusals.Unfit refusal) = same
 keeps_still before after same refusals.OutOfMemory = tt
 
-tells_none : (before after : List ℕ) → after ≡ before → (refusal : DayRefusal) → TellsNoneUnfit before after refusal
+pub tells_none : (before after : List ℕ) → after ≡ before → (refusal : DayRefusal) → TellsNoneUnfit before after refusal
 tells_none before after same (refusals.Unfit refusal) = same
 tells_none before after same refusals.OutOfMemory = tells_still before after same
 

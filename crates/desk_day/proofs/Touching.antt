@@ -208,12 +208,6 @@ morning_answered terms day s m lapsed beside long each m_is lapsed_is beside_is 
     (subst (λ (ks : List ℕ). IsAnsweredBut ks (morning terms day s)) (sym named)
     (untouched terms day s long each answered))
 
-pub morning_is : (terms : Option Terms) (day : ℕ) (s l m : State) → l ≡ after_lapse terms day s → l.dossier ≡ s.dossier
-    → m ≡ after_all l (stamp_of day 0) (answers_of l.dossier day) → m ≡ morning terms day s
-morning_is terms day s l m l_is same m_is =
-    m_is ∙ ap (λ (d : DossierRows). after_all l (stamp_of day 0) (answers_of d day)) same
-    ∙ ap (λ (t : State). after_all t (stamp_of day 0) (answers_of s.dossier day)) l_is
-
 pub morning_alike : (terms : Option Terms) (day : ℕ) (s m : State) (lapsed : List Lapse) (beside : List ℕ)
     → length s.marks ≡ length s.dossier.wishes
     → AreTermsFor s.dossier terms → m ≡ morning terms day s → lapsed ≡ lapsed_on terms day s

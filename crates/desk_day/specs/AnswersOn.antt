@@ -29,11 +29,12 @@ refusal_at place status = record { slot = Answers; row = place + 2; reason = Unf
 abbrev pub unfit_refusal : DossierRows → ℕ → ℕ × Status → Refusal
 unfit_refusal d day x = refusal_at (slice_index (places_on d day) x.0) x.1
 
--- a day is refused as unfit only by its first answer that does not fit
+-- a day is refused as unfit by its first answer that does not fit, and for want of memory only
+-- where each answer fits
 abbrev pub IsUnfitOf : DossierRows → ℕ → Option (ℕ × Status) → DayRefusal → Type 0
 IsUnfitOf d day unfit (refusals.Unfit refusal) =
     IsSomeAnd unfit (λ x. refusal ≡ unfit_refusal d day x)
-IsUnfitOf d day unfit refusals.OutOfMemory = Unit {0}
+IsUnfitOf d day unfit refusals.OutOfMemory = unfit ≡ None
 
 -- the answers of a day, from the place of the first one on
 pub record AreAnswersOn (d : DossierRows) (day first : ℕ) (answers : List Answer) : Type 0 where

@@ -1,5 +1,5 @@
 //! The ceilings of a day.
-ghost use Rattle.std.specs.Prelude.{◌≡◌, ◌<◌, All, IfOk, length, map};
+ghost use Rattle.std.specs.Prelude.{◌≡◌, ◌<◌, [], All, IfOk, IsOk, length, map};
 ghost use Rattle.admit_core.specs.Days.{ceilings_of};
 ghost use Rattle.desk_day.specs.Ceilings.{changed};
 
@@ -10,6 +10,7 @@ use std::alloc::Global;
 pub fn ceilings_on(alloc: Global, dossier: &Dossier, day: u32) -> Result<Vec<u32>, OutOfMemory>
     ensures ceilings { IfOk result (λ v. v.items ≡ ceilings_of dossier.now day) }
     ensures one_each { IfOk result (λ v. length v.items ≡ length dossier.now.schools) }
+    ensures always { dossier.now.schools ≡ [] → IsOk result }
 {
     let mut ceilings = own_ceilings(alloc, dossier)?;
     apply_changes(&mut ceilings, dossier.ceilings.as_slice(), day);
@@ -18,10 +19,15 @@ pub fn ceilings_on(alloc: Global, dossier: &Dossier, day: u32) -> Result<Vec<u32
 
 /// The schools' own ceilings.
 pub fn own_ceilings(alloc: Global, dossier: &Dossier) -> Result<Vec<u32>, OutOfMemory>
-    ensures { IfOk result (λ v. v.items ≡ map (λ school. school.ceiling) dossier.now.schools) }
+    ensures own { IfOk result (λ v. v.items ≡ map (λ school. school.ceiling) dossier.now.schools) }
+    ensures always { dossier.now.schools ≡ [] → IsOk result }
 {
     let schools = dossier.schools.as_slice();
-    Ok(schools.iter().map(|school| school.ceiling).collect(alloc)?)
+    let mut ceilings = Vec::new(alloc);
+    for school in schools {
+        ceilings.push(school.ceiling)?;
+    }
+    Ok(ceilings)
 }
 
 /// Puts the ceilings that count on a day in their places, a later one over an earlier one.

@@ -12,11 +12,11 @@ ghost use Rattle.desk_day.specs.RunDay.{EndsDay, IsDayDone};
 ghost use Rattle.desk_day.specs.Running.{IsUndone, moment_on};
 ghost use Rattle.round.specs.KeptFalls.{IsKeptOf};
 
-use crate::answers_on::answer;
 use crate::desk::{Desk, keep_evening};
 use crate::evening::record_day;
 use crate::idle::is_idle;
-use crate::lapses::lapse_offers;
+use crate::lapses::lapses_by;
+use crate::morning::make_morning;
 use crate::plan::DayPlan;
 use crate::refusal::DayRefusal;
 use crate::running::{Running, both};
@@ -172,6 +172,7 @@ pub struct Begun {
 }
 
 /// Makes the lapse and the answers of a day. A refusal may come in the midst of the answers.
+/// Whether they fit is found without memory: one that does not is never told as want of it.
 pub fn begin_day(
     alloc: Global,
     state: &mut DayState<'_>,
@@ -195,8 +196,9 @@ pub fn begin_day(
     ensures dossier { state.new.dossier ≡ state.old.dossier }
 {
     let _ = state.marks(); // one for each wish
-    let lapsed = lapse_offers(alloc, state, terms, day)?;
-    answer(state, day)?;
+    let lapsed = lapses_by(alloc, state, terms, day);
+    make_morning(state, terms, day)?;
+    let lapsed = lapsed?;
     let beside = list_touched(alloc, state, lapsed.as_slice(), day)?;
     Ok(Begun { lapsed, beside })
 }

@@ -1,35 +1,27 @@
 //! The lapse of a day.
 ghost use Rattle.std.specs.Prelude.{◌≡◌, ◌<◌, ◌≤◌, length, IfOk, pos, negsuc, ◌≤ℤ◌};
 ghost use Rattle.std.specs.Option.{option_copied};
-ghost use Rattle.admit_core.specs.Days.{after_lapse, lapsed_on};
+ghost use Rattle.admit_core.specs.Days.{lapsed_on};
 ghost use Rattle.admit_core.specs.Lapses.{AreTermsFor, lapses_of};
 
 use admit_core::{Lapse, OutOfMemory, Terms};
 use day_state::{DayState, lapses, offer_day};
 use std::alloc::Global;
 
-/// Ends the offers whose deadline has passed, where terms are given, and lists them.
-pub(crate) fn lapse_offers(
+/// The offers that lapse on a day, with their days, where terms are given.
+pub(crate) fn lapses_by(
     alloc: Global,
-    state: &mut DayState<'_>,
+    state: &DayState<'_>,
     terms: Option<&Terms>,
     day: u32,
 ) -> Result<Vec<Lapse>, OutOfMemory>
-    requires before { AreTermsFor state.old.dossier (option_copied terms) }
+    requires before { AreTermsFor state.now.dossier (option_copied terms) }
     requires day { day ≤ 366 }
-    ensures lapsed { IfOk result (λ v. v.items ≡ lapsed_on (option_copied terms.entry)
-        day state.old) }
-    ensures state { IfOk result (λ _. state.new ≡ after_lapse (option_copied terms.entry)
-        day state.old) }
-    ensures dossier { state.new.dossier ≡ state.old.dossier }
+    ensures { IfOk result (λ v. v.items ≡ lapsed_on (option_copied terms.entry) day state.now) }
 {
     match terms {
         None => Ok(Vec::new(alloc)),
-        Some(terms) => {
-            let lapsed = lapses_on(alloc, state, terms, day)?;
-            state.lapse(terms, day);
-            Ok(lapsed)
-        }
+        Some(terms) => lapses_on(alloc, state, terms, day),
     }
 }
 

@@ -18,6 +18,7 @@ mod once;
 mod passes;
 mod plan;
 mod refusal;
+mod refused;
 mod running;
 mod touched;
 

@@ -1,5 +1,5 @@
 //! Each candidate once, however many of their wishes are named.
-ghost use Rattle.std.specs.Prelude.{◌≡◌, ◌<◌, ◌++◌, length, OnOk};
+ghost use Rattle.std.specs.Prelude.{◌≡◌, ◌<◌, ◌+◌, ◌++◌, length, OnErr, OnOk, vec_capacity, vec_len};
 ghost use Rattle.admit_core.specs.DossierRows.{candidate_of};
 ghost use Rattle.desk_day.specs.DayPlaces.{AreWishesOf};
 ghost use Rattle.desk_day.specs.Once.{NamesSame};
@@ -51,6 +51,8 @@ pub fn ask_beside(
     ensures names { OnOk result (NamesSame state.now.dossier (places.old.items ++ offers.now)
         places.new.items) }
     ensures within { AreWishesOf state.now.dossier places.new.items }
+    ensures full { OnErr result
+        (vec_capacity places.old < vec_len places.old + length offers.now) }
 {
     places.extend_from_slice(offers)?;
     if is_answered {

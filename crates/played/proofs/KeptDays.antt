@@ -1,17 +1,18 @@
 -- Days that were played, of which the falls are kept or left out.
 use Rattle.std.proofs.Common.{◌≡◌, ◌∙◌, ℕ, ◌+◌, ◌<◌, Bool, true, List, [], ◌∷◌, ◌++◌, Option, Result, Ok, Err, IfOk}
 use Rattle.std.proofs.Common.{IsErrAnd, ap, map, refl, subst, sym}
-use Rattle.std.proofs.lemmas.List.{append-nil}
 use Rattle.std.proofs.lemmas.Result.{IfOk-weaker}
 use Rattle.admit_core.specs.CallOrder.{AreCallOrders}
-use Rattle.admit_core.specs.Days.{ceilings_of}
+use Rattle.admit_core.specs.Days.{ceilings_of, unfit_on}
 use Rattle.admit_core.specs.DossierRows.{DossierRows}
 use Rattle.admit_core.specs.declared.ranking.CallOrder.{CallOrder}
 use Rattle.admit_core.specs.declared.records.DayRecord.{DayRecord}
 use Rattle.admit_core.specs.declared.records.Terms.{Terms}
 use Rattle.admit_core.specs.declared.refusal.Refusal.{Refusal}
+use Rattle.desk_day.proofs.DayEnds.{tells_none}
 use Rattle.desk_day.proofs.KeptDays.{day_kept, day_whole, refusal_kept}
 use Rattle.desk_day.proofs.KeptPasses.{kept_more}
+use Rattle.desk_day.specs.AnswersOn.{IsUnfitOf}
 use Rattle.desk_day.specs.DeskStates.{DeskStates}
 use Rattle.desk_day.specs.KeptDays.{EndsDayKept, kept_day, kept_result}
 use Rattle.desk_day.specs.RunDay.{EndsDay, IsDayDone, Moment}
@@ -50,22 +51,23 @@ pub ends_with_kept : (keeps : Bool) (terms : Option Terms) (orders : List CallOr
 ends_with_kept keeps terms orders ceilings d before after r same ends =
     (ends.0, ends_with terms orders ceilings d before after ends.0 same ends.1, ends.2)
 
--- memory ran out before the day
+-- there was no memory for the day: nobody was asked
 pub ends_early : (keeps : Bool) (terms : Option Terms) (orders : List CallOrder) (d : ℕ) (before : Moment)
-    (r : Result DayRecord DayRefusal) → IsErrAnd r (λ e. e ≡ refusals.OutOfMemory)
-    → IsKeptOf (kept_result keeps) (DayEndsWith orders terms d before before) r
-ends_early keeps terms orders d before (Ok day) is = absurd is
-ends_early keeps terms orders d before (Err e) is = (
-  Err refusals.OutOfMemory,
+    (now : DeskStates) (refusal : DayRefusal)
+    → IsUnfitOf before.desk.present.dossier d (unfit_on terms d before.desk.present) refusal
+    → IsKeptOf (kept_result keeps) (DayEndsWith orders terms d before
+    (record { desk = now; told = before.told; choice = before.choice })) (Err refusal)
+ends_early keeps terms orders d before now refusal unfit = (
+  Err refusal,
   record {
     done = tt;
     evening = tt;
     dossier = tt;
-    unfit = tt;
-    untold = ([], sym (append-nil before.told));
+    unfit = unfit;
+    untold = tells_none before.told before.told refl refusal;
     choice = refl;
   },
-  ap Err is,
+  refl,
 )
 
 -- what is said of days that fit, and of none other

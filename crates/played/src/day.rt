@@ -36,7 +36,9 @@ fn run_with(
         (record { desk = desk.old; told = told picker.old; choice = choice picker.old })
         (record { desk = desk.new; told = told picker.new; choice = choice picker.new })) result }
 {
-    let ceilings = ceilings_on(alloc, desk.now().dossier(), day)?;
+    let Ok(ceilings) = ceilings_on(alloc, desk.now().dossier(), day) else {
+        return Err(desk.refused(terms, day));
+    };
     let plan = DayPlan {
         ceilings: &ceilings,
         terms,

@@ -6,45 +6,36 @@ use Rattle.admit_core.specs.declared.records.Lapse.{Lapse}
 use Rattle.admit_core.specs.declared.state.Mark.{Mark}
 use Rattle.admit_core.specs.DossierRows.{DossierRows}
 use Rattle.desk_day.proofs.DayPlaces.{lapsed_in}
-use Rattle.desk_day.proofs.Touching.{morning_alike, morning_answered, morning_is}
+use Rattle.desk_day.proofs.Touching.{morning_alike, morning_answered}
 use Rattle.desk_day.proofs.day.begin_day.Goals as goal
 
 pub list_touched-requires : goal.list_touched-requires
 list_touched-requires c =
     let s = c.args.state.now in
-    let same : c.answer.new.state.dossier ≡ s.dossier = c.answer.ensures.dossier ∙ c.in_ok-lapsed.ensures.dossier in
+    let same : c.make_morning.new.state.dossier ≡ s.dossier = c.make_morning.ensures.dossier in
     let P : DossierRows → Type 0 = λ d. All (λ (l : Lapse). l.wish < length d.wishes) c.as_slice.result.now in
     subst P (sym same) (All-same (λ (l : Lapse). l.wish < length s.dossier.wishes) c.as_slice.result.now _
-    (c.as_slice.ensures.value ∙ c.in_ok-lapsed.ensures.lapsed)
+    (c.as_slice.ensures.value ∙ c.in_ok-lapsed.ensures)
     (lapsed_in (option_copied c.args.terms) c.args.day s c.requires.before))
-
-pub returns-clause-state : goal.returns-clause-state
-returns-clause-state c =
-    morning_is (option_copied c.args.terms) c.args.day c.args.state.now c.lapse_offers.new.state c.answer.new.state
-    c.in_ok-lapsed.ensures.state c.in_ok-lapsed.ensures.dossier c.in_ok-answer.ensures.applied.1
 
 pub returns-clause-answered : goal.returns-clause-answered
 returns-clause-answered c =
     let s = c.args.state.now in
     let terms = option_copied c.args.terms in
-    let m = c.answer.new.state in
+    let m = c.make_morning.new.state in
     let long : length s.marks ≡ length s.dossier.wishes =
     ap (λ (ms : List Mark). length ms) (sym c.marks.ensures.marks) ∙ c.marks.ensures.one_each in
     morning_answered terms c.args.day s m c.as_slice.result.now c.in_ok-beside.beside.items long c.requires.before
-    (morning_is terms c.args.day s c.lapse_offers.new.state m c.in_ok-lapsed.ensures.state
-    c.in_ok-lapsed.ensures.dossier
-    c.in_ok-answer.ensures.applied.1)
-    (c.as_slice.ensures.value ∙ c.in_ok-lapsed.ensures.lapsed) c.in_ok-beside.ensures.listed
+    c.in_ok-make_morning.ensures.morning
+    (c.as_slice.ensures.value ∙ c.in_ok-lapsed.ensures) c.in_ok-beside.ensures.listed
 
 pub returns-clause-alike : goal.returns-clause-alike
 returns-clause-alike c =
     let s = c.args.state.now in
     let terms = option_copied c.args.terms in
-    let m = c.answer.new.state in
+    let m = c.make_morning.new.state in
     let long : length s.marks ≡ length s.dossier.wishes =
     ap (λ (ms : List Mark). length ms) (sym c.marks.ensures.marks) ∙ c.marks.ensures.one_each in
     morning_alike terms c.args.day s m c.as_slice.result.now c.in_ok-beside.beside.items long c.requires.before
-    (morning_is terms c.args.day s c.lapse_offers.new.state m c.in_ok-lapsed.ensures.state
-    c.in_ok-lapsed.ensures.dossier
-    c.in_ok-answer.ensures.applied.1)
-    (c.as_slice.ensures.value ∙ c.in_ok-lapsed.ensures.lapsed) c.in_ok-beside.ensures.listed
+    c.in_ok-make_morning.ensures.morning
+    (c.as_slice.ensures.value ∙ c.in_ok-lapsed.ensures) c.in_ok-beside.ensures.listed

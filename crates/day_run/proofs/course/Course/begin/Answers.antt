@@ -18,7 +18,7 @@ invariant_of-result c = record {
             (rw c.in_ok-desk.ensures.present c.requires.orders);
         before = rw c.in_ok-desk.ensures.present c.requires.before;
         bars =
-            ap (λ (l : List ℕ). length l) c.in_ok-bars.ensures
+            ap (λ (l : List ℕ). length l) c.in_ok-bars.ensures.own
             ∙ length-map c.args.dossier.now.schools (λ (s : School). s.ceiling)
             ∙ ap (λ (s : State). length s.dossier.schools) (sym c.in_ok-desk.ensures.present);
         last = λ t. absurd (false≢true t);

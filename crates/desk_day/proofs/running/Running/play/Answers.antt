@@ -32,7 +32,7 @@ returns-in_err-passes-clause-done g c = IfOk-from_err _ _ c.from_residual-in_err
 
 pub returns-in_err-passes-clause-undone : goal.returns-in_err-passes-clause-undone
 returns-in_err-passes-clause-undone g c = ran_out _ _ c.from_residual-in_err-passes.ensures.1
-    (record { unfit = tt; unopened = tt; untold = c.in_err-passes.ensures.early })
+    (record { unfit = c.in_ok-lapsed.ensures.fits; unopened = tt; untold = c.in_err-passes.ensures.early })
 
 pub returns-in_err-passes-clause-dossier : goal.returns-in_err-passes-clause-dossier
 returns-in_err-passes-clause-dossier g c = c.make_passes.ensures.dossier ∙ c.begin_day.ensures.dossier
@@ -42,7 +42,7 @@ returns-in_err-done-clause-done g c = IfOk-from_err _ _ c.from_residual-in_err-d
 
 pub returns-in_err-done-clause-undone : goal.returns-in_err-done-clause-undone
 returns-in_err-done-clause-undone g c = ran_out _ _ c.from_residual-in_err-done.ensures.1
-    (record { unfit = tt; unopened = tt; untold = (_, c.in_ok-passes.ensures.made.1.told_of) })
+    (record { unfit = c.in_ok-lapsed.ensures.fits; unopened = tt; untold = (_, c.in_ok-passes.ensures.made.1.told_of) })
 
 pub returns-in_err-done-clause-dossier : goal.returns-in_err-done-clause-dossier
 returns-in_err-done-clause-dossier g c = c.make_passes.ensures.dossier ∙ c.begin_day.ensures.dossier

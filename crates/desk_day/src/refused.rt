@@ -1,0 +1,50 @@
+//! Days for which there is no memory.
+ghost use Rattle.std.specs.Prelude.{◌≡◌};
+ghost use Rattle.std.specs.Option.{option_copied};
+ghost use Rattle.admit_core.specs.Days.{unfit_on};
+ghost use Rattle.admit_core.specs.Lapses.{AreTermsFor};
+ghost use Rattle.desk_day.specs.AnswersOn.{IsUnfitOf};
+
+use crate::desk::{Desk, keep_evening};
+use crate::morning::make_morning;
+use crate::refusal::DayRefusal;
+use crate::running::Running;
+use admit_core::Terms;
+
+impl Running<'_> {
+    /// Why a day does not come about for which there is no memory. Its lapse and its answers are
+    /// tried on the present state, which may be left in their midst.
+    fn refuse(&mut self, terms: Option<&Terms>, day: u32) -> DayRefusal
+        requires { AreTermsFor self.old.present.dossier (option_copied terms) }
+        ensures refusal { IsUnfitOf self.old.present.dossier day
+            (unfit_on (option_copied terms.entry) day self.old.present) result }
+        ensures opening { self.new.opening ≡ self.old.opening }
+        ensures dossier { self.new.present.dossier ≡ self.old.present.dossier }
+    {
+        self.is_answered = false;
+        self.is_alike = false;
+        match make_morning(&mut self.present, terms, day) {
+            Ok(()) => DayRefusal::OutOfMemory,
+            Err(refusal) => refusal,
+        }
+    }
+}
+
+impl Desk<'_> {
+    /// Why a day does not come about for which there is no memory: its first answer that does not
+    /// fit, and want of memory only where each fits. The state stays as it is.
+    pub fn refused(&mut self, terms: Option<&Terms>, day: u32) -> DayRefusal
+        requires { AreTermsFor self.old.present.dossier (option_copied terms) }
+        ensures refusal { IsUnfitOf self.old.present.dossier day
+            (unfit_on (option_copied terms.entry) day self.old.present) result }
+        ensures present { self.new.present ≡ self.old.present }
+        ensures evening { self.new.evening ≡ self.old.present }
+        ensures opening { self.new.opening ≡ self.old.opening }
+    {
+        keep_evening(&mut self.evening, self.running.now(), self.is_still);
+        let refusal = self.running.refuse(terms, day);
+        self.running.restore(&self.evening);
+        self.is_still = false;
+        refusal
+    }
+}
