@@ -8,13 +8,13 @@ use Rattle.bed_need.proofs.settled.counted_in.Goals as goal
 
 pub returns-clause-bars : goal.returns-clause-bars
 returns-clause-bars g c =
-    greatest_kept _ _ c.in_ok-round.ensures.system _ _ c.in_ok-bars.ensures c.in_ok-settle.ensures.greatest
+    greatest_kept _ _ c.in_ok-round.ensures.system _ _ c.in_ok-bars.ensures.bars c.in_ok-settle.ensures.greatest
 
 pub returns-clause-offers : goal.returns-clause-offers
 returns-clause-offers g c =
     let end = c.settle.new.system in
     c.in_ok-offers.ensures.offers
-    ∙ ap (proposed end.state end.orders) (sym c.in_ok-bars.ensures)
+    ∙ ap (proposed end.state end.orders) (sym c.in_ok-bars.ensures.bars)
     ∙ ap (λ (offers : List ℕ → List ℕ). offers c.in_ok-bars.bars.items)
     (c.settle.ensures.offers ∙ c.in_ok-round.ensures.offers)
 

@@ -18,16 +18,16 @@ returns-clause-pass g c =
       with_falls run.falls,
       record {
         is_pass = record {
-          greatest = greatest_kept _ _ c.in_ok-round.ensures.system _ _ (c.from_vec.ensures ∙ c.in_ok-bars.ensures)
+          greatest = greatest_kept _ _ c.in_ok-round.ensures.system _ _ (c.from_vec.ensures ∙ c.in_ok-bars.ensures.bars)
               c.in_ok-falls.ensures.greatest;
           falls = run_kept _ _ c.in_ok-round.ensures.system run.falls _ refl run.is_run;
           bars = bars_kept _ _ c.in_ok-round.ensures.system run.falls _ refl _ _
-              (c.from_vec.ensures ∙ c.in_ok-bars.ensures)
+              (c.from_vec.ensures ∙ c.in_ok-bars.ensures.bars)
               run.bars_fell;
           offers =
               c.from_vec-3.ensures
               ∙ c.in_ok-offers.ensures.offers
-              ∙ ap (proposed end.state end.orders) (sym (c.from_vec.ensures ∙ c.in_ok-bars.ensures))
+              ∙ ap (proposed end.state end.orders) (sym (c.from_vec.ensures ∙ c.in_ok-bars.ensures.bars))
               ∙ ap (λ (offers : List ℕ → List ℕ). offers c.from_vec.result)
               (c.lower.ensures.offers ∙ c.in_ok-round.ensures.offers);
         };
