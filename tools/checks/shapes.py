@@ -36,6 +36,7 @@ SHAPES = {
     "quits": Shape("offers_move", (5_000, 20_000), ("replay", "--days", "2")),
     "quits-ranked": Shape("offers_move_ranked", (5_000, 20_000), ("replay", "--days", "2")),
     "one-group": Shape("one_group", (50_000, 200_000)),
+    "one-group-market": Shape("one_group", (50_000, 200_000), ("market",)),
     "one-school": Shape("one_school", (50_000, 200_000)),
     "one-candidate": Shape("one_candidate", (5_000, 20_000)),
     "one-claim": Shape("one_claim", (5_000, 20_000)),
