@@ -11,15 +11,8 @@ use crate::named::Named;
 use crate::solution::Solved;
 use admit_core::{Dossier, OutOfMemory, Programme};
 use itoa::Buffer;
+use report::push_text;
 use std::alloc::{AllocError, Global};
-
-/// Adds some text.
-#[inline(always)]
-fn push_text(text: &mut String, added: &str) -> Result<(), AllocError>
-    ensures { Pushes result text.old text.new added.now }
-{
-    text.push_str(added)
-}
 
 /// Adds texts, one after another.
 #[inline(always)]
