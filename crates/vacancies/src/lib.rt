@@ -2,6 +2,7 @@
 //!
 //! `let beds = beds_left(&state, school);`
 #![tactic(auto)]
+
 ghost use Rattle.std.specs.Prelude.{◌≡◌, ◌<◌, length};
 ghost use Rattle.admit_core.specs.State.{free_beds, holds_bed, seats_left};
 ghost use Rattle.day_state.specs.Needs.{needs_seat};
