@@ -1,7 +1,7 @@
 -- What is open waits, and needs a seat where it is its candidate's only wish in its programme.
 use Rattle.std.proofs.Common.{ℕ, zero, suc, ◌<◌, ◌≡◌, Bool, true, false, not, ◌&&◌, ◌||◌, List, [], ◌∷◌, map, length}
 use Rattle.std.proofs.Common.{get_or, set, inl, inr, refl, sym, ◌∙◌, ap, arith, nat_eq, Option, Some, None, subst}
-use Rattle.std.specs.Prelude.{◌==◌, slice_get}
+use Rattle.std.specs.Prelude.{◌==◌, nat_lt, slice_get}
 use Rattle.std.specs.List.{list_any, range_with_len}
 use Rattle.std.proofs.Math.Bool.{or-false}
 use Rattle.std.proofs.lemmas.Bool.{cases_Bool, and_parts, and_from, eqb-true, eq-eqb, or_from, or_parts, false≢true}
@@ -26,7 +26,7 @@ use Rattle.day_state.specs.Kept.{mark_in, wish_in, lives_at, has_bed_there, has_
 use Rattle.day_state.proofs.Places.{own_any, candidate_in as candidate_is}
 use Rattle.linked_demand.specs.Links.{WaitsAt, AllOpenWait, NeedsSeatAlone, claim_of}
 use Rattle.linked_demand.specs.Opens.{line_of, opens_of, wanting_at}
-use Rattle.linked_demand.specs.Seats.{is_beside, is_doubled, same_school, shares_school}
+use Rattle.linked_demand.specs.Seats.{is_beside, is_doubled, same_school, may_share_school}
 use Rattle.linked_demand.specs.Wants.{AllNeedSeatAlone}
 use Rattle.linked_demand.proofs.Closing.{length_entries, wish_of}
 use Rattle.linked_demand.proofs.Falling.{flag_map}
@@ -89,9 +89,10 @@ module _ (s : State) (long : length s.marks ≡ length s.dossier.wishes) (k : �
       ∙ sym (own_any own s (candidate_of d k) long)
       ∙ none_lives own d s.marks k not_live (own_places d (candidate_of d k)) single
 
-  -- nor in its school where no other one has it
-  pub no_bed : is_waiting (mark_in s.marks k) ≡ true → shares_school s.dossier k ≡ false → has_bed_there s k ≡ false
-  no_bed waits single = by_school mine.school single
+  -- nor in its school where no other one can have it
+  pub no_bed : is_waiting (mark_in s.marks k) ≡ true → may_share_school s.dossier k ≡ false → has_bed_there s k ≡ false
+  no_bed waits single =
+      by_school mine.school (or_parts (nat_lt 16 (length (own_places d (candidate_of d k)))) _ single).1
     where
       by_school : (school : Option ℕ)
           → list_any (λ j. not (nat_eq j k) && same_school school (wish_in d.wishes j).school)

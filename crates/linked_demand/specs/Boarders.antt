@@ -10,7 +10,7 @@ use Rattle.linked_demand.specs.declared.boarders.Boarder.{Boarder}
 use Rattle.linked_demand.specs.declared.rows.RowWish.{RowWish}
 use Rattle.linked_demand.specs.Keyed.{AreRowsOf}
 use Rattle.linked_demand.specs.Rows.{item_at}
-use Rattle.linked_demand.specs.Seats.{boarders_of, shares_school}
+use Rattle.linked_demand.specs.Seats.{boarders_of, may_share_school}
 
 -- the record is that of its wish
 pub record IsBoarder (d : DossierRows) (b : Boarder) : Type 0 where
@@ -19,7 +19,7 @@ pub record IsBoarder (d : DossierRows) (b : Boarder) : Type 0 where
   pub rank : b.rank ≡ (wish_in d.wishes b.wish).board_rank
   pub programme : b.programme ≡ (wish_in d.wishes b.wish).programme
   pub there : b.school < length d.schools
-  pub shared : b.shared ≡ shares_school d b.wish
+  pub shared : b.shared ≡ may_share_school d b.wish
 
 abbrev pub wishes_of : List Boarder → List ℕ
 wishes_of bs = map (λ b. b.wish) bs

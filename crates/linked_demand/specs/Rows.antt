@@ -15,7 +15,7 @@ use Rattle.day_state.specs.Kept.{has_bed_there, mark_in, wish_in}
 use Rattle.linked_demand.specs.declared.rows.RowWish.{RowWish}
 use Rattle.linked_demand.specs.Links.{AllOpenWait, LinksRow, WaitsAt}
 use Rattle.linked_demand.specs.Opens.{line_of}
-use Rattle.linked_demand.specs.Seats.{shares_school}
+use Rattle.linked_demand.specs.Seats.{may_share_school}
 
 -- the place of a wish's candidate in the line of its programme
 abbrev pub line_place : DossierRows → List CallOrder → Wish → ℕ
@@ -28,7 +28,7 @@ item_of d orders k w = record {
   wish = k;
   programme = w.programme;
   place = line_place d orders w;
-  shared = shares_school d k;
+  shared = may_share_school d k;
 }
 
 -- and of the wish at a place

@@ -39,10 +39,12 @@ abbrev pub same_school : Option ℕ → Option ℕ → Bool
 same_school None o = false
 same_school (Some h) o = is_school o h
 
--- the candidate of the wish at a place has another one with its school
-abbrev pub shares_school : DossierRows → ℕ → Bool
-shares_school d k =
-    list_any (λ j. not (nat_eq j k)
+-- the candidate of the wish at a place may have another one with its school: they have more than 16
+-- wishes, or another one of theirs has it
+abbrev pub may_share_school : DossierRows → ℕ → Bool
+may_share_school d k =
+    nat_lt 16 (length (own_places d (candidate_of d k)))
+    || list_any (λ j. not (nat_eq j k)
     && same_school (wish_in d.wishes k).school (wish_in d.wishes j).school)
     (own_places d (candidate_of d k))
 

@@ -7,7 +7,7 @@ ghost use Rattle.day_state.specs.Kept.{wish_in};
 ghost use Rattle.linked_demand.specs.Boarders.{AreBoarders, AreByPlace, AreBySchool, IsBoarder};
 ghost use Rattle.linked_demand.specs.Links.{IsSeatPlace};
 ghost use Rattle.linked_demand.specs.Rows.{item_at};
-ghost use Rattle.linked_demand.specs.Seats.{boards_at, shares_school};
+ghost use Rattle.linked_demand.specs.Seats.{boards_at, may_share_school};
 
 use crate::rows::{RowWish, put_in, rows_with_room};
 use crate::wishes::wish_count;
@@ -16,8 +16,8 @@ use day_state::DayState;
 use proposals::{Ranked, sort_by_rank, wish_at};
 use std::alloc::Global;
 
-/// A wish with a school: its rank there, its programme, and whether its candidate has another wish
-/// with the school.
+/// A wish with a school: its rank there, its programme, and whether its candidate may have another
+/// wish with the school.
 #[derive(Clone, Copy)]
 struct Boarder {
     wish: u32,
@@ -55,14 +55,15 @@ fn has_other(state: &DayState<'_>, own: &[u32], wish: u32, school: u32) -> bool
     own.iter().any(|place| *place != wish && has_school(state, *place, school))
 }
 
-/// Whether the candidate of a wish has another one with its school.
-fn is_shared(state: &DayState<'_>, wish: u32, school: u32) -> bool
+/// Whether the candidate of a wish may have another one with its school. Of one with many wishes it
+/// is not asked: each of them would be asked about all others.
+fn may_share(state: &DayState<'_>, wish: u32, school: u32) -> bool
     requires wish { wish < length state.now.dossier.wishes }
     requires school { (wish_in state.now.dossier.wishes wish).school ≡ Some school }
-    ensures { result ≡ shares_school state.now.dossier wish }
+    ensures { result ≡ may_share_school state.now.dossier wish }
 {
     let own = state.own_wishes_beside(wish);
-    has_other(state, own, wish, school)
+    own.len() > 16 || has_other(state, own, wish, school)
 }
 
 /// The wish at a place, where it has a school.
@@ -80,7 +81,7 @@ fn boarder_at(state: &DayState<'_>, place: u32) -> Option<Boarder>
             school,
             rank: wish.board_rank,
             programme: wish.programme,
-            shared: is_shared(state, place, school),
+            shared: may_share(state, place, school),
         }),
     }
 }

@@ -4,7 +4,7 @@ use Rattle.admit_core.specs.State.{is_waiting}
 use Rattle.day_state.specs.Kept.{has_bed_there, mark_in}
 use Rattle.linked_demand.specs.declared.rows.RowWish.{RowWish}
 use Rattle.linked_demand.specs.Links.{LinksRow}
-use Rattle.linked_demand.specs.Seats.{shares_school}
+use Rattle.linked_demand.specs.Seats.{may_share_school}
 use Rattle.linked_demand.proofs.Waiting.{no_bed}
 use Rattle.linked_demand.proofs.links.SeatLinks.needs_bed.Goals as goal
 
@@ -16,7 +16,7 @@ returns-then-not-item c =
     × (length l.state.marks ≡ length l.state.dossier.wishes) in
     let (waits, long) =
     subst Q c.self.view_is (sym c.waits.ensures ∙ c.if-not-waits.false, c.self.invariant.reach.links.marks_each) in
-    let single : shares_school s.dossier k ≡ false =
+    let single : may_share_school s.dossier k ≡ false =
     sym (ap (λ (x : RowWish). x.shared) c.requires.item) ∙ not-true c.args.item.shared c.if-not-item.true in
     c.if-not-item.true
     ∙ sym (and_from (is_waiting (mark_in s.marks k)) (not (has_bed_there s k)) waits

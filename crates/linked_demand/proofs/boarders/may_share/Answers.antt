@@ -2,7 +2,7 @@ use Rattle.std.proofs.Common.{length}
 use Rattle.std.specs.Prelude.{◌==◌}
 use Rattle.admit_core.specs.DossierRows.{candidate_of}
 use Rattle.linked_demand.proofs.Keeping.{passing_within}
-use Rattle.linked_demand.proofs.boarders.is_shared.Goals as goal
+use Rattle.linked_demand.proofs.boarders.may_share.Goals as goal
 
 pub has_other-requires : goal.has_other-requires
 has_other-requires c =
