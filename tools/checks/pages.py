@@ -1,6 +1,7 @@
 """The runs in the pages: what stands behind `$` is run, and must give the bytes that stand below it.
 
-What a page links to, file and heading, and what it names as a path of the repository, must be there.
+What a page links to, file and heading, and what it names as a path of the repository, must be there; so must each
+clause that PROMISES cites (`promises.py`).
 
 A run stands in a fenced or an indented block. Each page has a copy of the repository to itself. A block begins at the
 page's own folder under `examples/`, else at the top; its lines go to one shell. Of an output, a last line `..` stands
@@ -18,6 +19,7 @@ from pathlib import Path
 from dossier.program import program
 from dossier.wording import Words
 
+from . import promises
 from .harness import TOP, Tally, run, scratch, until_told
 
 COPIED = ("README.md", "LISEZMOI.md", "docs", "examples", "tools")
@@ -99,6 +101,9 @@ def check_links(tally: Tally, name: Path) -> str:
     page = (TOP / name).read_text()
     check_paths(tally, page, (TOP / name).parent)
     check_anchors(tally, page, TOP / name)
+    if name == promises.PAGE:
+        unknown = promises.unknown_names(page)
+        tally.check("the crates have what it cites", not unknown, "\n".join(unknown))
     return page
 
 
@@ -167,9 +172,11 @@ def main(given: list[str]) -> int:
         "Runs what stands behind $ in the README, in docs/ and in examples/, and compares what is printed with the "
         "bytes below it. They run with the program that PARCOURS names in the environment, else with the script "
         "parcours, which builds the program first where it is not built, and that takes long. What a page links to, or "
-        "names as a path, must be there. The last line is `N passed, M failed`.",
+        "names as a path, must be there, and so must the clauses that PROMISES cites. The last line is `N passed, M "
+        "failed`.",
         "Status: 0 all passed, 1 some failed, 2 bad words.")
-    words.add_argument("--links", action="store_true", help="test links and paths alone, which needs no program")
+    words.add_argument("--links", action="store_true",
+                       help="test links, paths and clauses alone, which needs no program")
     return until_told(partial(check_pages, words.of(given).links))
 
 
