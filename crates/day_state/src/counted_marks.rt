@@ -237,7 +237,7 @@ impl<'d> CountedMarks<'d> {
     }
 
     /// Gives a wish a mark, where it has another one, and counts what its candidate frees.
-    fn set_other(&mut self, wish: u32, mark: Mark) -> Freed
+    pub fn set_other(&mut self, wish: u32, mark: Mark) -> Freed
         requires { wish < length self.old.marks }
         ensures state { self.new ≡ with_mark_at self.old wish mark }
         ensures freed { result ≡ freed_by self.old self.new (candidate_of self.old.dossier wish) }

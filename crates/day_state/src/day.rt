@@ -69,7 +69,7 @@ impl<'d> DayState<'d> {
         let index = Rc::new(alloc, CandidateIndex::build(alloc, dossier)?)?;
         let mut live = CountedMarks::waiting(alloc, dossier, index.order())?;
         for (place, status) in dossier.statuses.as_slice().iter().enumerate() {
-            live.set_mark(place as u32, first_mark(*status));
+            live.set_other(place as u32, first_mark(*status));
         }
         Ok(DayState { index, live })
     }
