@@ -1,5 +1,5 @@
 //! Call orders by a plain scan: for each position all who remain are gone through.
-ghost use Rattle.std.specs.Prelude.{IfOk, ◌≡◌, ◌&&◌, find, count_by, option_copied};
+ghost use Rattle.std.specs.Prelude.{IfOk, IsOk, ◌≡◌, [], ◌&&◌, find, count_by, option_copied};
 ghost use Rattle.std.specs.List.{list_any};
 ghost use Rattle.admit_core.specs.Lists.{is_among};
 ghost use Rattle.admit_core.specs.CallOrder.{called, remaining, binds, bound_after, may_be_called, next_after, IsCallOrder};
@@ -148,7 +148,8 @@ fn next_after(group: &RankGroup, before: &[u32]) -> Option<(u32, Bound)>
 /// The call order of a group by the plain scan, slowly: what `call_order` is compared with.
 pub fn call_order_scanned(alloc: Global, group: &RankGroup) -> Result<CallOrder, OutOfMemory>
     requires { IsRanking group.now }
-    ensures { IfOk result (IsCallOrder group.now) }
+    ensures order { IfOk result (IsCallOrder group.now) }
+    ensures always { group.now.list ≡ [] → IsOk result }
 {
     let mut list = Vec::new(alloc);
     let mut trace = Vec::new(alloc);

@@ -24,8 +24,8 @@ loop-candidate-preserved c =
     (calls_push c.args.group.now c.loop-candidate.list.items c.loop-candidate.trace.items c.in-Some.candidate
     c.in-Some.bound c.loop-candidate.invariant (next c))
 
-pub returns : goal.returns
-returns c =
+pub returns-clause-order : goal.returns-clause-order
+returns-clause-order c =
     rw (c.from_vec.ensures, c.from_vec-2.ensures)
     (calls_done c.args.group.now c.loop-candidate.list.items c.loop-candidate.trace.items c.loop-candidate.invariant
     (rw (← c.as_slice.ensures.value, ← c.next_after.ensures) c.in_default.is))
