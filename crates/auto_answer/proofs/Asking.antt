@@ -1,6 +1,6 @@
 -- Candidates are asked at their live wishes, and who has none is not changed.
-use Rattle.std.proofs.Common.{ℕ, ◌+◌, ◌≤◌, ◌<◌, ◌≡◌, true, false, ◌&&◌, ◌||◌, List, [], ◌∷◌, ◌++◌, length, inl, inr}
-use Rattle.std.proofs.Common.{refl, sym, ◌∙◌, ap, arith, nat_eq, zip, Option, Some, None}
+use Rattle.std.proofs.Common.{ℕ, ◌+◌, ◌≤◌, ◌<◌, ◌^◌, ◌≡◌, cond, true, false, ◌&&◌, ◌||◌, List, [], ◌∷◌, ◌++◌}
+use Rattle.std.proofs.Common.{length, inl, inr, refl, sym, ◌∙◌, ap, arith, nat_eq, zip, Option, Some, None}
 use Rattle.std.specs.Prelude.{◌==◌, nat_lt}
 use Rattle.std.proofs.lemmas.Bool.{cases_Bool, cases_eq, eqb-true, or_left, and_parts, and_from, false≢true}
 use Rattle.admit_core.specs.declared.dossier.Wish.{Wish}
@@ -14,13 +14,13 @@ use Rattle.admit_core.specs.AutoAnswer.{best_live, auto_one, auto_all, freed_by,
 use Rattle.day_state.specs.Kept.{mark_in, wish_in}
 use Rattle.day_state.proofs.OneAccepted.{who}
 use Rattle.day_state.proofs.Places.{candidate_in}
-use Rattle.auto_answer.specs.Asked.{is_live_ranked}
+use Rattle.auto_answer.specs.Asked.{IsCount, answered_at, asked_at, freed_asked, freed_at, freed_with, is_live_ranked}
 use Rattle.auto_answer.proofs.Again.{preference, ranked, least_stands, none_changed}
 use Rattle.auto_answer.proofs.Answering.{turned}
 use Rattle.auto_answer.proofs.Freeing.{passing_place}
 use Rattle.auto_answer.proofs.LawsOfAnswers.{same_own}
 use Rattle.auto_answer.proofs.NewOffers.{AreAnswered, answered_nobody, dossier_stays, among_more, among_last, one_more}
-use Rattle.auto_answer.proofs.NewOffers.{all_answered, wishes_here, at_start, next_room}
+use Rattle.auto_answer.proofs.NewOffers.{all_answered, wishes_here, at_start, counts_next}
 use Rattle.auto_answer.proofs.OwnMarks.{holds}
 
 -- who has no live wish that they rank has no best one
@@ -68,7 +68,7 @@ module _ (start now : State) (stamp : Stamp) (i : ℕ) (all : Freed) (so_far : A
       (sym same_rows)
 
   -- a wish that is not live now is passed over
-  pub passed_over : i < length start.dossier.wishes → is_live_ranked now i ≡ false
+  passed_over : i < length start.dossier.wishes → is_live_ranked now i ≡ false
       → AreAsked start now stamp (i + 1) all
   passed_over lt dead = record {
     asked = so_far.asked;
@@ -84,14 +84,13 @@ module _ (start now : State) (stamp : Stamp) (i : ℕ) (all : Freed) (so_far : A
     ];
   }
 
-  -- the candidate of a live wish is answered for: what is freed fits, and one more has been asked
-  pub room_for : (next : State) (own : Freed) → i < length start.dossier.wishes
-      → next ≡ auto_one now (candidate_of now.dossier i) stamp → own ≡ freed_by now next (candidate_of now.dossier i)
-      → (all.seats + own.seats ≤ length start.dossier.wishes) × (all.beds + own.beds ≤ length start.dossier.wishes)
-  room_for next own lt next_is own_is =
-      next_room start now next stamp so_far.asked i all own so_far.answered lt next_is own_is
+  -- the candidate of a wish may be answered for: what is freed fits
+  pub counts_there : i < length start.dossier.wishes → length start.dossier.wishes < 2 ^ 32
+      → IsCount (freed_at now i stamp all)
+  counts_there = counts_next start now stamp so_far.asked i all so_far.answered
 
-  pub one_asked : (next : State) (own next_all : Freed) → i < length start.dossier.wishes
+  -- the candidate of a live wish is answered for: one more has been asked
+  one_asked : (next : State) (own next_all : Freed) → i < length start.dossier.wishes
       → next ≡ auto_one now (candidate_of now.dossier i) stamp → own ≡ freed_by now next (candidate_of now.dossier i)
       → next_all ≡ record { seats = all.seats + own.seats; beds = all.beds + own.beds }
       → AreAsked start next stamp (i + 1) next_all
@@ -113,6 +112,25 @@ module _ (start now : State) (stamp : Stamp) (i : ℕ) (all : Freed) (so_far : A
               ∙ or_left (is_among c cs) (nat_eq c x || false) (so_far.each k (omega (arith, k_in, other)) live)
         ];
       }
+
+  -- one more wish has been gone along
+  pub asked_here : (next : State) (next_all : Freed) → i < length start.dossier.wishes
+      → next ≡ asked_at now i stamp → next_all ≡ freed_asked now i stamp all
+      → AreAsked start next stamp (i + 1) next_all
+  asked_here next next_all lt next_is all_is =
+      let there : State = answered_at now i stamp in
+      let own : Freed = freed_by now there (candidate_of now.dossier i) in
+      elim (cases_Bool (is_live_ranked now i)) [
+        | inl live ↦
+            let next_here : next ≡ there = next_is ∙ ap (λ b. cond b there now) live in
+            let all_here : next_all ≡ freed_with all own =
+            all_is ∙ ap (λ b. cond b (freed_with all own) all) live in
+            rw next_here (one_asked there own next_all lt refl refl all_here)
+        | inr dead ↦
+            let next_here : next ≡ now = next_is ∙ ap (λ b. cond b there now) dead in
+            let all_here : next_all ≡ all = all_is ∙ ap (λ b. cond b (freed_with all own) all) dead in
+            rw (next_here, all_here) (passed_over lt dead)
+      ]
 
   -- after the last wish all have been answered for
   pub all_asked : length start.dossier.wishes ≤ i

@@ -1,6 +1,6 @@
 -- Some candidates are answered for, at any of their wishes and maybe more than once; all others have been answered for.
-use Rattle.std.proofs.Common.{ℕ, ◌+◌, ◌≤◌, ◌<◌, ◌≡◌, true, false, not, ◌&&◌, ◌||◌, List, [], ◌∷◌, ◌++◌, map, length}
-use Rattle.std.proofs.Common.{take, get_or, inl, inr, refl, sym, ◌∙◌, ap, arith, nat_eq, sum}
+use Rattle.std.proofs.Common.{ℕ, ◌+◌, ◌≤◌, ◌<◌, ◌^◌, ◌≡◌, true, false, not, ◌&&◌, ◌||◌, List, [], ◌∷◌, ◌++◌, map}
+use Rattle.std.proofs.Common.{length, take, get_or, inl, inr, refl, sym, ◌∙◌, ap, arith, nat_eq, sum}
 use Rattle.std.specs.Prelude.{if◌then◌else◌}
 use Rattle.std.specs.List.{range_with_len}
 use Rattle.std.proofs.lemmas.Bool.{cases_Bool, cases_eq, eq-eqb, ne_eqb, or_left, or_right, or_parts, false≢true}
@@ -18,7 +18,7 @@ use Rattle.admit_core.specs.AutoAnswer.{auto_one, auto_all, seats_freed, beds_fr
 use Rattle.day_state.proofs.Along.{length-with_marks}
 use Rattle.day_state.proofs.Independence.{Agrees, agrees_self}
 use Rattle.day_state.proofs.Places.{candidate_in}
-use Rattle.auto_answer.specs.Asked.{wishers}
+use Rattle.auto_answer.specs.Asked.{IsCount, answered_at, freed_at, wishers}
 use Rattle.auto_answer.specs.Laws.{SameOwnMarks, AreAnsweredBut}
 use Rattle.auto_answer.proofs.Again.{answered_once}
 use Rattle.auto_answer.proofs.Answering.{all_mark, joined, one_other, one_here, same_freed, seats_of_all, beds_of_all}
@@ -255,8 +255,8 @@ at_start start now next stamp cs p all own so_far next_is own_is =
     let next_here : next ≡ auto_one now x stamp = next_is ∙ ap (λ (c : ℕ). auto_one now c stamp) x_is in
     (next_here, own_is ∙ ap (λ (c : ℕ). freed_by now next c) x_is ∙ ap (λ (t : State). freed_by now t x) next_here)
 
--- THE STEP, as the loop has it: what is freed fits, and one more has been answered for
-pub next_room : (start now next : State) (stamp : Stamp) (cs : List ℕ) (p : ℕ) (all own : Freed)
+-- THE STEP, as the loops have it: what is freed fits, and one more has been answered for
+next_room : (start now next : State) (stamp : Stamp) (cs : List ℕ) (p : ℕ) (all own : Freed)
     → AreAnswered start now stamp cs all
     → p < length start.dossier.wishes → next ≡ auto_one now (candidate_of now.dossier p) stamp
     → own ≡ freed_by now next (candidate_of now.dossier p)
@@ -265,17 +265,26 @@ next_room start now next stamp cs p all own so_far lt next_is own_is =
     let (next_here, own_here) = at_start start now next stamp cs p all own so_far next_is own_is in
     rw own_here (room start now stamp (candidate_of start.dossier p) cs all so_far (wishes_here start.dossier p lt))
 
-pub next_place : (start now next : State) (stamp : Stamp) (places : List ℕ) (i p : ℕ) (all own next_all : Freed)
+pub counts_next : (start now : State) (stamp : Stamp) (cs : List ℕ) (p : ℕ) (all : Freed)
+    → AreAnswered start now stamp cs all → p < length start.dossier.wishes
+    → length start.dossier.wishes < 2 ^ 32 → IsCount (freed_at now p stamp all)
+counts_next start now stamp cs p all so_far lt few =
+    let fits = next_room start now (answered_at now p stamp) stamp cs p all
+    (freed_by now (answered_at now p stamp) (candidate_of now.dossier p)) so_far lt refl refl in
+    record { seats = omega (arith, fits.0, few); beds = omega (arith, fits.1, few) }
+
+pub next_place : (start now next : State) (stamp : Stamp) (places : List ℕ) (i p : ℕ) (all next_all : Freed)
     → AreAnswered start now stamp (first_candidates start.dossier places i) all
     → i < length places → get_or places i 0 ≡ p → p < length start.dossier.wishes
-    → next ≡ auto_one now (candidate_of now.dossier p) stamp → own ≡ freed_by now next (candidate_of now.dossier p)
-    → next_all ≡ record { seats = all.seats + own.seats; beds = all.beds + own.beds }
+    → next ≡ answered_at now p stamp → next_all ≡ freed_at now p stamp all
     → AreAnswered start next stamp (first_candidates start.dossier places (i + 1)) next_all
-next_place start now next stamp places i p all own next_all so_far lt here in_range next_is own_is in_all =
+next_place start now next stamp places i p all next_all so_far lt here in_range next_is in_all =
     let cs = first_candidates start.dossier places i in
     let x = candidate_of start.dossier p in
-    let (next_here, own_here) = at_start start now next stamp cs p all own so_far next_is own_is in
-    rw (more_candidates start.dossier places i p lt here, next_here)
+    let there : State = answered_at now p stamp in
+    let own : Freed = freed_by now there (candidate_of now.dossier p) in
+    let (next_here, own_here) = at_start start now there stamp cs p all own so_far refl refl in
+    rw (more_candidates start.dossier places i p lt here, next_is ∙ next_here)
     (one_more start now stamp x cs all so_far next_all (wishes_here start.dossier p in_range)
     (ap (λ (f : Freed). f.seats) in_all ∙ ap (λ (f : Freed). all.seats + f.seats) own_here)
     (ap (λ (f : Freed). f.beds) in_all ∙ ap (λ (f : Freed). all.beds + f.beds) own_here))

@@ -1,7 +1,7 @@
 //! The automatic answers.
 ghost use Rattle.std.specs.Prelude.{◌≡◌, ◌<◌, All, length};
 ghost use Rattle.admit_core.specs.AutoAnswer.{auto_one, auto_all, freed_by, freed};
-ghost use Rattle.auto_answer.specs.Asked.{is_live_ranked};
+ghost use Rattle.auto_answer.specs.Asked.{IsCount, answered_at, asked_at, freed_asked, freed_at, is_live_ranked};
 ghost use Rattle.auto_answer.specs.Laws.{AreAnsweredBut};
 
 use admit_core::{Freed, Stamp};
@@ -27,10 +27,7 @@ pub fn auto_all(state: &mut DayState<'_>, stamp: Stamp) -> Freed
     let mut all = Freed { seats: 0, beds: 0 };
     let count = state.dossier().wishes.len() as u32;
     for place in 0..count {
-        if is_live_ranked(state, place) {
-            let own = state.answer_beside(place, stamp);
-            all = freed_in_all(all, own);
-        }
+        all = ask_at(state, place, stamp, all);
     }
     all
 }
@@ -49,10 +46,35 @@ pub fn auto_some(state: &mut DayState<'_>, places: &[u32], stamp: Stamp) -> Free
     let _ = state.dossier().wishes.len(); // at most 16,000,000
     let mut all = Freed { seats: 0, beds: 0 };
     for place in places {
-        let own = state.answer_beside(*place, stamp);
-        all = freed_in_all(all, own);
+        all = answer_at(state, *place, stamp, all);
     }
     all
+}
+
+/// Answers for the candidate of a wish. It answers what that frees and what was freed before, in
+/// all.
+fn answer_at(state: &mut DayState<'_>, place: u32, stamp: Stamp, before: Freed) -> Freed
+    requires place { place < length state.old.dossier.wishes }
+    requires counts { IsCount (freed_at state.old place stamp before) }
+    ensures state { state.new ≡ answered_at state.old place stamp }
+    ensures freed { result ≡ freed_at state.old place stamp before }
+{
+    let own = state.answer_beside(place, stamp);
+    freed_in_all(before, own)
+}
+
+/// The same where the wish is live and its candidate ranks their wishes; else nothing.
+fn ask_at(state: &mut DayState<'_>, place: u32, stamp: Stamp, before: Freed) -> Freed
+    requires place { place < length state.old.dossier.wishes }
+    requires counts { IsCount (freed_at state.old place stamp before) }
+    ensures state { state.new ≡ asked_at state.old place stamp }
+    ensures freed { result ≡ freed_asked state.old place stamp before }
+{
+    if is_live_ranked(state, place) {
+        answer_at(state, place, stamp, before)
+    } else {
+        before
+    }
 }
 
 /// Whether a wish is live, and its candidate ranks their wishes.
