@@ -258,6 +258,10 @@ module _ {s : State} {orders : List CallOrder} {ceilings bars : List ℕ} {line 
 
   module _ {over : ℕ} (seen : IsLookedUp s orders ceilings bars line h (Some over))
       (under : IsAtMost bars ceilings) where
+    pub school_over : is_overfilled (boarding s orders ceilings) bars (school_of_line s line) ≡ true
+    school_over = ap (is_overfilled (boarding s orders ceilings) bars) seen.is
+        ∙ is_over s orders ceilings bars line h seen.is seen.lt under over seen.told
+
     pub over_from_one : 1 ≤ over
     over_from_one = from_one s orders ceilings bars line h seen.is seen.lt under over seen.told
 

@@ -14,6 +14,8 @@ use Rattle.admit_core.specs.declared.chain.ChainReason.{ChainReason}
 use Rattle.admit_core.specs.declared.chain.ChainReason.TheVariants.{NotLine, WrongNumber, NoEnd, AfterEnd}
 use Rattle.certificate.specs.declared.line.Line.{Line}
 use Rattle.certificate.specs.declared.line.Line.TheVariants.{Day, Pass, Fall, End}
+use Rattle.certificate.specs.declared.line.Kind.{Kind}
+use Rattle.certificate.specs.declared.line.Kind.TheVariants as kinds
 
 -- what stands between the bytes that part a text
 abbrev pub parts : ℕ → List ℕ → List (List ℕ)
@@ -65,26 +67,44 @@ line_of row [] = None
 line_of row (word ∷ []) = if is_word word (codes "end") then Some End else None
 line_of row (word ∷ next ∷ words) = option_and_then (line_with row word) (numbers (next ∷ words))
 
+-- what a line is, without what a fall names
+abbrev pub kind_of : Line → Kind
+kind_of (Day n) = kinds.Day n
+kind_of (Pass k) = kinds.Pass k
+kind_of (Fall f) = kinds.Fall
+kind_of End = kinds.End
+
 -- why a line may not stand after day lines up to this number and pass lines of the last day up to
 -- that; 0 is none yet
+abbrev pub misplaced_at : ℕ → ℕ → Kind → Option ChainReason
+misplaced_at day pass (kinds.Day n) =
+    if nat_eq n (day + 1) && nat_le n 366 then None else Some WrongNumber
+misplaced_at day pass (kinds.Pass k) = if nat_eq day 0 then Some NotLine
+    else if nat_eq k (pass + 1) then None else Some WrongNumber
+misplaced_at day pass kinds.Fall = if nat_eq pass 0 then Some NotLine else None
+misplaced_at day pass kinds.End = None
+
 abbrev pub misplaced : ℕ → ℕ → Option Line → Option ChainReason
 misplaced day pass None = Some NotLine
-misplaced day pass (Some (Day n)) =
-    if nat_eq n (day + 1) && nat_le n 366 then None else Some WrongNumber
-misplaced day pass (Some (Pass k)) = if nat_eq day 0 then Some NotLine
-    else if nat_eq k (pass + 1) then None else Some WrongNumber
-misplaced day pass (Some (Fall f)) = if nat_eq pass 0 then Some NotLine else None
-misplaced day pass (Some End) = None
+misplaced day pass (Some line) = misplaced_at day pass (kind_of line)
 
 -- the numbers of the last day and pass lines after a line
+abbrev pub day_by : ℕ → Kind → ℕ
+day_by day (kinds.Day n) = n
+day_by day _ = day
+
+abbrev pub pass_by : ℕ → Kind → ℕ
+pass_by pass (kinds.Day n) = 0
+pass_by pass (kinds.Pass k) = k
+pass_by pass _ = pass
+
 abbrev pub day_after : ℕ → Option Line → ℕ
-day_after day (Some (Day n)) = n
-day_after day _ = day
+day_after day None = day
+day_after day (Some line) = day_by day (kind_of line)
 
 abbrev pub pass_after : ℕ → Option Line → ℕ
-pass_after pass (Some (Day n)) = 0
-pass_after pass (Some (Pass k)) = k
-pass_after pass _ = pass
+pass_after pass None = pass
+pass_after pass (Some line) = pass_by pass (kind_of line)
 
 -- what lines say: further falls of the pass that is open before them, with the row that ends it;
 -- further passes of the day that is open, with the row that ends it; and further days
@@ -135,9 +155,13 @@ said_with row None None others = others
 said_with row (Some line) None (Err fault) = Err fault
 said_with row (Some line) None (Ok said) = Ok (with_line row line said)
 
+abbrev pub is_end_kind : Kind → Bool
+is_end_kind kinds.End = true
+is_end_kind _ = false
+
 abbrev pub is_end : Option Line → Bool
-is_end (Some End) = true
-is_end _ = false
+is_end None = false
+is_end (Some line) = is_end_kind (kind_of line)
 
 -- what the lines from a row on say, each ended by a line feed, after day and pass lines of these
 -- numbers; or the first fault

@@ -1,4 +1,6 @@
 pub mod Grammar
+pub mod Kinds
+pub mod Faults
 pub mod TextGrammar
 pub mod Open
 pub mod WorkedTexts

@@ -1,10 +1,11 @@
 //! The falls of a pass, tested line by line.
-ghost use Rattle.std.specs.Prelude.{◌≡◌, ◌<◌, ◌==◌, ◌&&◌, Some, IfOk, OnOk, length, option_map, slice_index};
+ghost use Rattle.std.specs.Prelude.{◌≡◌, ◌<◌, ◌==◌, ◌&&◌, Err, IfOk, OnOk, length, option_map, slice_index, true};
 ghost use Rattle.admit_core.specs.Boarding.{boarding};
 ghost use Rattle.admit_core.specs.Chains.{bars_by, first_overfilled, line_fault, lines_fault, pass_fault, school_of_line};
-ghost use Rattle.admit_core.specs.Falls.{IsAtMost};
+ghost use Rattle.admit_core.specs.Falls.{IsAtMost, is_overfilled};
 ghost use Rattle.admit_core.specs.Proposals.{proposed};
 ghost use Rattle.certificate.specs.Checked.{Finds, ids_in};
+ghost use Rattle.certificate.specs.declared.stop.CheckStop.TheVariants as stops;
 
 use crate::grounds::Grounds;
 use crate::named::{ranks_up_to, show_ranks};
@@ -25,7 +26,8 @@ fn tells_bars(line: &FallLine, from: u32, to: u32) -> bool
     line.from == from && line.to == to
 }
 
-/// Tests the line of a fall at the present bars, and answers the place of its school.
+/// Tests the line of a fall at the present bars, and answers the place of its school. It takes
+/// memory only where the school is overfilled.
 fn check_line(
     alloc: Global,
     round: &LinkedRound<'_, '_>,
@@ -42,6 +44,9 @@ fn check_line(
     ensures school { IfOk result (λ h. h ≡ school_of_line state.now line.now) }
     ensures within { IfOk result (λ h. h < length round.now.ceilings) }
     ensures falls { IfOk result (λ h. line.now.to < slice_index round.now.bars h) }
+    ensures over { result ≡ Err stops.OutOfMemory → is_overfilled
+        (boarding state.now round.now.orders round.now.ceilings) round.now.bars
+        (school_of_line state.now line.now) ≡ true }
 {
     let _ = state.marks(); // one for each wish
     let row = line.row;

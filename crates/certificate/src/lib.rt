@@ -13,6 +13,7 @@ mod check;
 mod cut;
 mod desk;
 mod falls;
+mod fault;
 mod grounds;
 mod line;
 mod named;

@@ -1,6 +1,6 @@
 //! A line of a chain.
-ghost use Rattle.std.specs.Prelude.{◌≡◌, IfOk, Some, option_map};
-ghost use Rattle.certificate.specs.Grammar.{fall_at, is_end, line_of, line_with, number, numbers, only, parts, is_word};
+ghost use Rattle.std.specs.Prelude.{◌≡◌, IfOk, option_map};
+ghost use Rattle.certificate.specs.Grammar.{fall_at, is_end_kind, kind_of, line_of, line_with, number, numbers, only, parts, is_word};
 
 use crate::cut::cut;
 use admit_core::{FallLine, OutOfMemory, Sequence};
@@ -15,18 +15,42 @@ pub(crate) enum Line {
     End,
 }
 
-/// Whether a line is the last one.
-pub(crate) fn is_end(line: &Line) -> bool
-    ensures { result ≡ is_end (Some line.now) }
-{
-    match line {
-        Line::End => true,
-        _ => false,
+/// What a line is, without what a fall names.
+#[derive(Clone, Copy)]
+pub(crate) enum Kind {
+    Day(u32),
+    Pass(u32),
+    Fall,
+    End,
+}
+
+impl Line {
+    pub(crate) fn kind(&self) -> Kind
+        ensures { result ≡ kind_of self.now }
+    {
+        match self {
+            Line::Day(number) => Kind::Day(*number),
+            Line::Pass(number) => Kind::Pass(*number),
+            Line::Fall(_) => Kind::Fall,
+            Line::End => Kind::End,
+        }
+    }
+}
+
+impl Kind {
+    /// Whether it is the last line of a chain.
+    pub(crate) fn is_end(self) -> bool
+        ensures { result ≡ is_end_kind self }
+    {
+        match self {
+            Kind::End => true,
+            _ => false,
+        }
     }
 }
 
 /// The number of a word.
-fn number_of(word: &[u8]) -> Option<u32>
+pub(crate) fn number_of(word: &[u8]) -> Option<u32>
     ensures { result ≡ number word.now }
 {
     let value = dossier_csv::number_of(word)?;
@@ -89,7 +113,7 @@ fn fall_at(row: u64, numbers: Vec<u32>) -> Option<FallLine>
 }
 
 /// Whether a word is this one.
-fn is_word(word: &[u8], other: &str) -> bool
+pub(crate) fn is_word(word: &[u8], other: &str) -> bool
     ensures { result ≡ is_word word.now other.now }
 {
     word == other.as_bytes()

@@ -1,12 +1,13 @@
 //! The chain that a text writes.
-ghost use Rattle.std.specs.Prelude.{◌≡◌, ◌+◌, ◌<◌, ◌^◌, IfOk};
+ghost use Rattle.std.specs.Prelude.{◌≡◌, ◌+◌, ◌<◌, ◌^◌, Err, IfOk, IsOk};
 ghost use Rattle.certificate.specs.Counted.{IsCounted};
-ghost use Rattle.certificate.specs.Grammar.{end_at, fault_at, parts, read, unended_at};
-ghost use Rattle.certificate.specs.Open.{Answers, chain_with};
+ghost use Rattle.certificate.specs.Grammar.{end_at, fault_at, parts, read};
+ghost use Rattle.certificate.specs.Open.{Answers, Refuses, chain_with};
 ghost use Rattle.certificate.specs.declared.refusal.ChainRefusal.TheVariants as refused;
 
 use crate::cut::cut;
-use crate::line::{is_end, line_of};
+use crate::fault::{first_fault, unended};
+use crate::line::line_of;
 use crate::reading::Reading;
 use crate::refusal::ChainRefusal;
 use admit_core::{Chain, ChainFault, ChainReason, Sequence};
@@ -17,18 +18,6 @@ fn fault_at(row: u64, reason: ChainReason) -> ChainRefusal
     ensures { result ≡ refused.Fault (fault_at row reason) }
 {
     ChainRefusal::Fault(ChainFault { row, reason })
-}
-
-/// The refusal of a text that ends before an `end` line, with these bytes of its last row.
-fn unended(row: u64, rest: &[u8]) -> ChainRefusal
-    ensures { result ≡ refused.Fault (fault_at row (unended_at rest.now)) }
-{
-    let reason = if rest.is_empty() {
-        ChainReason::NoEnd
-    } else {
-        ChainReason::NotLine
-    };
-    fault_at(row, reason)
 }
 
 /// The chain that an `end` line ends, where nothing follows it.
@@ -44,10 +33,9 @@ fn ended(alloc: Global, reading: Reading, row: u64, after: &[u8]) -> Result<Chai
     Ok(Chain { days })
 }
 
-/// The chain that a text writes, or its first fault. It takes time by the length of the text.
-pub fn read_chain(alloc: Global, bytes: &[u8]) -> Result<Chain, ChainRefusal>
-    ensures exact { Answers (λ chain. chain) result (read bytes.now) }
-    ensures counted { IfOk result IsCounted }
+/// The chain that a text writes, or its first fault, unless memory runs out before it is found.
+fn read_lines(alloc: Global, bytes: &[u8]) -> Result<Chain, ChainRefusal>
+    ensures { Answers (λ chain. chain) result (read bytes.now) }
 {
     let mut reading = Reading::new(alloc);
     let mut rest = bytes;
@@ -56,15 +44,41 @@ pub fn read_chain(alloc: Global, bytes: &[u8]) -> Result<Chain, ChainRefusal>
         let Some(line) = line_of(alloc, row, text)? else {
             return Err(fault_at(row, ChainReason::NotLine));
         };
-        if is_end(&line) {
+        let kind = line.kind();
+        if kind.is_end() {
             return ended(alloc, reading, row, after);
         }
-        if let Some(reason) = reading.misplaced(&line) {
+        if let Some(reason) = reading.misplaced(kind) {
             return Err(fault_at(row, reason));
         }
         reading.add(alloc, row, line)?;
         rest = after;
         row += 1;
     }
-    Err(unended(row, rest))
+    Err(fault_at(row, unended(rest)))
+}
+
+/// Why there is no chain of a text for which memory ran out.
+fn refusal_of(bytes: &[u8]) -> ChainRefusal
+    ensures exact { Refuses result (read bytes.now) }
+    ensures told { result ≡ refused.OutOfMemory → IsOk (read bytes.now) }
+{
+    match first_fault(bytes) {
+        Some(fault) => ChainRefusal::Fault(fault),
+        None => ChainRefusal::OutOfMemory,
+    }
+}
+
+/// The chain that a text writes, or its first fault, which is told also where memory ran out for
+/// what stands before it. It takes time by the length of the text.
+pub fn read_chain(alloc: Global, bytes: &[u8]) -> Result<Chain, ChainRefusal>
+    ensures exact { Answers (λ chain. chain) result (read bytes.now) }
+    ensures counted { IfOk result IsCounted }
+    ensures told { result ≡ Err refused.OutOfMemory → IsOk (read bytes.now) }
+{
+    match read_lines(alloc, bytes) {
+        Ok(chain) => Ok(chain),
+        Err(ChainRefusal::Fault(fault)) => Err(ChainRefusal::Fault(fault)),
+        Err(ChainRefusal::OutOfMemory) => Err(refusal_of(bytes)),
+    }
 }

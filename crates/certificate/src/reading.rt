@@ -1,10 +1,11 @@
 //! A chain that is read line by line.
-ghost use Rattle.std.specs.Prelude.{◌≡◌, ◌<◌, ◌^◌, [], Some, OnOk, IfOk};
-ghost use Rattle.certificate.specs.Grammar.{misplaced};
+ghost use Rattle.std.specs.Prelude.{◌≡◌, [], OnOk, IfOk};
+ghost use Rattle.certificate.specs.Grammar.{misplaced_at};
 ghost use Rattle.certificate.specs.Open.{days_until, opened, passes_until};
 
-use crate::line::Line;
-use admit_core::{ChainReason, DayChain, FallLine, MAX_DAY, OutOfMemory, PassChain, Sequence};
+use crate::fault::misplaced;
+use crate::line::{Kind, Line};
+use admit_core::{ChainReason, DayChain, FallLine, OutOfMemory, PassChain, Sequence};
 use std::alloc::Global;
 use std::marker::Model;
 use std::mem;
@@ -66,36 +67,10 @@ impl Reading {
     }
 
     /// Why a line may not come next.
-    pub(crate) fn misplaced(&self, line: &Line) -> Option<ChainReason>
-        ensures { result ≡ misplaced self.now.day self.now.pass (Some line.now) }
+    pub(crate) fn misplaced(&self, kind: Kind) -> Option<ChainReason>
+        ensures { result ≡ misplaced_at self.now.day self.now.pass kind }
     {
-        match line {
-            Line::Day(number) => {
-                let follows = self.day < MAX_DAY && *number == self.day + 1;
-                if follows {
-                    None
-                } else {
-                    Some(ChainReason::WrongNumber)
-                }
-            }
-            Line::Pass(number) => {
-                if self.day == 0 {
-                    Some(ChainReason::NotLine)
-                } else if u64::from(*number) == u64::from(self.pass) + 1 {
-                    None
-                } else {
-                    Some(ChainReason::WrongNumber)
-                }
-            }
-            Line::Fall(_) => {
-                if self.pass == 0 {
-                    Some(ChainReason::NotLine)
-                } else {
-                    None
-                }
-            }
-            Line::End => None,
-        }
+        misplaced(kind, self.day, self.pass)
     }
 
     /// Ends the open pass, if there is one, with the line at a row.

@@ -1,7 +1,7 @@
 use Rattle.std.proofs.Common.{◌∙◌, ◌-◌, sym, arith}
 use Rattle.std.specs.Prelude.{◌==◌}
 use Rattle.std.proofs.lemmas.Bool.{and_parts, eqb-true}
-use Rattle.certificate.proofs.Testing.{are_shown, looked_up, over_below, over_from_one}
+use Rattle.certificate.proofs.Testing.{are_shown, looked_up, over_below, over_from_one, school_over}
 use Rattle.certificate.proofs.Testing.{passes_line, stops_not_over, stops_unknown, stops_wrong_bar}
 use Rattle.certificate.proofs.Testing.{stops_wrong_wishes}
 use Rattle.certificate.proofs.falls.check_line.Goals as goal
@@ -18,6 +18,14 @@ returns-in_default-first_over-clause-found c =
     (looked_up c.args.round.now c.args.line.now c.requires.same c.requires.index c.requires.ceilings
     (sym c.school_place.ensures ∙ c.in-Some.is)
     (sym c.in_default-first_over.is ∙ c.first_over.ensures))
+
+pub returns-in_err-ranks-clause-over : goal.returns-in_err-ranks-clause-over
+returns-in_err-ranks-clause-over c =
+    let r = c.args.round.now in
+    let line = c.args.line.now in
+    let seen = looked_up r line c.requires.same c.requires.index c.requires.ceilings
+    (sym c.school_place.ensures ∙ c.in-Some.is) (sym c.in-Some-first_over.is ∙ c.first_over.ensures) in
+    λ e. school_over seen c.requires.under
 
 pub returns-then-not-show_ranks-clause-found : goal.returns-then-not-show_ranks-clause-found
 returns-then-not-show_ranks-clause-found c =

@@ -1,11 +1,11 @@
 use Rattle.std.proofs.Common.{◌≡◌, ◌+◌, ◌≤◌, length}
+use Rattle.certificate.specs.Faults.{fault_in}
 use Rattle.certificate.specs.Grammar.{parts, read, said_from}
-use Rattle.certificate.specs.Open.{chain_with}
-use Rattle.certificate.proofs.read.read_chain.Given as goal
+use Rattle.certificate.proofs.fault.first_fault.Given as goal
 
 abbrev pub invariant-lines : goal.invariant-lines
 invariant-lines l = record {
-  whole : read l.fn.bytes ≡ chain_with l.reading (said_from l.reading.day l.reading.pass l.row (parts 10 l.rest));
+  whole : fault_in (read l.fn.bytes) ≡ fault_in (said_from l.day l.pass l.row (parts 10 l.rest));
   rows : l.row + length l.rest ≤ length l.fn.bytes + 1;
 }
 
