@@ -6,6 +6,7 @@
 
 mod answers;
 mod apart;
+mod by_candidate;
 mod dates;
 mod day_falls;
 mod groups;

@@ -1,5 +1,5 @@
 //! A list of what is made of each row of a slot.
-ghost use Rattle.std.specs.Prelude.{◌≡◌, IfOk, map};
+ghost use Rattle.std.specs.Prelude.{◌≡◌, ◌<◌, IfOk, OnErr, length, map};
 
 use admit_core::OutOfMemory;
 use std::alloc::Global;
@@ -16,14 +16,15 @@ pub(crate) trait Makes<R, T> {
         ensures { result ≡ made self.now row.now };
 }
 
-/// The items of rows, in their order.
+/// The items of rows, in their order. It lacks memory only where there is a row.
 pub(crate) fn made_of<R, T: Copy + Drop, M: Makes<R, T>>(
     alloc: Global,
     maker: &M,
     rows: &[R],
 ) -> Result<Vec<T>, OutOfMemory>
     requires { M.can_make maker.now }
-    ensures { IfOk result (λ items. items.items ≡ map (M.made maker.now) rows.now) }
+    ensures made { IfOk result (λ items. items.items ≡ map (M.made maker.now) rows.now) }
+    ensures memory { OnErr result (0 < length rows.now) }
 {
     let mut items = Vec::with_capacity(alloc, rows.len())?;
     for (number, row) in rows.iter().enumerate() {

@@ -1,6 +1,5 @@
 //! Wishes that are shown to have no fault by a look at them in order by candidate.
 ghost use Rattle.std.specs.Prelude.{◌≡◌, ◌<◌, ◌^◌, ◌∷◌, [], IfOk, IfSome, IsSome, None, Ok, length, nat_eq};
-ghost use Rattle.std.specs.List.Sorted.{IsPermutation};
 ghost use Rattle.indexmap.specs.IndexMap.{get};
 ghost use Rattle.admit_core.specs.declared.slot.Slot.TheVariants as slots;
 ghost use Rattle.admit_core.specs.Faults.{first_in};
@@ -10,6 +9,7 @@ ghost use Rattle.dossier_check.specs.Seen.{KnowsCandidates};
 ghost use Rattle.dossier_check.specs.WishTests.{id_repeats, other_tests};
 
 use crate::apart::shown_apart;
+use crate::by_candidate::by_candidate;
 use crate::known::Known;
 use crate::noted::FirstWish;
 use crate::row_ids::RowIds;
@@ -25,16 +25,6 @@ use std::alloc::Global;
 /// Whether no wish's candidate has a lesser id than that of the wish before it.
 pub(crate) fn candidates_rise(rows: &[WishRow]) -> bool {
     rows.is_sorted_by(|one, next| one.candidate <= next.candidate)
-}
-
-/// The wishes in order by candidate.
-fn in_order(alloc: Global, rows: &[WishRow]) -> Result<Vec<WishRow>, OutOfMemory>
-    ensures moved { IfOk result (λ ordered. IsPermutation rows.now ordered.items) }
-    ensures len { IfOk result (λ ordered. length ordered.items ≡ length rows.now) }
-{
-    let mut ordered = Vec::from_slice(alloc, rows)?;
-    ordered.sort_unstable_by_key(|row| row.candidate);
-    Ok(ordered)
 }
 
 /// What a check answers, or nothing where it refuses a row.
@@ -72,7 +62,7 @@ fn candidates_in_order<'a>(
     ensures candidates { IfOk result (λ found. IfSome found (λ firsts.
         KnowsCandidates (get nat_eq firsts) tables.now.wishes)) }
 {
-    let ordered = in_order(alloc, tables.wishes.as_slice())?;
+    let ordered = by_candidate(alloc, tables.wishes.as_slice())?;
     let rows = ordered.as_slice();
     let apart = shown_apart(alloc, rows)?;
     let tests = other_tests(alloc, apart, tables, known)?;

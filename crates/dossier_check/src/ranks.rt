@@ -1,12 +1,12 @@
 //! The rankings dealt out by group: who is ranked, and whether no row has a fault.
-ghost use Rattle.std.specs.Prelude.{◌≡◌, ◌<◌, ◌^◌, ◌++◌, ◌∷◌, [], All, IfOk, OnOk, None, length, map, nat_eq, true};
+ghost use Rattle.std.specs.Prelude.{◌≡◌, ◌<◌, ◌+◌, ◌^◌, ◌++◌, ◌∷◌, [], All, IfOk, OnOk, None, length, map, nat_eq, true};
 ghost use Rattle.std.specs.List.{IsDistinct};
 ghost use Rattle.admit_core.specs.declared.slot.Slot.TheVariants as slots;
 ghost use Rattle.admit_core.specs.Faults.{first_in};
 ghost use Rattle.admit_core.specs.Lists.{sorted_by};
 ghost use Rattle.admit_core.specs.Relations.{ranking_tests, group_ids};
 ghost use Rattle.dossier_check.specs.Dealt.{AreDealt, ascending_candidates, places_in};
-ghost use Rattle.dossier_check.specs.Outcome.{AnswersFault};
+ghost use Rattle.dossier_check.specs.Outcome.{AnswersFault, MayLack};
 
 use crate::groups::{rank_groups, ranked_lists};
 use crate::placed::{all_below, places_in};
@@ -140,7 +140,7 @@ fn shows_no_fault(tables: &Tables, groups: &RowIds, places: &[u32], dealt: &Deal
 }
 
 /// Checks the rankings, and answers them dealt out by group. The rows are tested one after another
-/// only where there may be a fault, to find the first.
+/// only where there may be a fault, to find the first. It lacks memory only where there is a row.
 pub(crate) fn check_ranks(alloc: Global, tables: &Tables, groups: &RowIds) -> Result<Dealt, InFault>
     requires groups { groups.now.keys ≡ group_ids tables.now }
     requires small { length tables.now.rankings < 2 ^ 32 }
@@ -148,7 +148,14 @@ pub(crate) fn check_ranks(alloc: Global, tables: &Tables, groups: &RowIds) -> Re
     ensures fault { AnswersFault result
         (first_in slots.Rankings (ranking_tests tables.now) tables.now.rankings) }
     ensures dealt { IfOk result (AreDealt tables.now) }
+    ensures memory { MayLack (0 < length tables.now.groups + length tables.now.rankings) result }
 {
+    if tables.groups.len() + tables.rankings.len() == 0 {
+        return Ok(Dealt {
+            rankings: Vec::new(alloc),
+            candidates: Vec::new(alloc),
+        });
+    }
     let places = places_in(alloc, tables.rankings.as_slice(), groups)?;
     let dealt = deal(alloc, tables, groups, places.as_slice())?;
     if shows_no_fault(tables, groups, places.as_slice(), &dealt) {

@@ -138,6 +138,15 @@ fn note_hashed<R, Q: Key<R, u32>>(
 }
 
 impl RowIds {
+    /// No ids.
+    pub(crate) fn new(alloc: Global) -> RowIds
+        ensures { result.keys ≡ [] }
+    {
+        RowIds {
+            way: Way::Rising(Vec::new(alloc)),
+        }
+    }
+
     /// No ids, with room for a number of them.
     pub(crate) fn with_room(alloc: Global, room: usize) -> Result<RowIds, OutOfMemory>
         ensures none { IfOk result (λ ids. ids.keys ≡ []) }

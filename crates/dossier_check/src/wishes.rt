@@ -7,7 +7,7 @@ ghost use Rattle.admit_core.specs.Relations.{wish_tests, wish_ids};
 ghost use Rattle.dossier_check.specs.Chained.{past_two};
 ghost use Rattle.dossier_check.specs.Hashing.{numbers_of_wishes};
 ghost use Rattle.dossier_check.specs.Known.{IsKnown};
-ghost use Rattle.dossier_check.specs.Outcome.{AnswersFault};
+ghost use Rattle.dossier_check.specs.Outcome.{AnswersFault, MayLack};
 ghost use Rattle.dossier_check.specs.WishTests.{others_unless, rank_tests_unless, tests_unless};
 ghost use Rattle.dossier_check.specs.Seen.{AreFirstWishes, KnowsCandidates};
 ghost use Rattle.keyed_hash.specs.Keys.{keyed_by};
@@ -261,8 +261,20 @@ fn check_rows<'a>(alloc: Global, tables: &'a Tables, known: Known<'a>) -> Result
     Ok(keys_in(scanned(Slot::Wishes, tests, rows)?))
 }
 
+/// What no wishes are found by.
+fn no_keys(alloc: Global, keyed: Keyed) -> WishKeys
+    ensures ids { result.ids.keys ≡ [] }
+    ensures firsts { AreFirstWishes (get nat_eq result.firsts) [] }
+{
+    WishKeys {
+        ids: RowIds::new(alloc),
+        firsts: IndexMap::with_hasher(alloc, keyed),
+        programmes: Vec::new(alloc),
+    }
+}
+
 /// Checks the wishes. Those whose candidates don't rise are put in order first, and tested row by
-/// row only where that shows a fault, to find the first.
+/// row only where that shows a fault, to find the first. It lacks memory only where there is a wish.
 pub(crate) fn check_wishes<'a>(
     alloc: Global,
     tables: &'a Tables,
@@ -275,7 +287,11 @@ pub(crate) fn check_wishes<'a>(
     ensures ids { IfOk result (λ keys. keys.ids.keys ≡ wish_ids tables.now) }
     ensures candidates { IfOk result (λ keys.
         KnowsCandidates (get nat_eq keys.firsts) tables.now.wishes) }
+    ensures memory { MayLack (0 < length tables.now.wishes) result }
 {
+    if tables.wishes.len() == 0 {
+        return Ok(no_keys(alloc, known.keyed));
+    }
     if !candidates_rise(tables.wishes.as_slice()) {
         if let Some(keys) = shown_in_order(alloc, tables, known)? {
             return Ok(keys);

@@ -9,8 +9,8 @@ loop-number-preserved g c =
     c.loop-number.items.items c.push.new.self.items c.make.result c.loop-number-test.true c.index-rows-number.is
     c.loop-number.invariant c.make.ensures c.in_ok-push.ensures.items
 
-pub returns : goal.returns
-returns g c =
+pub returns-clause-made : goal.returns-clause-made
+returns-clause-made g c =
     c.loop-number.invariant
     ∙ ap (map (g.M.Makes.made c.args.maker.now))
     (take_all c.loop-number.number c.args.rows.now (omega (arith, c.loop-number-test.false)))
