@@ -1,14 +1,14 @@
 -- The kept answers of the schools stay right where a bar falls.
-use Rattle.std.proofs.Common.{ℕ, ◌<◌, ◌≡◌, false, List, [], map, length, inl}
+use Rattle.std.proofs.Common.{ℕ, ◌≡◌, false, List, [], map, length, inl}
 use Rattle.std.proofs.Common.{inr, refl, ◌∙◌, ap, arith, get_or, Option, Some, None, option_map}
 use Rattle.std.proofs.Common.{unwrap_or}
 use Rattle.std.specs.Prelude.{slice_get, slice_index}
 use Rattle.std.specs.List.{range_with_len}
-use Rattle.std.proofs.lemmas.List.FromFn.{fill_by_all, get_or-map-range_with_len}
-use Rattle.std.proofs.lemmas.Option.{slice_get_within, slice_get_cases}
+use Rattle.std.proofs.lemmas.List.FromFn.{fill_by_all}
+use Rattle.std.proofs.lemmas.Option.{slice_get_cases}
 use Rattle.admit_core.specs.declared.dossier.Wish.{Wish}
 use Rattle.admit_core.specs.declared.state.Mark.{Mark}
-use Rattle.admit_core.specs.State.{entries, free_beds}
+use Rattle.admit_core.specs.State.{entries}
 use Rattle.admit_core.specs.Proposals.{is_open, is_proposed}
 use Rattle.linked_demand.specs.declared.rows.RowWish.{RowWish}
 use Rattle.linked_demand.specs.Links.{LinksRow}
@@ -37,23 +37,18 @@ proposed_entry l bars opens_are j e at =
 pub row_answers : (links : LinksRow) (bars free : List ℕ) (rows : List (List RowWish))
     → IsRound links bars free rows → (h : ℕ) (row : List RowWish) → slice_get rows h ≡ Some row
     → slice_get (counted (is_proposed_at links) 0 row) (slice_index free h)
-    ≡ over_at links.state links.orders bars h
+    ≡ over_at links.state links.orders bars free h
 row_answers links bars free rows right h row at =
-    let lt : h < length links.state.dossier.schools = omega
-    (arith, slice_get_within rows h row at, right.rows_each, right.bars_each) in
-    let beds : slice_index free h ≡ free_beds links.state h =
-    ap (λ (fs : List ℕ). slice_index fs h) right.free_are
-    ∙ get_or-map-range_with_len (free_beds links.state) 0 (length links.state.dossier.schools) h h 0 lt (omega arith) in
-    rw (ranks_told links bars h row (right.rows_are h row at) right.opens_are, beds) refl
+    rw (ranks_told links bars h row (right.rows_are h row at) right.opens_are) refl
 
 -- where no wish is left to be looked at, all answers are right
 pub answers_all : (links : LinksRow) (bars free : List ℕ) (rows : List (List RowWish))
     → IsRound links bars free rows → (overs : List (Option ℕ)) (housed : List (List Rung))
     → AllHoused links (λ k. false) rows free overs housed
-    → overs ≡ map (over_at links.state links.orders bars) (range_with_len 0 (length links.state.dossier.schools))
+    → overs ≡ map (over_at links.state links.orders bars free) (range_with_len 0 (length links.state.dossier.schools))
 answers_all links bars free rows right overs housed all =
     let n = length links.state.dossier.schools in
-    fill_by_all (over_at links.state links.orders bars) overs n None
+    fill_by_all (over_at links.state links.orders bars free) overs n None
     (all.answer_each ∙ right.rows_each ∙ right.bars_each) (λ h lt.
     elim (slice_get_cases rows h).1 [
       | inl there ↦

@@ -8,7 +8,7 @@
 -- A wish is closed: Moving, Ticking, Marking, Staying; the end of a row falls: Cutting, Telling.
 -- A bar falls: OneFall, Answered, RoundFalls, TickLaw, Spending.
 -- Who has a bed: Rungs, RungSteps, HousedRows, HousedFronts, HousedAll, HousedWishes, HousedMarks, HousedFalls;
--- the answers: KeptAnswers.
+-- the answers: KeptAnswers; the beds that are lent: Lent.
 -- The system as a whole: BarEach, Rounding, and last Lowered.
 pub mod Answered
 pub mod AnyOpen
@@ -37,6 +37,7 @@ pub mod Keeping
 pub mod KeptAnswers
 pub mod Keyed
 pub mod Leaving
+pub mod Lent
 pub mod Lined
 pub mod Lining
 pub mod Listing

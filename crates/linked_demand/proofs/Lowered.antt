@@ -1,24 +1,24 @@
 -- A round after one of its bars fell, and a round that is built.
-use Rattle.std.proofs.Common.{ℕ, ◌+◌, ◌≤◌, ◌<◌, ◌≡◌, Bool, false, not, ◌&&◌, List, [], map, length, nat_le, sym}
+use Rattle.std.proofs.Common.{ℕ, ◌+◌, ◌≤◌, ◌<◌, ◌≡◌, Bool, false, not, ◌&&◌, List, [], length, nat_le, sym}
 use Rattle.std.proofs.Common.{◌∙◌, ap, arith, get_or, inl, inr, nat_lt, Option, Some, None, count_by, subst, take}
 use Rattle.std.proofs.Common.{unwrap_or, Vec}
 use Rattle.std.specs.declared.alloc.Global.{Global}
 use Rattle.std.specs.Prelude.{slice_get, slice_index, replicate}
-use Rattle.std.specs.List.{enumerate_from, range_with_len}
+use Rattle.std.specs.List.{enumerate_from}
 use Rattle.std.proofs.Math.ListN.{set}
 use Rattle.std.proofs.lemmas.Bool.{and_from, cases_eq, lt-ltb}
 use Rattle.std.proofs.lemmas.List.{get_or-set_other, get_or-set_same, length-replicate, length-set, length-take-le, take-take}
-use Rattle.std.proofs.lemmas.List.FromFn.{length-map-range_with_len}
 use Rattle.std.proofs.lemmas.Option.{slice_get_within}
 use Rattle.admit_core.specs.declared.dossier.Wish.{Wish}
 use Rattle.admit_core.specs.declared.state.Mark.{Mark}
 use Rattle.admit_core.specs.declared.ranking.CallOrder.{CallOrder}
-use Rattle.admit_core.specs.State.{State, entries, holds_bed, has_school, free_beds}
+use Rattle.admit_core.specs.State.{State, entries, holds_bed, has_school}
 use Rattle.admit_core.specs.Proposals.{is_open, proposed}
 use Rattle.admit_core.specs.Boarding.{boarding}
 use Rattle.linked_demand.specs.declared.rows.RowWish.{RowWish}
 use Rattle.linked_demand.specs.declared.housed.Rung.{Rung}
 use Rattle.linked_demand.specs.Boarders.{AreBySchool}
+use Rattle.linked_demand.specs.Lent.{left_of, lent}
 use Rattle.linked_demand.specs.Links.{LinksRow}
 use Rattle.linked_demand.specs.Opens.{opens_of}
 use Rattle.linked_demand.specs.Rows.{row_in, rows_to, AllItems, AreEnds, AreFirst, AreRows, CutsAt, IsRow, StayOpen}
@@ -42,20 +42,18 @@ same_entry P e f same p = let is : e ≡ f = ap (λ (o : Option (Wish × Mark)).
 
 pub one_free_each : (links : LinksRow) (bars free : List ℕ) (rows : List (List RowWish))
     → IsRound links bars free rows → length free ≡ length rows
-one_free_each links bars free rows right =
-    ap length right.free_are ∙ length-map-range_with_len (free_beds links.state) 0
-    (length links.state.dossier.schools) ∙ sym right.bars_each ∙ sym right.rows_each
+one_free_each links bars free rows right = right.free_each ∙ sym right.bars_each ∙ sym right.rows_each
 
 -- the rows and links of a state are a round
 pub round_built : (links : LinksRow) (ceilings free : List ℕ) (rows : List (List RowWish))
     → links.opens ≡ opens_of links.state ceilings → length links.state.marks ≡ length links.state.dossier.wishes
     → length ceilings ≡ length links.state.dossier.schools
-    → free ≡ map (free_beds links.state) (range_with_len 0 (length links.state.dossier.schools))
+    → length free ≡ length links.state.dossier.schools
     → AreRows links.state ceilings rows → AllItems links.state links.orders rows → IsRound links ceilings free rows
-round_built links ceilings free rows opens long each free_are rows_are items_are = record {
+round_built links ceilings free rows opens long each free_each rows_are items_are = record {
   marks_each = long;
   bars_each = each;
-  free_are = free_are;
+  free_each = free_each;
   rows_each = rows_are.one_each ∙ sym each;
   opens_are = opens;
   rows_are = rows_are.each;
@@ -77,17 +75,17 @@ answers_built links bars free rows right overfilled marked housed long all = rec
 
 module _ {links : LinksRow} {ceilings bars free : List ℕ} {rows : List (List RowWish)}
     {overfilled : List (Option ℕ)} {marked : List Bool} {housed : List (List Rung)} {seen : Round}
-    (right : IsRoundUnder links ceilings bars free rows overfilled marked housed)
-    (is : record { state = links.state; orders = links.orders; ceilings = ceilings; bars = bars } ≡ seen)
+    (beds : List ℕ) (right : IsRoundUnder links ceilings bars free rows overfilled marked housed)
+    (is : record { state = lent links.state beds; orders = links.orders; ceilings = ceilings; bars = bars } ≡ seen)
     (i to : ℕ) (lt : i < length seen.ceilings)
     (falls : to < slice_index (bar_each seen.ceilings seen.bars) i) {row : List RowWish}
     (found : slice_get rows i ≡ Some row) where
   pub within_bars : i < length bars
-  within_bars = bar_within right is i lt
+  within_bars = bar_within beds right is i lt
 
   le : to ≤ slice_index bars i
   le =
-      let below = falls_seen right is i to falls in
+      let below = falls_seen beds right is i to falls in
       omega (arith, below)
 
   own : IsRow links.state bars i row
@@ -122,14 +120,15 @@ module _ {links : LinksRow} {ceilings bars free : List ℕ} {rows : List (List R
     schools : length links.state.dossier.schools ≡ length new.state.dossier.schools
     schools = ap (λ (s : State). length s.dossier.schools) (sym state)
 
-    pub system_now : boarding new.state new.orders ceilings ≡ boarding seen.state seen.orders seen.ceilings
+    pub system_now : boarding (lent new.state beds) new.orders ceilings
+        ≡ boarding seen.state seen.orders seen.ceilings
     system_now =
-        ap (λ (s : State). boarding s new.orders ceilings) state
-        ∙ ap (λ (o : List CallOrder). boarding links.state o ceilings) orders
+        ap (λ (s : State). boarding (lent s beds) new.orders ceilings) state
+        ∙ ap (λ (o : List CallOrder). boarding (lent links.state beds) o ceilings) orders
         ∙ ap (λ (r : Round). boarding r.state r.orders r.ceilings) is
 
     pub seen_now : record {
-      state = new.state;
+      state = lent new.state beds;
       orders = new.orders;
       ceilings = ceilings;
       bars = set bars i
@@ -137,12 +136,12 @@ module _ {links : LinksRow} {ceilings bars free : List ℕ} {rows : List (List R
     } ≡ record seen { bars = set seen.bars i to }
     seen_now =
         ap (λ (s : State). let r : Round =
-        record { state = s; orders = new.orders; ceilings = ceilings; bars = set bars i to } in r) state
+        record { state = lent s beds; orders = new.orders; ceilings = ceilings; bars = set bars i to } in r) state
         ∙ ap (λ (o : List CallOrder). let r : Round =
-        record { state = links.state; orders = o; ceilings = ceilings; bars = set bars i to } in r) orders
+        record { state = lent links.state beds; orders = o; ceilings = ceilings; bars = set bars i to } in r) orders
         ∙ ap (λ (r : Round). let q : Round = record r { bars = set r.bars i to } in q) is
 
-    pub offers_now : proposed new.state new.orders ≡ proposed seen.state seen.orders
+    pub offers_now : proposed (lent new.state beds) new.orders ≡ proposed seen.state seen.orders
     offers_now = ap (λ (r : Round). proposed r.state r.orders) seen_now
 
     -- the steps are the changes
@@ -179,27 +178,24 @@ module _ {links : LinksRow} {ceilings bars free : List ℕ} {rows : List (List R
       in_overs = omega (arith, within_bars, right.round.rows_each, right.housed_are.answer_each)
 
       -- the whole round
-      pub lowered : (beds : List ℕ) → beds ≡ free → (overs_cut : List (Option ℕ)) (housed_cut : List (List Rung))
+      pub lowered : (overs_cut : List (Option ℕ)) (housed_cut : List (List Rung))
           → overs_cut ≡ over_now → housed_cut ≡ housed_now → (answers : List (Option ℕ)) (last : List Bool)
           → (housed_last : List (List Rung))
-          → ((bs : List ℕ) (rs : List (List RowWish)) → IsRound new bs beds rs
-          → AllHoused new (λ k. get_or after k false) rs beds overs_cut housed_cut
-          → AllHoused new nobody rs beds answers housed_last)
+          → ((bs : List ℕ) (rs : List (List RowWish)) → IsRound new bs free rs
+          → AllHoused new (λ k. get_or after k false) rs free overs_cut housed_cut
+          → AllHoused new nobody rs free answers housed_last)
           → last ≡ replicate (length after) false
           → IsRoundUnder new ceilings (set bars i to) free (set rows i kept_row) answers last housed_last
-      lowered beds beds_are overs_cut housed_cut overs_are housed_are answers last housed_last looked unmarked =
+      lowered overs_cut housed_cut overs_are housed_are answers last housed_last looked unmarked =
           let Q = λ (bs : List ℕ). MarksWishes links.state (is_new links.state bs links new) marked after in
           let fallen = all_fallen links new bars free rows i to within_bars le right.round row kept_row found state
           orders
           cut round_now marked after right.marked_each (subst Q low_is marks) overfilled housed right.housed_are in
-          let P = λ (bs : List ℕ). (cs : List ℕ) (rs : List (List RowWish)) → IsRound new cs bs rs
-          → AllHoused new (λ k. get_or after k false) rs bs overs_cut housed_cut
-          → AllHoused new nobody rs bs answers housed_last in
           let O = λ (os : List (Option ℕ)). AllHoused new (λ k. get_or after k false) (set rows i kept_row) free os
           housed_cut in
           let H = λ (hs : List (List Rung)). AllHoused new (λ k. get_or after k false) (set rows i kept_row) free
           over_now hs in
-          let all = subst P beds_are looked (set bars i to) (set rows i kept_row) round_now
+          let all = looked (set bars i to) (set rows i kept_row) round_now
           (subst O (sym overs_are) (subst H (sym housed_are) fallen)) in
           record {
             round = round_now;
@@ -211,16 +207,17 @@ module _ {links : LinksRow} {ceilings bars free : List ℕ} {rows : List (List R
           }
 
 -- the same of a round whose rows are those of first boarders, of whom fewer are left in one school
-pub lowered_along : (old new : LinksRow) (ceilings bars free : List ℕ) (boarders : List (Vec RowWish Global))
+pub lowered_along : (old new : LinksRow) (ceilings bars beds : List ℕ) (boarders : List (Vec RowWish Global))
     (ends : List ℕ) (overs : List (Option ℕ)) (marked : List Bool) (housed : List (List Rung))
     → new ≡ record old { opens = new.opens } → AreBySchool old.state.dossier old.orders boarders
     → AreEnds boarders ends → (i end : ℕ) (front : List RowWish) → AreFirst boarders ends i front
     → end ≤ length front
-    → IsRoundUnder new ceilings bars free (set (rows_to old.state boarders ends) i (row_in old.state (take end front)))
-    overs marked housed
-    → IsRoundAlong new ceilings bars free boarders (set ends i end) overs marked housed
-lowered_along old new ceilings bars free boarders ends overs marked housed same by_school are i end front first le
-    under =
+    → length beds ≡ length old.state.dossier.schools
+    → IsRoundUnder new ceilings bars (left_of old.state beds)
+    (set (rows_to old.state boarders ends) i (row_in old.state (take end front))) overs marked housed
+    → IsRoundAlong new ceilings bars beds boarders (set ends i end) overs marked housed
+lowered_along old new ceilings bars beds boarders ends overs marked housed same by_school are i end front first le
+    long_beds under =
     let s = old.state in
     let own = first.own in
     let at = first.found in
@@ -231,13 +228,17 @@ lowered_along old new ceilings bars free boarders ends overs marked housed same 
     ap length first.front_is ∙ length-take-le (slice_index ends i) own.items within in
     let cut : take end front ≡ take end own.items =
     ap (take end) first.front_is ∙ take-take end (slice_index ends i) own.items (omega (arith, le, long)) in
-    let P = λ (rows : List (List RowWish)). IsRoundUnder new ceilings bars free rows overs marked housed in
-    let Q = λ (t : State). P (rows_to t boarders (set ends i end)) in
+    let P = λ (rows : List (List RowWish)).
+    IsRoundUnder new ceilings bars (left_of s beds) rows overs marked housed in
+    let Q = λ (t : State). IsRoundUnder new ceilings bars (left_of t beds) (rows_to t boarders (set ends i end))
+    overs marked housed in
+    let B = λ (t : State). length beds ≡ length t.dossier.schools in
     let R = λ (xs : List RowWish). P (set (rows_to s boarders ends) i (row_in s xs)) in
     let S = λ (t : State). AreBySchool t.dossier new.orders boarders in
     let T = λ (os : List CallOrder). AreBySchool s.dossier os boarders in
     let lt : i < length ends = omega (arith, slice_get_within boarders i own at, are.one_each) in
     record {
+      beds_each = subst B (sym state) long_beds;
       under = subst Q (sym state) (subst P (rows_cut s boarders ends are.one_each i end own at) (subst R cut under));
       boarders_are = subst S (sym state) (subst T (sym orders) by_school);
       ends_are = record {

@@ -42,7 +42,7 @@ module _ (links : LinksRow) (bars free : List ℕ) (h to : ℕ) (rows : List (Li
       record {
         marks_each = rw same right.marks_each;
         bars_each = rw same (length-set bars h to ∙ right.bars_each);
-        free_are = rw same right.free_are;
+        free_each = rw same right.free_each;
         rows_each = length-set rows h kept ∙ right.rows_each ∙ sym (length-set bars h to);
         opens_are = rw same flags;
         rows_are = λ g v at. rw same (elim (cases_eq g h) [

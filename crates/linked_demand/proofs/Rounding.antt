@@ -19,6 +19,7 @@ use Rattle.day_state.specs.Kept.{mark_in, wish_in}
 use Rattle.day_state.proofs.Places.{entry_in, entries_by_place}
 use Rattle.linked_demand.specs.declared.rows.RowWish.{RowWish}
 use Rattle.linked_demand.specs.declared.housed.Rung.{Rung}
+use Rattle.linked_demand.specs.Lent.{left_of, lent}
 use Rattle.linked_demand.specs.Links.{LinksRow, WaitsAt, AllOpenWait}
 use Rattle.linked_demand.specs.Listed.{answered}
 use Rattle.linked_demand.proofs.Answered.{filter_agree}
@@ -28,6 +29,7 @@ use Rattle.linked_demand.specs.Demand.{is_proposed_at, over_at}
 use Rattle.linked_demand.proofs.BarEach.{bar_each_is, bar_each_set}
 use Rattle.linked_demand.proofs.Closing.{proposed_at_is}
 use Rattle.linked_demand.proofs.Falling.{flag_map}
+use Rattle.linked_demand.proofs.Lent.{free_lent, left_at}
 use Rattle.linked_demand.proofs.RowsRight.{entry_there}
 use Rattle.linked_demand.proofs.Fronting.{closed_at}
 use Rattle.linked_demand.proofs.Lining.{numbered}
@@ -61,8 +63,8 @@ proposed_by_place s orders bars long =
 
 module _ {links : LinksRow} {ceilings bars free : List ℕ} {rows : List (List RowWish)}
     {overfilled : List (Option ℕ)} {marked : List Bool} {housed : List (List Rung)} {seen : Round}
-    (right : IsRoundUnder links ceilings bars free rows overfilled marked housed)
-    (is : record { state = links.state; orders = links.orders; ceilings = ceilings; bars = bars } ≡ seen) where
+    (beds : List ℕ) (right : IsRoundUnder links ceilings bars free rows overfilled marked housed)
+    (is : record { state = lent links.state beds; orders = links.orders; ceilings = ceilings; bars = bars } ≡ seen) where
   as_long : length bars ≡ length ceilings
   as_long = right.round.bars_each ∙ sym right.ceilings_each
 
@@ -111,18 +113,24 @@ module _ {links : LinksRow} {ceilings bars free : List ℕ} {rows : List (List R
         right.round.bars_each,
         ap length
             right.overfilled_are,
-        length-map-range_with_len (over_at links.state links.orders bars) 0
+        length-map-range_with_len (over_at links.state links.orders bars free) 0
             (length links.state.dossier.schools),
       )
 
-  pub answer_read : (i : ℕ) → i < length seen.bars
-      → get_or overfilled i None ≡ over_at seen.state seen.orders seen.bars i
-  answer_read i lt =
+  -- where the free beds are those that are left of the beds that are lent
+  pub answer_read : length beds ≡ length links.state.dossier.schools → free ≡ left_of links.state beds
+      → (i : ℕ) → i < length seen.bars → get_or overfilled i None
+      ≡ slice_get (demanded_ranks seen.state seen.orders seen.bars i) (free_beds seen.state i)
+  answer_read long left i lt =
+      let within : i < length links.state.dossier.schools =
+      omega (arith, lt, ap (λ (r : Round). length r.bars) is, right.round.bars_each) in
       ap (λ (os : List (Option ℕ)). get_or os i None) right.overfilled_are
-      ∙ get_or-map-range_with_len (over_at links.state links.orders bars) 0
-      (length links.state.dossier.schools) i i None
-      (omega (arith, lt, ap (λ (r : Round). length r.bars) is, right.round.bars_each)) (zero-add i)
-      ∙ ap (λ (r : Round). over_at r.state r.orders r.bars i) is
+      ∙ get_or-map-range_with_len (over_at links.state links.orders bars free) 0
+      (length links.state.dossier.schools) i i None within (zero-add i)
+      ∙ ap (slice_get (demanded_ranks links.state links.orders bars i))
+      (ap (λ (fs : List ℕ). slice_index fs i) left ∙ left_at links.state beds i within
+      ∙ free_lent links.state beds i long)
+      ∙ ap (λ (r : Round). slice_get (demanded_ranks r.state r.orders r.bars i) (free_beds r.state i)) is
 
   -- the proposed wishes, under the bars and under those that the system tells
   pub all_seen : filter (is_proposed_in seen)
@@ -137,9 +145,10 @@ module _ {links : LinksRow} {ceilings bars free : List ℕ} {rows : List (List R
   offers_seen = ap (proposed seen.state seen.orders) (sym bars_seen)
 
   -- the schools that have an answer are those that are overfilled
-  pub overfilled_seen : answered overfilled ≡ all_overfilled (boarding seen.state seen.orders seen.ceilings)
+  pub overfilled_seen : length beds ≡ length links.state.dossier.schools → free ≡ left_of links.state beds
+      → answered overfilled ≡ all_overfilled (boarding seen.state seen.orders seen.ceilings)
       (bar_each seen.ceilings seen.bars)
-  overfilled_seen =
+  overfilled_seen each left =
       let sys = boarding seen.state seen.orders seen.ceilings in
       let low = bar_each seen.ceilings seen.bars in
       let long : length overfilled ≡ length seen.ceilings =
@@ -147,7 +156,7 @@ module _ {links : LinksRow} {ceilings bars free : List ℕ} {rows : List (List R
         arith,
         ap length right.overfilled_are,
         length-map-range_with_len
-            (over_at links.state links.orders bars) 0 (length links.state.dossier.schools),
+            (over_at links.state links.orders bars free) 0 (length links.state.dossier.schools),
         right.ceilings_each,
         ceilings_seen,
       ) in
@@ -155,7 +164,7 @@ module _ {links : LinksRow} {ceilings bars free : List ℕ} {rows : List (List R
       ∙ filter_agree (λ h. is_some (get_or overfilled h None)) (is_overfilled sys low) 0 (length seen.ceilings)
       (λ h ge less.
       let lt : h < length seen.ceilings = omega (arith, less) in
-      ap is_some (over_seen h (get_or overfilled h None) lt (answer_read h (seen_within_bars h lt)))
+      ap is_some (over_seen h (get_or overfilled h None) lt (answer_read each left h (seen_within_bars h lt)))
       ∙ sym (overfilled_by_rank sys low h lt))
 
   -- after a fall

@@ -1,8 +1,8 @@
 -- The demanded ranks of a school, as its row tells them.
 use Rattle.std.specs.Prelude.{ℕ, Bool, false, ◌&&◌, List, [], ◌∷◌, Option, option_map}
-use Rattle.std.specs.Prelude.{unwrap_or, nat_lt, slice_get, slice_index_or, if◌then◌else◌}
+use Rattle.std.specs.Prelude.{unwrap_or, nat_lt, slice_get, slice_index, slice_index_or, if◌then◌else◌}
 use Rattle.admit_core.specs.declared.ranking.CallOrder.{CallOrder}
-use Rattle.admit_core.specs.State.{State, entries, free_beds}
+use Rattle.admit_core.specs.State.{State, entries}
 use Rattle.admit_core.specs.Proposals.{demanded_ranks}
 use Rattle.proposals.specs.declared.demands.Demand.{Demand}
 use Rattle.linked_demand.specs.declared.rows.RowWish.{RowWish}
@@ -29,6 +29,7 @@ counted p last [] = []
 counted p last (x ∷ xs) =
     if nat_lt last x.rank && p x.wish then (x.rank ∷ counted p x.rank xs) else counted p last xs
 
--- the demanded rank of a school under bars that is the first to have no bed
-abbrev pub over_at : State → List CallOrder → List ℕ → ℕ → Option ℕ
-over_at s orders bars h = slice_get (demanded_ranks s orders bars h) (free_beds s h)
+-- the demanded rank of a school under bars that is the first to have none of the free beds
+abbrev pub over_at : State → List CallOrder → List ℕ → List ℕ → ℕ → Option ℕ
+over_at s orders bars free h =
+    slice_get (demanded_ranks s orders bars h) (slice_index free h)

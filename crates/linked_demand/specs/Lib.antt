@@ -6,6 +6,7 @@ pub mod Filled
 pub mod Fronts
 pub mod Housed
 pub mod Keyed
+pub mod Lent
 pub mod Line
 pub mod Lineups
 pub mod Links

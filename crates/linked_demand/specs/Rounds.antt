@@ -4,11 +4,12 @@ use Rattle.std.specs.List.{range_with_len}
 use Rattle.std.specs.declared.alloc.Global.{Global}
 use Rattle.std.proofs.lemmas.List.FromFn.{length-map-range_with_len}
 use Rattle.admit_core.specs.declared.ranking.CallOrder.{CallOrder}
-use Rattle.admit_core.specs.State.{State, free_beds}
+use Rattle.admit_core.specs.State.{State}
 use Rattle.admit_core.specs.Proposals.{is_proposed}
 use Rattle.day_state.specs.Kept.{mark_in, wish_in}
 use Rattle.linked_demand.specs.declared.rows.RowWish.{RowWish}
 use Rattle.linked_demand.specs.Boarders.{AreBySchool}
+use Rattle.linked_demand.specs.Lent.{left_of}
 use Rattle.linked_demand.specs.Links.{LinksRow}
 use Rattle.linked_demand.specs.Opens.{opens_of}
 use Rattle.linked_demand.specs.Rows.{IsRow, AllItems, AreEnds, rows_to}
@@ -16,7 +17,7 @@ use Rattle.linked_demand.specs.Demand.{over_at}
 use Rattle.linked_demand.specs.declared.housed.Rung.{Rung}
 use Rattle.linked_demand.specs.Housed.{AllHoused}
 
--- what a round is seen as
+-- what a round is seen as: its state has the beds that are lent
 pub record Round : Type 0 where
   pub state : State
   pub orders : List CallOrder
@@ -27,8 +28,7 @@ pub record IsRound (links : LinksRow) (bars free : List ℕ)
     (rows : List (List RowWish)) : Type 0 where
   pub marks_each : length links.state.marks ≡ length links.state.dossier.wishes
   pub bars_each : length bars ≡ length links.state.dossier.schools
-  pub free_are : free ≡ map (free_beds links.state)
-      (range_with_len 0 (length links.state.dossier.schools))
+  pub free_each : length free ≡ length links.state.dossier.schools
   pub rows_each : length rows ≡ length bars
   pub opens_are : links.opens ≡ opens_of links.state bars
   pub rows_are : (h : ℕ) (row : List RowWish) → slice_get rows h ≡ Some row
@@ -43,17 +43,19 @@ pub record IsRoundUnder (links : LinksRow) (ceilings bars free : List ℕ)
   pub round : IsRound links bars free rows
   pub ceilings_each : length ceilings ≡ length links.state.dossier.schools
   pub overfilled_are : overfilled
-      ≡ map (over_at links.state links.orders bars)
+      ≡ map (over_at links.state links.orders bars free)
       (range_with_len 0 (length links.state.dossier.schools))
   pub marked_each : length marked ≡ length links.state.dossier.wishes
   pub housed_are : AllHoused links (λ k. false) rows free overfilled housed
 
--- and where the rows are those of the first boarders of each school
-pub record IsRoundAlong (links : LinksRow) (ceilings bars free : List ℕ)
+-- and where the rows are those of the first boarders of each school, and the free beds those that
+-- are left of the beds that are lent
+pub record IsRoundAlong (links : LinksRow) (ceilings bars beds : List ℕ)
     (boarders : List (Vec RowWish Global)) (ends : List ℕ)
     (overfilled : List (Option ℕ)) (marked : List Bool) (housed : List (List Rung)) : Type 0 where
-  pub under : IsRoundUnder links ceilings bars free (rows_to links.state boarders ends) overfilled
-      marked housed
+  pub under : IsRoundUnder links ceilings bars (left_of links.state beds)
+      (rows_to links.state boarders ends) overfilled marked housed
+  pub beds_each : length beds ≡ length links.state.dossier.schools
   pub boarders_are : AreBySchool links.state.dossier links.orders boarders
   pub ends_are : AreEnds boarders ends
 

@@ -3,11 +3,13 @@ ghost use Rattle.std.specs.Prelude.{◌≡◌, ℕ, ◌<◌, ◌&&◌, Bool, Lis
 ghost use Rattle.linked_demand.specs.declared.rows.RowWish.{RowWish};
 ghost use Rattle.linked_demand.specs.Demand.{is_proposed_at};
 ghost use Rattle.linked_demand.specs.Housed.{kept, within, AllHoused, AreHoused};
+ghost use Rattle.linked_demand.specs.Lent.{left_of};
 ghost use Rattle.linked_demand.specs.Links.{AllOpenWait};
 ghost use Rattle.linked_demand.specs.Rounds.{IsRound};
 ghost use Rattle.linked_demand.specs.Boarders.{AreBySchool};
 ghost use Rattle.linked_demand.specs.Rows.{row_in, rows_to, AreEnds, AreOpenFirst};
 
+use crate::beds::left_in;
 use crate::ends::front_in;
 use crate::housed::Housed;
 use crate::links::SeatLinks;
@@ -54,28 +56,32 @@ fn house_row(
     Ok(Housing { housed, over: None })
 }
 
-/// Houses the demanded ranks of all schools, of which none is overfilled yet.
+/// Houses the demanded ranks of all schools, of which none is overfilled yet, as far as these beds
+/// go.
 pub fn house_all(
     alloc: Global,
     links: &SeatLinks<'_, '_>,
     boarders: &[Vec<RowWish>],
     ends: &[usize],
-    free: &[u32],
+    beds: &[u32],
     overfilled: &mut Overfilled,
 ) -> Result<Vec<Housed>, OutOfMemory>
     requires boarders { AreBySchool links.now.state.dossier links.now.orders boarders.now }
     requires ends { AreEnds boarders.now ends.now }
-    requires rows { (bars : List ℕ) × IsRound links.now bars free.now (rows_to links.now.state
-        boarders.now ends.now) }
+    requires beds { length beds.now ≡ length links.now.state.dossier.schools }
+    requires rows { (bars : List ℕ) × IsRound links.now bars (left_of links.now.state beds.now)
+        (rows_to links.now.state boarders.now ends.now) }
     requires overfilled { length overfilled.old ≡ length boarders.now }
     ensures { IfOk result (λ v. AllHoused links.now (λ k. false) (rows_to links.now.state
-        boarders.now ends.now) free.now overfilled.new v.items) }
+        boarders.now ends.now) (left_of links.now.state beds.now) overfilled.new v.items) }
 {
-    let count = school_count(links.state());
+    let state = links.state();
+    let count = school_count(state);
     let mut all = Vec::with_capacity(alloc, count as usize)?;
     for school in 0..count {
         let front = front_in(boarders, ends, school);
-        let Housing { housed, over } = house_row(alloc, links, front, free[school as usize])?;
+        let free = left_in(state, beds, school);
+        let Housing { housed, over } = house_row(alloc, links, front, free)?;
         all.push(housed)?;
         overfilled.put(school, over);
     }
@@ -99,28 +105,30 @@ pub fn cut_school(housed: &mut Vec<Housed>, overfilled: &mut Overfilled, school:
 /// Houses a wish where it demands a bed.
 fn house_wish(
     links: &SeatLinks<'_, '_>,
-    free: &[u32],
+    beds: &[u32],
     wish: u32,
     housed: &mut Vec<Housed>,
     overfilled: &mut Overfilled,
 )
     requires wish { wish < length links.now.state.dossier.wishes }
     requires waits { AllOpenWait links.now.state links.now.opens }
-    requires free { length free.now ≡ length links.now.state.dossier.schools }
+    requires beds { length beds.now ≡ length links.now.state.dossier.schools }
     requires housed { length housed.old.items ≡ length links.now.state.dossier.schools }
     requires overfilled { length overfilled.old ≡ length links.now.state.dossier.schools }
     ensures as_many { length housed.new.items ≡ length housed.old.items }
     ensures as_long { length overfilled.new ≡ length overfilled.old }
     ensures all { (bars : List ℕ) (rows : List (List RowWish)) (left : ℕ → Bool)
-        → IsRound links.now bars free.now rows
-        → AllHoused links.now left rows free.now overfilled.old housed.old.items
-        → AllHoused links.now (λ k. left k && not (nat_eq k wish)) rows free.now overfilled.new
-        housed.new.items }
+        → IsRound links.now bars (left_of links.now.state beds.now) rows
+        → AllHoused links.now left rows (left_of links.now.state beds.now) overfilled.old
+        housed.old.items
+        → AllHoused links.now (λ k. left k && not (nat_eq k wish)) rows
+        (left_of links.now.state beds.now) overfilled.new housed.new.items }
 {
     if let Some(school) = links.bed_sought(wish) {
-        let place = school as usize;
-        let rank = wish_at(links.state(), wish).board_rank;
-        let over = housed[place].house(rank, free[place]);
+        let state = links.state();
+        let rank = wish_at(state, wish).board_rank;
+        let free = left_in(state, beds, school);
+        let over = housed[school as usize].house(rank, free);
         if over.is_some() {
             overfilled.put(school, over);
         }
@@ -130,24 +138,25 @@ fn house_wish(
 /// Houses the marked wishes that demand a bed, and takes the marks away.
 pub fn house_marked(
     links: &SeatLinks<'_, '_>,
-    free: &[u32],
+    beds: &[u32],
     marked: &mut Marks,
     housed: &mut Vec<Housed>,
     overfilled: &mut Overfilled,
 )
     requires marked { length marked.old ≡ length links.now.state.dossier.wishes }
     requires waits { AllOpenWait links.now.state links.now.opens }
-    requires free { length free.now ≡ length links.now.state.dossier.schools }
+    requires beds { length beds.now ≡ length links.now.state.dossier.schools }
     requires housed { length housed.old.items ≡ length links.now.state.dossier.schools }
     requires overfilled { length overfilled.old ≡ length links.now.state.dossier.schools }
     ensures unmarked { marked.new ≡ replicate (length marked.old) false }
     ensures all { (bars : List ℕ) (rows : List (List RowWish))
-        → IsRound links.now bars free.now rows
-        → AllHoused links.now (λ k. slice_index_or marked.old k false) rows free.now overfilled.old
-        housed.old.items
-        → AllHoused links.now (λ k. false) rows free.now overfilled.new housed.new.items }
+        → IsRound links.now bars (left_of links.now.state beds.now) rows
+        → AllHoused links.now (λ k. slice_index_or marked.old k false) rows
+        (left_of links.now.state beds.now) overfilled.old housed.old.items
+        → AllHoused links.now (λ k. false) rows (left_of links.now.state beds.now) overfilled.new
+        housed.new.items }
 {
     while let Some(wish) = marked.take() {
-        house_wish(links, free, wish, housed, overfilled);
+        house_wish(links, beds, wish, housed, overfilled);
     }
 }

@@ -6,6 +6,7 @@
 //! `let schools = LinkedRound::build(alloc, &state, &orders, &lineup, ceilings)?;`
 #![tactic(auto)]
 
+mod beds;
 mod boarders;
 mod calling;
 mod claims;
@@ -37,6 +38,7 @@ mod seats;
 mod wishes;
 mod wishing;
 
+pub use beds::own_beds;
 pub use law::law_of_changes;
 pub use lineup::Lineup;
 pub use roster::Roster;

@@ -4,6 +4,7 @@ ghost use Rattle.std.specs.Prelude.{◌≡◌, IfOk, length};
 ghost use Rattle.admit_core.specs.Boarding.{boarding};
 ghost use Rattle.admit_core.specs.CallOrder.{AreCallOrders};
 ghost use Rattle.admit_core.specs.Proposals.{proposed};
+ghost use Rattle.linked_demand.specs.Lent.{lent};
 
 use crate::lineup::Lineup;
 use crate::round::LinkedRound;
@@ -79,8 +80,8 @@ impl<'a, 'd> Roster<'a, 'd> {
         self.orders
     }
 
-    /// The boarding schools (*internats*) of a state of the dossier, with their bars at the
-    /// ceilings. It costs about the number of wishes.
+    /// The boarding schools (*internats*) of a state of the dossier with their own beds, and with
+    /// their bars at the ceilings. It costs about the number of wishes.
     pub fn begin_round<'b, 'e>(
         &'b self,
         alloc: Global,
@@ -104,5 +105,32 @@ impl<'a, 'd> Roster<'a, 'd> {
     {
         let _ = self.dossier; // learns the invariant
         LinkedRound::build(alloc, state, self.orders, &self.lineup, ceilings)
+    }
+
+    /// The same with these beds in place of the dossier's own, one number a school.
+    pub fn begin_round_with<'b, 'e>(
+        &'b self,
+        alloc: Global,
+        state: &'b DayState<'e>,
+        beds: &[u32],
+        ceilings: &[u32],
+    ) -> Result<LinkedRound<'b, 'e>, OutOfMemory>
+        requires same { self.now.dossier ≡ state.now.dossier }
+        requires beds { length beds.now ≡ length state.now.dossier.schools }
+        requires ceilings { length ceilings.now ≡ length state.now.dossier.schools }
+        ensures round { IfOk result (λ round. round ≡ record {
+          state = lent state.now beds.now;
+          orders = self.now.orders;
+          ceilings = ceilings.now;
+          bars = ceilings.now;
+        }) }
+        ensures system { IfOk result (λ round. ⟦<LinkedRound<'b, 'e> as Falling>⟧.system round
+            ≡ boarding (lent state.now beds.now) self.now.orders ceilings.now) }
+        ensures bars { IfOk result (λ round. ⟦<LinkedRound<'b, 'e> as Falling>⟧.bars round
+            ≡ ceilings.now) }
+    {
+        let _ = self.dossier; // learns the invariant
+        let own = beds.to_vec(alloc)?;
+        LinkedRound::build_with(alloc, state, self.orders, &self.lineup, own, ceilings)
     }
 }

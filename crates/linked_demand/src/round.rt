@@ -1,6 +1,7 @@
 //! The boarding schools of a state, with the lines of its programmes.
 ghost use Rattle.std.specs.Prelude.{◌≡◌, ◌+◌, ◌<◌, length, slice_get, slice_index, slice_set, IfOk, IsOk};
 ghost use Rattle.admit_core.specs.State.{free_beds};
+ghost use Rattle.linked_demand.specs.Lent.{lent};
 ghost use Rattle.linked_demand.specs.Lineups.{IsLineupOf};
 ghost use Rattle.admit_core.specs.Proposals.{demanded_ranks, proposed};
 ghost use Rattle.admit_core.specs.Boarding.{boarding};
@@ -8,6 +9,7 @@ ghost use Rattle.bar_fixpoint.specs.Overfilled.{rank_over};
 ghost use Rattle.linked_demand.specs.Rounds.{bar_each, is_proposed_in};
 ghost use Rattle.linked_demand.specs.Ticks.{changes_between};
 
+use crate::beds::own_beds;
 use crate::cut::close_past;
 use crate::ends::front_in;
 use crate::housed::Housed;
@@ -27,15 +29,15 @@ use std::alloc::Global;
 use std::marker::Model;
 use std::sync::ledger::Ledger;
 
-/// The boarding schools (*internats*) of a state, with their ceilings and their present bars. It
-/// keeps who is served in each programme, who has a bed in each school, and which are overfilled: a
+/// The boarding schools (*internats*) of a state, with their ceilings and their present bars, and
+/// with the beds that they are lent: its state is seen with these. It keeps who is served in each programme, who has a bed in each school, and which are overfilled: a
 /// fall costs the wishes that it closes and those that become proposed.
 pub struct LinkedRound<'a, 'd> {
     links: SeatLinks<'a, 'd>,
     boarders: &'a [Vec<RowWish>],
     ceilings: Vec<u32>,
     bars: Vec<u32>,
-    free: Vec<u32>,
+    beds: Vec<u32>,
     ends: Vec<usize>,
     overfilled: Overfilled,
     marked: Marks,
@@ -50,7 +52,7 @@ impl Drop for LinkedRound<'_, '_> {
             boarders: _,
             ceilings: _,
             bars: _,
-            free: _,
+            beds: _,
             ends: _,
             overfilled: _,
             marked: _,
@@ -60,23 +62,24 @@ impl Drop for LinkedRound<'_, '_> {
 }
 
 impl<'a, 'd> Model for LinkedRound<'a, 'd> {
+    ghost use Rattle.linked_demand.specs.Lent.{lent};
     ghost use Rattle.linked_demand.specs.Rounds.{Round, IsRoundAlong};
 
     ghost Value = { Round };
 
     ghost view = { λ r. record {
-      state = r.links.state;
+      state = lent r.links.state r.beds.items;
       orders = r.links.orders;
       ceilings = r.ceilings.items;
       bars = r.bars.items;
     } };
 
-    ghost invariant = { λ r. IsRoundAlong r.links r.ceilings.items r.bars.items r.free.items
+    ghost invariant = { λ r. IsRoundAlong r.links r.ceilings.items r.bars.items r.beds.items
         r.boarders.now r.ends.items r.overfilled r.marked r.housed.items };
 }
 
 impl<'a, 'd> LinkedRound<'a, 'd> {
-    /// The schools of a state, with their bars at the ceilings.
+    /// The schools of a state with their own beds, and with their bars at the ceilings.
     ///
     /// It costs about the number of wishes: the walk along the call orders is the lineup's, as are
     /// the boarders of each school by rank.
@@ -102,23 +105,48 @@ impl<'a, 'd> LinkedRound<'a, 'd> {
         ensures offers { IfOk result (λ r. ⟦<LinkedRound<'a, 'd> as Falling>⟧.offers r ≡ proposed
             state.now orders.now.orders) }
     {
+        let beds = own_beds(alloc, state)?;
+        LinkedRound::build_with(alloc, state, orders, lineup, beds, ceilings)
+    }
+
+    /// The schools of a state with these beds, one number each, and with their bars at the
+    /// ceilings.
+    pub(crate) fn build_with(
+        alloc: Global,
+        state: &'a DayState<'d>,
+        orders: &'a CallOrders,
+        lineup: &'a Lineup,
+        beds: Vec<u32>,
+        ceilings: &[u32],
+    ) -> Result<LinkedRound<'a, 'd>, OutOfMemory>
+        requires lineup { IsLineupOf state.now.dossier orders.now.orders lineup.now }
+        requires beds { length beds.items ≡ length state.now.dossier.schools }
+        requires ceilings { length ceilings.now ≡ length state.now.dossier.schools }
+        ensures round { IfOk result
+            (λ r. r ≡ record {
+              state = lent state.now beds.items;
+              orders = orders.now.orders;
+              ceilings = ceilings.now;
+              bars = ceilings.now;
+            }) }
+        ensures bars { IfOk result (λ r. ⟦<LinkedRound<'a, 'd> as Falling>⟧.bars r ≡ ceilings.now) }
+    {
         let bars = ceilings.to_vec(alloc)?;
         let own = ceilings.to_vec(alloc)?;
         let links = SeatLinks::build(alloc, state, orders, lineup, ceilings)?;
         let boarders = lineup.boarders.as_slice();
         let Schools {
-            free,
             ends,
             overfilled,
             marked,
             housed,
-        } = schools_of(alloc, &links, boarders, ceilings)?;
+        } = schools_of(alloc, &links, boarders, &beds, ceilings)?;
         Ok(LinkedRound {
             links,
             boarders,
             ceilings: own,
             bars,
-            free,
+            beds,
             ends,
             overfilled,
             marked,
@@ -234,7 +262,7 @@ impl Falling for LinkedRound<'_, '_> {
         cut_school(&mut self.housed, &mut self.overfilled, i, to);
         house_marked(
             &self.links,
-            &self.free,
+            &self.beds,
             &mut self.marked,
             &mut self.housed,
             &mut self.overfilled,

@@ -1,4 +1,4 @@
-use Rattle.std.proofs.Common.{◌≡◌, true, false, not, ap, length, refl, subst, sym, ◌∙◌}
+use Rattle.std.proofs.Common.{◌≡◌, true, false, not, ap, length, subst, sym, ◌∙◌}
 use Rattle.std.proofs.lemmas.Bool.{and_from, not-true}
 use Rattle.admit_core.specs.State.{is_waiting}
 use Rattle.day_state.specs.Kept.{has_bed_there, mark_in}

@@ -1,30 +1,34 @@
-use Rattle.std.proofs.Common.{rules, ◌≡◌, refl, sym, length, subst}
-use Rattle.linked_demand.specs.Boarders.{AreBySchool}
-use Rattle.linked_demand.specs.Links.{LinksRow}
-use Rattle.linked_demand.specs.Opens.{opens_of}
-use Rattle.linked_demand.proofs.BarEach.{bar_each_same}
+use Rattle.std.proofs.Common.{◌∙◌, ap}
+use Rattle.std.proofs.lemmas.Result.{IfOk-weaker}
+use Rattle.admit_core.specs.Boarding.{boarding}
+use Rattle.admit_core.specs.Proposals.{proposed}
+use Rattle.admit_core.specs.State.{State}
+use Rattle.linked_demand.specs.Rounds.{Round}
+use Rattle.linked_demand.proofs.Lent.{lent_these}
 use Rattle.linked_demand.proofs.round.LinkedRound.build.Goals as goal
 
-pub returns-clause-bars : goal.returns-clause-bars
-returns-clause-bars c = bar_each_same c.in_ok-own.own.items c.in_ok-bars.bars.items
-    c.args.ceilings.now (search rules) (search rules)
+pub returns-clause-round : goal.returns-clause-round
+returns-clause-round c =
+    let seen : State → Round = λ s. record {
+      state = s;
+      orders = c.args.orders.now.orders;
+      ceilings = c.args.ceilings.now;
+      bars = c.args.ceilings.now;
+    } in
+    IfOk-weaker c.build_with.result _ _
+    (λ r is. is ∙ ap seen (lent_these c.args.state.now c.in_ok-beds.beds.items c.in_ok-beds.ensures))
+    c.build_with.ensures.round
 
-pub schools_of-requires : goal.schools_of-requires
-schools_of-requires c =
-    let boarders = c.as_slice-boarders.result.now in
-    let P = λ (l : LinksRow). AreBySchool l.state.dossier l.orders boarders in
-    let Q = λ (l : LinksRow). l.opens ≡ opens_of l.state c.args.ceilings.now in
-    let R = λ (l : LinksRow). length c.args.ceilings.now ≡ length l.state.dossier.schools in
-    let right : AreBySchool c.args.state.now.dossier c.args.orders.now.orders boarders =
-    rw c.as_slice-boarders.ensures.value c.requires.lineup.boarders in
-    record {
-      boarders = subst P (sym c.in_ok-links.ensures) right;
-      opens = subst Q (sym c.in_ok-links.ensures) refl;
-      bars = subst R (sym c.in_ok-links.ensures) c.requires.ceilings;
-    }
+pub returns-clause-system : goal.returns-clause-system
+returns-clause-system c =
+    IfOk-weaker c.build_with.result _ _
+    (λ r is. ap (λ (v : Round). boarding v.state v.orders v.ceilings) is
+    ∙ ap (λ (s : State). boarding s c.args.orders.now.orders c.args.ceilings.now)
+    (lent_these c.args.state.now c.in_ok-beds.beds.items c.in_ok-beds.ensures)) c.build_with.ensures.round
 
-pub invariant_of-result : goal.invariant_of-result
-invariant_of-result c =
-    let bars : c.in_ok-bars.bars.items ≡ c.args.ceilings.now = search rules in
-    let ceilings : c.in_ok-own.own.items ≡ c.args.ceilings.now = search rules in
-    rw (bars, ceilings) c.in_ok-free.ensures
+pub returns-clause-offers : goal.returns-clause-offers
+returns-clause-offers c =
+    IfOk-weaker c.build_with.result _ _
+    (λ r is. ap (λ (v : Round). proposed v.state v.orders) is
+    ∙ ap (λ (s : State). proposed s c.args.orders.now.orders)
+    (lent_these c.args.state.now c.in_ok-beds.beds.items c.in_ok-beds.ensures)) c.build_with.ensures.round
