@@ -9,7 +9,7 @@ from datetime import date
 from pathlib import Path
 
 from . import program
-from .campaign import CALENDAR, Stopped, complaint
+from .campaign import CALENDAR, Stopped, complaint, read_calendar
 from .cells import IN_ENGLISH, IN_FRENCH
 from .dating import Calendar
 from .faults import Faults, Row, shown
@@ -56,11 +56,17 @@ def answers_in(dossier: Path) -> tuple[SlotSheet, list[Answer]]:
     """The answers that are there already."""
     with open(dossier / ANSWERS, newline="", encoding="utf-8-sig") as file:
         rows = [cells for cells in csv.reader(file) if cells]
+    return SlotSheet(ANSWERS, rows), [answer_of(dossier, number, cells) for number, cells in enumerate(rows[1:], 2)]
+
+
+def answer_of(dossier: Path, number: int, cells: list[str]) -> Answer:
+    """The answer of a row, which has this number."""
     try:
-        return SlotSheet(ANSWERS, rows), [Answer(int(day), kind, int(target)) for day, kind, target in rows[1:]]
+        day, kind, target = cells
+        return Answer(int(day), kind, int(target))
     except ValueError:
-        raise Stopped(program.READ_FAULT, f"{dossier / ANSWERS} is no slot of answers; correct it "
-                                          "(docs/FORMATS.md), or copy the one of examples/blank.") from None
+        raise Stopped(program.READ_FAULT, f"{dossier / ANSWERS}, row {number}: {shown(','.join(cells))} is no row of "
+                                          "answers; correct it (docs/FORMATS.md), or take it out.") from None
 
 
 @dataclass
@@ -196,10 +202,4 @@ def tell_unfit(rows: list[tuple[Row, Answer]], dossier: Path, calendar: Calendar
 def coming_day(dossier: Path, asked: Calendar) -> Calendar:
     """The coming day of a dossier: as next_day keeps it, else day 1 as the user says."""
     kept = dossier / CALENDAR
-    if not kept.exists():
-        return asked
-    try:
-        return Calendar.from_bytes(kept.read_bytes())
-    except ValueError:
-        raise Stopped(program.READ_FAULT, f"{shown(str(kept))} is not as next_day wrote it; put the last one back, "
-                                          "from the folder `after` of the latest day.") from None
+    return read_calendar(kept.read_bytes(), kept) if kept.exists() else asked

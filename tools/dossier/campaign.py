@@ -86,15 +86,27 @@ def checksums(folder: Path) -> bytes:
         raise unread(error) from None
 
 
-def calendar_of(files: Files, asked: Calendar) -> Calendar:
+def slots_changed(sums: bytes, earlier: bytes) -> list[str]:
+    """The slots whose line in these checksums is none of those in the earlier ones."""
+    then = earlier.splitlines()
+    return [line.split()[-1].decode() for line in sums.splitlines() if line not in then]
+
+
+def read_calendar(data: bytes, where: Path) -> Calendar:
+    """The coming day as next_day has written it there."""
+    try:
+        return Calendar.from_bytes(data)
+    except ValueError:
+        text = " | ".join(data.decode(errors="replace").splitlines())
+        raise Stopped(program.READ_FAULT, f"{shown(str(where))} is not as next_day wrote it: {shown(text)}. Put the "
+                                          "last one back, from the folder `after` of the latest day.") from None
+
+
+def calendar_of(folder: Path, files: Files, asked: Calendar) -> Calendar:
     """The coming day: as kept, or the first one as the user asked for it."""
     if CALENDAR not in files:
         return asked
-    try:
-        kept = Calendar.from_bytes(files[CALENDAR])
-    except ValueError:
-        raise Stopped(program.READ_FAULT, f"{CALENDAR} is not as this tool wrote it; put the last one back, from the "
-                                          "folder `after` of the latest day.") from None
+    kept = read_calendar(files[CALENDAR], folder / CALENDAR)
     if asked.today and (asked.today, asked.term) != (kept.today, kept.term):
         dated = f"its coming day is {kept.today} with a term of {kept.term}" if kept.today else "it has no deadlines"
         raise Stopped(program.BAD_WORDS, f"the campaign has begun, and {dated}; leave --start and --term out.")
@@ -185,8 +197,7 @@ def read_record(folder: Path) -> Record:
 def found_record(folder: Path, kept: Path, calendar: Calendar | None) -> Record:
     """The record that is there of the coming day, which must be of the slots as they are, and of this calendar."""
     record = read_record(kept)
-    then = record.checksums.splitlines()
-    changed = [line.split()[-1].decode() for line in checksums(folder).splitlines() if line not in then]
+    changed = slots_changed(checksums(folder), record.checksums)
     if calendar and record.after[CALENDAR] != calendar.next().to_bytes():
         changed.append("the dates")
     if changed:
@@ -213,11 +224,11 @@ def changed_by_hand(days: Path, calendar: Calendar, record: Record) -> str:
     changed; no line where all is, or where the record of that day is not whole any more."""
     earlier = days / f"day-{calendar.day - 1:03}"
     try:
-        then = (earlier / CHECKSUMS).read_bytes().splitlines()
+        then = (earlier / CHECKSUMS).read_bytes()
         left = {name: (earlier / "after" / name).read_bytes() for name in ("state.csv", CALENDAR)}
     except OSError:
         return ""
-    changed = [line.split()[-1].decode() for line in record.checksums.splitlines() if line not in then]
+    changed = slots_changed(record.checksums, then)
     changed += [name for name, data in left.items() if record.before.get(name) != data]
     return f"changed since day {calendar.day - 1}: {', '.join(changed)}" if changed else ""
 
@@ -235,7 +246,7 @@ def next_day(folder: Path, asked: Calendar) -> str:
     changed by hand since the day before."""
     with alone(folder):
         files = read_files(folder)
-        calendar = calendar_of(files, asked)
+        calendar = calendar_of(folder, files, asked)
         days = folder / "days"
         days.mkdir(exist_ok=True)
         for stale in days.glob(f"{STAGING}*"):

@@ -9,7 +9,7 @@ from functools import cached_property
 from pathlib import Path
 from typing import NamedTuple
 
-from .campaign import CALENDAR, CHANGING, CHECKSUMS, LASTING, STAGING, Stopped, checksums, unread
+from .campaign import CALENDAR, CHANGING, CHECKSUMS, LASTING, STAGING, Stopped, checksums, slots_changed, unread
 from .dating import Calendar
 from .program import READ_FAULT
 
@@ -112,8 +112,7 @@ class KeptDay:
 
     def test_slots(self, dossier: Path) -> None:
         """The slots that do not change from day to day must be as they were for this one."""
-        then = (self.folder / CHECKSUMS).read_bytes().splitlines()
-        changed = [line.split()[-1].decode() for line in checksums(dossier).splitlines() if line not in then]
+        changed = slots_changed(checksums(dossier), (self.folder / CHECKSUMS).read_bytes())
         if changed:
             raise Stopped(READ_FAULT, f"{', '.join(changed)} changed since day {self.number} was made, so what the "
                                       "program said of that day cannot be told; put it back as it was, or make the "
@@ -128,15 +127,22 @@ class KeptDay:
             (place / name).symlink_to((dossier / name).resolve())
 
 
+def kept_day(folder: Path) -> KeptDay:
+    """The day of a record."""
+    try:
+        coming = Calendar.from_bytes((folder / "after" / CALENDAR).read_bytes())
+        today = coming.today and coming.today - timedelta(days=1)
+        return KeptDay(folder, Calendar(coming.day - 1, today, coming.term))
+    except ValueError:
+        raise Stopped(READ_FAULT, f"{folder} has a {CALENDAR} that next_day did not write; take the folder out.") \
+            from None
+
+
 def kept_days(dossier: Path) -> list[KeptDay]:
     """The days that have records, in order."""
     try:
-        found = []
-        for folder in sorted((dossier / "days").iterdir()):
-            if not folder.name.startswith(STAGING):
-                coming = Calendar.from_bytes((folder / "after" / CALENDAR).read_bytes())
-                today = coming.today and coming.today - timedelta(days=1)
-                found.append(KeptDay(folder, Calendar(coming.day - 1, today, coming.term)))
+        folders = sorted((dossier / "days").iterdir())
+        found = [kept_day(folder) for folder in folders if not folder.name.startswith(STAGING)]
         return sorted(found, key=lambda day: day.number)
     except FileNotFoundError as error:
         if Path(error.filename) == dossier / "days":
@@ -144,9 +150,6 @@ def kept_days(dossier: Path) -> list[KeptDay]:
         raise unread(error) from None
     except OSError as error:
         raise unread(error) from None
-    except ValueError:
-        raise Stopped(READ_FAULT, f"{dossier / 'days'} has something that next_day did not write; take it out.") \
-            from None
 
 
 def made_days(dossier: Path) -> list[KeptDay]:
