@@ -54,7 +54,7 @@ def cost(crate):
 
 
 def way_up(crate, crates):
-    """The cost of the dearest chain from a crate to the top."""
+    """The cost of the most expensive chain from a crate to the top."""
     return cost(crate) + max((way_up(it, crates) for it in crates if crate in it.deps), default=0)
 
 
