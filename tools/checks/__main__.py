@@ -32,7 +32,7 @@ def topics(program: str) -> dict[str, list[Checks]]:
                     hostile.check_names, hostile.check_broken_dossiers, hostile.check_lines],
         "disks": [disks.check_full_devices, disks.check_small_disks],
         "killing": list(killing.CHECKS),
-        "lemmas": [lemmas.check_same_lemmas, lemmas.check_witnesses],
+        "lemmas": [lemmas.check_same_lemmas, lemmas.check_witnesses, lemmas.check_promises],
         "edits": [edits.check_edits],
         "rounds": [partial(rounds.check_small_rounds, program=program), partial(rounds.check_finds, program=program),
                    partial(rounds.check_unknown_modes, program=program),

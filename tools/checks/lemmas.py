@@ -1,9 +1,10 @@
 """Checks of same_lemmas.py and laws_without_witness.py, and by them of the crates: a lemma is stated once, and each law
-has a worked case."""
+has a worked case. And of what `promises.py` finds in a page."""
 
 import shutil
 from pathlib import Path
 
+from . import promises
 from .harness import TOOLS, Tally, run, scratch
 
 ONE = "-- A comment.\npub or_twice : (b : Bool) → (b || b) ≡ b -- here\nor_twice true = refl\nor_twice false = refl\n"
@@ -114,3 +115,25 @@ def check_witnesses(tally: Tally) -> None:
             tally.equal(fault, look_at_laws(folder, CASES, FALLS.replace(old, new) + LESS), (1, said))
     ended = run(TOOLS / "laws_without_witness.py")
     tally.equal("the crates", (ended.status, ended.output.decode().splitlines()[:-1]), (0, []))
+
+
+PROMISED = """| promise | contract |
+|---|---|
+| a clause | `round::pass`, `pass`, `laws` (`beds` of `KeepsPassLaws`) |
+| one that is not there | the same, `pazz` |
+| a word for a call | **day**, `done` (`is_day`: `fits` of `IsDay`); **run**, `answers.outcome` |
+| a method and a type | `day_state::DayState::apply`, `result`; `bar_law::Falling`, `offers`; `Campaign::begins` |
+| no function | `round::offer` |
+
+| call | answers | when | then |
+|---|---|---|---|
+| `read_slot` | `TooLarge` | `too_large` | `taken`, `gifen` |
+| | `Failed` | | `others` |
+"""
+
+
+def check_promises(tally: Tally) -> None:
+    """Of the names that a page cites, those are found that the crates do not have."""
+    tally.begin("promises.py")
+    missing = ["line 4: pazz", "line 6: Campaign::begins", "line 7: round::offer", "line 11: gifen"]
+    tally.equal("what is not there", promises.unknown_names(PROMISED), missing)
