@@ -11,7 +11,7 @@ from functools import partial
 from dossier.program import program
 from dossier.wording import Words
 
-from . import answered, auditing, cutting, days, disks, edits, exporting, hostile, installing, killing, lemmas
+from . import answered, auditing, building, cutting, days, disks, edits, exporting, hostile, installing, killing, lemmas
 from . import measuring, rechecking, rounds, script, sheets, stored, tabled, telling_modes, whys, workbooks
 from .harness import EXAMPLES, Tally, until_told
 
@@ -45,7 +45,7 @@ def topics(program: str) -> dict[str, list[Checks]]:
                     partial(rechecking.check_random, program=program),
                     partial(rechecking.check_broken, program=program),
                     partial(rechecking.check_large, program=program)],
-        "script": [script.check_script],
+        "script": [script.check_script, building.check_twice],
         "modes": [telling_modes.check_listed, telling_modes.check_reads],
         "exporting": [exporting.check_round_trips, partial(exporting.check_acceptance, program=program)],
         "days": [partial(days.check_seven_days, program=program), days.check_answers_that_do_not_fit,

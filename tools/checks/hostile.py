@@ -32,7 +32,7 @@ BAD_WORDS = (
     ("measure.sh", "fly"), ("measure.sh", "--runs", "0"), ("measure.sh", "--candidates", "1000"),
     ("check_pages.sh", "README.md"), ("check_pages.sh", "--link"), ("edit_clauses", "--tried"),
     ("edit_clauses", "none"), ("same_lemmas.py", "--what"), ("laws_without_witness.py", "--lists"),
-    ("break_lines.py", "none"),
+    ("break_lines.py", "none"), ("build_twice.sh", "3"), ("build_twice.sh", "--keep"),
 )
 
 
