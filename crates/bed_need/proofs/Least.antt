@@ -89,7 +89,7 @@ module _ (s : State) (orders : List CallOrder) (ceilings : List ℕ) (h : ℕ)
   here = omega (arith, in_range, long)
 
   -- nobody needs more than one bed
-  few : (bars : List ℕ) → live + coming bars ≤ 16000000
+  pub few : (bars : List ℕ) → live + coming bars ≤ 16000000
   few bars =
       let stamp : Stamp = record { day = 0; pass = 0 } in
       let new = offered s orders bars stamp in

@@ -1,8 +1,6 @@
-mod Alike
+mod Coming
 pub mod Growing
 mod Least
-mod OtherBeds
-mod Refitting
+mod LentBeds
 mod RoomyBeds
-mod Taking
 mod Telling

@@ -3,6 +3,5 @@ pub mod Figures
 pub mod Growing
 pub mod Needing
 pub mod Questions
-pub mod Refitted
 pub mod Telling
 pub mod Text

@@ -2,7 +2,7 @@
 //! all schools stand then.
 //!
 //! `let need = least_beds(alloc, &state, &orders, ceilings, school, picker)?;`, or for several
-//! questions of a state `let questions = BedQuestions::build(alloc, &state, &orders)?;` and then
+//! questions of a state, whose roster is at hand, `BedQuestions::along(&state, &roster)` and then
 //! `questions.least_beds(alloc, ceilings, school, picker)?`.
 #![tactic(auto)]
 
@@ -10,7 +10,6 @@ mod growth;
 mod laws;
 mod need;
 mod questions;
-mod refitted;
 mod settled;
 mod text;
 

@@ -1,0 +1,127 @@
+use Rattle.std.proofs.Common.{◌≡◌, ◌∙◌, ◌+◌, ap, arith, length, refl, subst}
+use Rattle.admit_core.specs.Boarding.{boarding}
+use Rattle.admit_core.specs.Falls.{FallingSystem, IsGreatest}
+use Rattle.admit_core.specs.Proposals.{demanded_ranks}
+use Rattle.admit_core.specs.State.{State, bed_holders}
+use Rattle.admit_core.specs.Validity.{IsValid}
+use Rattle.admit_core.proofs.Plain.{on_err}
+use Rattle.bar_fixpoint.proofs.RunLaws.{none_told}
+use Rattle.linked_demand.specs.Lent.{own_beds}
+use Rattle.linked_demand.specs.Rounds.{bar_each}
+use Rattle.bed_need.specs.Needing.{need_of}
+use Rattle.bed_need.proofs.Least.{few, few_need, needs_least}
+use Rattle.bed_need.proofs.LentBeds.{put_lent}
+use Rattle.bed_need.proofs.Telling.{asked_named, falls_of_run}
+use Rattle.bed_need.proofs.questions.BedQuestions.least_beds.Goals as goal
+
+pub returns-clause-need : goal.returns-clause-need
+returns-clause-need g c =
+    let s = c.args.self.now.state in
+    let orders = c.args.self.now.orders in
+    let beds : c.in_ok-beds.beds.items ≡ own_beds s.dossier =
+    c.in_ok-beds.ensures ∙ ap (λ (t : State). own_beds t.dossier) c.state-state.ensures in
+    let same = ap (λ (t : State). boarding t orders c.args.ceilings.now)
+    (put_lent s c.in_ok-beds.beds.items c.deref.result.now c.args.school 2000000000 beds c.requires.school
+    c.deref.ensures.value) in
+    let h = c.args.school in
+    let round = c.in_ok-round.round in
+    let bars = bar_each round.ceilings round.bars in
+    let valid : IsValid s.dossier =
+    subst IsValid (c.dossier.view_is ∙ c.dossier-dossier.ensures ∙ ap (λ (t : State). t.dossier) c.state-state.ensures)
+    c.dossier.invariant in
+    let coming : c.in_ok-coming.coming ≡ length (demanded_ranks s orders bars h) =
+    c.in_ok-coming.ensures ∙ ap (λ (sys : FallingSystem). length (sys.ranks bars h)) c.in_ok-round.ensures.system in
+    let live : c.live_in_school.result ≡ length (bed_holders s h) =
+    c.live_in_school.ensures ∙ ap (λ (t : State). length (bed_holders t h)) c.state-state.ensures in
+    let is : c.need_of.result ≡ need_of (length (bed_holders s h))
+    (length (bed_holders s h) + length (demanded_ranks s orders bars h)) =
+    c.need_of.ensures ∙ rw (live, coming) refl in
+    needs_least s orders c.args.ceilings.now h valid c.requires.school c.requires.ceilings bars
+    (subst (λ (sys : FallingSystem). IsGreatest sys bars) same c.in_ok-round.ensures.bars) c.need_of.result is
+
+pub returns-clause-few : goal.returns-clause-few
+returns-clause-few g c =
+    let s = c.args.self.now.state in
+    let orders = c.args.self.now.orders in
+    let h = c.args.school in
+    let round = c.in_ok-round.round in
+    let bars = bar_each round.ceilings round.bars in
+    let valid : IsValid s.dossier =
+    subst IsValid (c.dossier.view_is ∙ c.dossier-dossier.ensures ∙ ap (λ (t : State). t.dossier) c.state-state.ensures)
+    c.dossier.invariant in
+    let coming : c.in_ok-coming.coming ≡ length (demanded_ranks s orders bars h) =
+    c.in_ok-coming.ensures ∙ ap (λ (sys : FallingSystem). length (sys.ranks bars h)) c.in_ok-round.ensures.system in
+    let live : c.live_in_school.result ≡ length (bed_holders s h) =
+    c.live_in_school.ensures ∙ ap (λ (t : State). length (bed_holders t h)) c.state-state.ensures in
+    let is : c.need_of.result ≡ need_of (length (bed_holders s h))
+    (length (bed_holders s h) + length (demanded_ranks s orders bars h)) =
+    c.need_of.ensures ∙ rw (live, coming) refl in
+    few_need s orders c.args.ceilings.now h valid c.requires.school c.requires.ceilings bars c.need_of.result is
+
+pub need_of-requires : goal.need_of-requires
+need_of-requires g c =
+    let s = c.args.self.now.state in
+    let orders = c.args.self.now.orders in
+    let h = c.args.school in
+    let round = c.in_ok-round.round in
+    let bars = bar_each round.ceilings round.bars in
+    let valid : IsValid s.dossier =
+    subst IsValid (c.dossier.view_is ∙ c.dossier-dossier.ensures ∙ ap (λ (t : State). t.dossier) c.state-state.ensures)
+    c.dossier.invariant in
+    let coming : c.in_ok-coming.coming ≡ length (demanded_ranks s orders bars h) =
+    c.in_ok-coming.ensures ∙ ap (λ (sys : FallingSystem). length (sys.ranks bars h)) c.in_ok-round.ensures.system in
+    let live : c.live_in_school.result ≡ length (bed_holders s h) =
+    c.live_in_school.ensures ∙ ap (λ (t : State). length (bed_holders t h)) c.state-state.ensures in
+    let enough = few s orders c.args.ceilings.now h valid c.requires.school c.requires.ceilings bars in
+    omega (arith, live, coming, enough)
+
+pub overflow_cast-coming : goal.overflow_cast-coming
+overflow_cast-coming g c =
+    let s = c.args.self.now.state in
+    let orders = c.args.self.now.orders in
+    let h = c.args.school in
+    let round = c.in_ok-round.round in
+    let bars = bar_each round.ceilings round.bars in
+    let valid : IsValid s.dossier =
+    subst IsValid (c.dossier.view_is ∙ c.dossier-dossier.ensures ∙ ap (λ (t : State). t.dossier) c.state-state.ensures)
+    c.dossier.invariant in
+    let coming : c.in_ok-coming.coming ≡ length (demanded_ranks s orders bars h) =
+    c.in_ok-coming.ensures ∙ ap (λ (sys : FallingSystem). length (sys.ranks bars h)) c.in_ok-round.ensures.system in
+    let enough = few s orders c.args.ceilings.now h valid c.requires.school c.requires.ceilings bars in
+    omega (arith, coming, enough)
+
+pub returns-clause-told : goal.returns-clause-told
+returns-clause-told g c =
+    let s = c.args.self.now.state in
+    let orders = c.args.self.now.orders in
+    let beds : c.in_ok-beds.beds.items ≡ own_beds s.dossier =
+    c.in_ok-beds.ensures ∙ ap (λ (t : State). own_beds t.dossier) c.state-state.ensures in
+    let same = ap (λ (t : State). boarding t orders c.args.ceilings.now)
+    (put_lent s c.in_ok-beds.beds.items c.deref.result.now c.args.school 2000000000 beds c.requires.school
+    c.deref.ensures.value) in
+    (asked_named _ _ _ _ _ _ _ same c.in_ok-round.ensures.asked).told
+
+pub returns-in_err-beds-clause-falls : goal.returns-in_err-beds-clause-falls
+returns-in_err-beds-clause-falls g c = on_err _ (none_told _ _ _)
+
+pub returns-in_err-round-clause-falls : goal.returns-in_err-round-clause-falls
+returns-in_err-round-clause-falls g c =
+    let s = c.args.self.now.state in
+    let orders = c.args.self.now.orders in
+    let beds : c.in_ok-beds.beds.items ≡ own_beds s.dossier =
+    c.in_ok-beds.ensures ∙ ap (λ (t : State). own_beds t.dossier) c.state-state.ensures in
+    let same = ap (λ (t : State). boarding t orders c.args.ceilings.now)
+    (put_lent s c.in_ok-beds.beds.items c.deref.result.now c.args.school 2000000000 beds c.requires.school
+    c.deref.ensures.value) in
+    on_err _ (asked_named _ _ _ _ _ _ _ same c.in_err-round.ensures.asked).falls
+
+pub returns-in_err-coming-clause-falls : goal.returns-in_err-coming-clause-falls
+returns-in_err-coming-clause-falls g c =
+    let s = c.args.self.now.state in
+    let orders = c.args.self.now.orders in
+    let beds : c.in_ok-beds.beds.items ≡ own_beds s.dossier =
+    c.in_ok-beds.ensures ∙ ap (λ (t : State). own_beds t.dossier) c.state-state.ensures in
+    let same = ap (λ (t : State). boarding t orders c.args.ceilings.now)
+    (put_lent s c.in_ok-beds.beds.items c.deref.result.now c.args.school 2000000000 beds c.requires.school
+    c.deref.ensures.value) in
+    on_err _ (falls_of_run _ _ _ _ (asked_named _ _ _ _ _ _ _ same c.in_ok-round.ensures.asked).told)
