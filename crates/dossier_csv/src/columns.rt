@@ -148,7 +148,15 @@ fn choice<T: Copy>(table: &[(&str, T)], text: &[u8]) -> Option<T>
 pub(crate) fn flag(row: &ByteRecord, position: u32) -> Result<bool, Reason>
     ensures { result ≡ Columns.flag (fields_of row.now) position }
 {
-    choice(&[("0", false), ("1", true)], text_at(row, position)).ok_or(Reason::NotFlag(position))
+    let text = text_at(row, position);
+    if text.len() != 1 {
+        return Err(Reason::NotFlag(position));
+    }
+    match text[0] {
+        b'0' => Ok(false),
+        b'1' => Ok(true),
+        _ => Err(Reason::NotFlag(position)),
+    }
 }
 
 /// The value of a column's word.
