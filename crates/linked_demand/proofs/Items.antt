@@ -30,7 +30,7 @@ use Rattle.linked_demand.proofs.Ticking.{claim_fits}
 use Rattle.linked_demand.proofs.Waiting.{single_seat}
 
 -- the one place of a number is that of its first one
-place_is : (c : ℕ) (xs : List ℕ) (k : ℕ) → IsPlaceOf c xs k → position_or_len (nat_eq c) xs ≡ k
+pub place_is : (c : ℕ) (xs : List ℕ) (k : ℕ) → IsPlaceOf c xs k → position_or_len (nat_eq c) xs ≡ k
 place_is c xs k at =
     position_or_len_is (nat_eq c) xs k 0 (omega (arith, at.within))
     (λ j lt. at.once j (omega (arith, lt, at.within)) (ne_eqb j k (λ e. omega (arith, lt, e))))

@@ -35,6 +35,7 @@ mod round;
 mod rows;
 mod schools;
 mod seats;
+mod standing;
 mod wishes;
 mod wishing;
 

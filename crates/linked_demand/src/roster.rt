@@ -19,7 +19,7 @@ use std::marker::Model;
 pub struct Roster<'a, 'd> {
     dossier: &'d Dossier,
     orders: &'a CallOrders,
-    lineup: Lineup,
+    pub(crate) lineup: Lineup,
 }
 
 // Not derived: so a roster is dropped in one step where it is held, and not part by part.
