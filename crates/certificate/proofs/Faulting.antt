@@ -1,5 +1,6 @@
 -- The first fault of a text, line by line, without what its falls name.
-use Rattle.std.proofs.Common.{◌≡◌, ℕ, ◌+◌, ◌<◌, Bool, true, false, cond, List, [], ◌∷◌, length, Option, Some, None, Result, Ok}
+use Rattle.std.proofs.Common.{◌≡◌, ℕ, ◌+◌, ◌<◌, Bool, true, false, cond, List, [], ◌∷◌, length, Option, Some, None}
+use Rattle.std.proofs.Common.{Result, Ok}
 use Rattle.std.proofs.Common.{Err, refl, sym, ap, ◌∙◌, arith, zero-add}
 use Rattle.std.specs.Prelude.{codes, option_and_then, option_map}
 use Rattle.std.proofs.lemmas.Bool.{le-leb}
@@ -25,7 +26,8 @@ pub none_counted : (others : Option (List ℕ)) → option_map (λ ns. length ns
 none_counted None = refl
 none_counted (Some ns) = ap Some (sym (zero-add (length ns)))
 
-one_more : (count n : ℕ) (others : Option (List ℕ)) → counted count (in_front (Some n) others) ≡ counted (count + 1) others
+one_more : (count n : ℕ) (others : Option (List ℕ))
+    → counted count (in_front (Some n) others) ≡ counted (count + 1) others
 one_more count n None = refl
 one_more count n (Some ns) = let e : count + length (n ∷ ns) ≡ count + 1 + length ns = omega arith in ap Some e
 

@@ -1,6 +1,7 @@
 -- The rows of the first boarders of the schools are those of the schools.
 use Rattle.std.proofs.Common.{ℕ, zero, suc, ◌≤◌, ◌<◌, ◌≡◌, Bool, true, false, not, ◌&&◌, List, [], ◌∷◌, map, length}
-use Rattle.std.proofs.Common.{get_or, inl, inr, refl, sym, ◌∙◌, ap, arith, nat_eq, nat_le, nat_lt, filter, Option, Some, None}
+use Rattle.std.proofs.Common.{get_or, inl, inr, refl, sym, ◌∙◌, ap, arith, nat_eq, nat_le, nat_lt, filter, Option, Some}
+use Rattle.std.proofs.Common.{None}
 use Rattle.std.proofs.Common.{unwrap_or, zip, subst, take, Vec}
 use Rattle.std.specs.Prelude.{slice_get, slice_index, All, is_some}
 use Rattle.std.specs.List.{list_any, range_with_len}

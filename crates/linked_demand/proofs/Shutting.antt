@@ -1,9 +1,12 @@
 -- The flags of open wishes, from those of the waiting ones: of each school those behind its bar are closed.
-use Rattle.std.proofs.Common.{ℕ, ◌+◌, ◌<◌, ◌≡◌, Bool, true, false, not, ◌&&◌, ◌||◌, List, [], filter, map, length, get_or, inl}
-use Rattle.std.proofs.Common.{inr, set, subst, take, refl, sym, ◌∙◌, ap, arith, nat_eq, nat_le, nat_lt, drop, Option, Some, None, zero-add}
+use Rattle.std.proofs.Common.{ℕ, ◌+◌, ◌<◌, ◌≡◌, Bool, true, false, not, ◌&&◌, ◌||◌, List, [], filter, map, length}
+use Rattle.std.proofs.Common.{get_or, inl}
+use Rattle.std.proofs.Common.{inr, set, subst, take, refl, sym, ◌∙◌, ap, arith, nat_eq, nat_le, nat_lt, drop, Option}
+use Rattle.std.proofs.Common.{Some, None, zero-add}
 use Rattle.std.specs.Prelude.{is_some}
 use Rattle.std.specs.List.{range_with_len}
-use Rattle.std.proofs.lemmas.Bool.{cases_Bool, cases_eq, cases_lt, eq-eqb, eqb-false, eqb-true, le-leb, le-ltb, lt-leb, lt-ltb, ne_eqb}
+use Rattle.std.proofs.lemmas.Bool.{cases_Bool, cases_eq, cases_lt, eq-eqb, eqb-false, eqb-true, le-leb, le-ltb, lt-leb}
+use Rattle.std.proofs.lemmas.Bool.{lt-ltb, ne_eqb}
 use Rattle.std.proofs.lemmas.List.{ext_get_or, get_or-map, get_or-set_other, get_or-set_same, length-map}
 use Rattle.std.proofs.lemmas.List.FromFn.{get_or-map-range_with_len, length-map-range_with_len}
 use Rattle.std.proofs.lemmas.Option.{unwrap_or-slice_get}

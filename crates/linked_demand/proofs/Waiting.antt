@@ -20,7 +20,8 @@ use Rattle.admit_core.specs.DossierRows.{DossierRows, candidate_of}
 use Rattle.admit_core.specs.Lists.{is_among}
 use Rattle.admit_core.specs.OwnWishes.{own_places}
 use Rattle.admit_core.specs.Proposals.{is_open, is_barred}
-use Rattle.admit_core.specs.State.{State, entries, has_school, holds_bed, holds_seat, is_live, is_live_status, is_waiting}
+use Rattle.admit_core.specs.State.{State, entries, has_school, holds_bed, holds_seat, is_live, is_live_status}
+use Rattle.admit_core.specs.State.{is_waiting}
 use Rattle.admit_core.specs.State.{is_waiting_status}
 use Rattle.day_state.specs.Kept.{mark_in, wish_in, lives_at, has_bed_there, has_seat_there, holds_bed_in}
 use Rattle.day_state.proofs.Places.{own_any, candidate_in as candidate_is}

@@ -62,4 +62,5 @@ lines-preserved c =
 pub returns : goal.returns
 returns c =
     let last : parts 10 c.lines.rest.now ≡ c.lines.rest.now ∷ [] = search rules in
-    rw (c.fault_at-2.ensures, c.unended.ensures) (is_unended c.lines.reading c.lines.row c.lines.rest.now _ _ last c.lines.invariant.whole)
+    rw (c.fault_at-2.ensures, c.unended.ensures)
+        (is_unended c.lines.reading c.lines.row c.lines.rest.now _ _ last c.lines.invariant.whole)

@@ -5,7 +5,8 @@ use Rattle.std.proofs.lemmas.Option.{slice_get-get_or}
 use Rattle.linked_demand.specs.declared.rows.RowWish.{RowWish}
 use Rattle.linked_demand.specs.Links.{LinksRow}
 use Rattle.linked_demand.specs.Rows.{needs_bed, row_in}
-use Rattle.linked_demand.proofs.Cutting.{cut_there, item_still, open_still, read_in_row, same_at, same_links, so_far_start}
+use Rattle.linked_demand.proofs.Cutting.{cut_there, item_still, open_still, read_in_row, same_at, same_links}
+use Rattle.linked_demand.proofs.Cutting.{so_far_start}
 use Rattle.linked_demand.proofs.Cutting.{so_far_step, waits_still}
 use Rattle.linked_demand.proofs.Passing.{one_more, passing, passing_all}
 use Rattle.linked_demand.proofs.Staying.{none_new, none_marked}

@@ -28,7 +28,8 @@ returns-clause-growth g c =
     c.requires.school c.index_mut.ensures.value c.deref-2.ensures.value) in
     let before = subst (λ (sys : FallingSystem). IsGreatest sys c.in_ok-before.before.items) first
     c.in_ok-before.ensures.bars in
-    let after : IsGreatest (with_more_beds s orders c.args.high.now c.args.school c.args.more) c.in_ok-after.after.items =
+    let after : IsGreatest (with_more_beds s orders c.args.high.now c.args.school c.args.more)
+        c.in_ok-after.after.items =
     subst (λ (sys : FallingSystem). IsGreatest sys c.in_ok-after.after.items) second c.in_ok-after.ensures.bars in
     record {
       before = before;

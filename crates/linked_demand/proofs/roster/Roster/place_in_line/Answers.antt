@@ -24,7 +24,8 @@ returns-clause-place c =
     let stands = subst (λ (r : Setting). IsSeatPlace r.dossier r.orders (wish_in r.dossier.wishes k) c.index.result.now)
     c.self.view_is there in
     let w = wish_in c.args.self.now.dossier.wishes k in
-    sym (place_is w.candidate (line_of c.args.self.now.dossier c.args.self.now.orders w.programme) c.index.result.now stands)
+    sym (place_is w.candidate (line_of c.args.self.now.dossier c.args.self.now.orders w.programme) c.index.result.now
+        stands)
 
 pub returns-clause-called : goal.returns-clause-called
 returns-clause-called c =

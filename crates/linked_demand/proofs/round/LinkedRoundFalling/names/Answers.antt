@@ -23,7 +23,8 @@ demands_in-requires c =
     upto_open r.links c.args.upto own c.front_of-front.result.now
     (first_rise r.links.state.dossier r.links.orders boarders whole.boarders_are r.ends.items c.args.i own first)
     c.front_of-front.ensures
-    (first_open r.links r.bars.items (left_of r.links.state r.beds.items) boarders r.ends.items whole.boarders_are whole.ends_are
+    (first_open r.links r.bars.items (left_of r.links.state r.beds.items) boarders r.ends.items whole.boarders_are
+        whole.ends_are
     whole.under.round c.args.i own first)
 
 pub returns : goal.returns
