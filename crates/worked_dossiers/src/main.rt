@@ -1,20 +1,25 @@
-//! Lowers the bars of worked dossiers in the plain and in the linked system of boarding schools
-//! side by side, and prints a line for each: whether both answer alike from fall to fall, and as
-//! its file says. Its words are the names of the files.
+//! Looks at worked dossiers, and prints a line for each thing that is looked at: whether it is as
+//! its file says. The bars fall in the plain and in the linked system of boarding schools side by
+//! side, which must answer alike from fall to fall; the tables of next mornings are made; and
+//! chains of a first day are tested. Its words are the names of the files.
 //!
-//! `worked_dossiers dossiers.txt`
+//! `worked_dossiers dossiers.txt mornings.txt chains.txt`
 #![tactic(auto)]
 
 ghost use Rattle.std.specs.Prelude.{◌<◌};
 
 mod alike;
+mod chains;
+mod mornings;
 mod tables;
 mod views;
 
 use admit_core::InFault;
 use alike::{Seen, seen_of};
 use case_file::{Section, Slots, sections, slot_named};
+use chains::verdict_in;
 use dossier_check::check;
+use mornings::morning_in;
 use sample_gen::sample;
 use std::alloc::{AllocError, Global};
 use std::{env, fs, io};
@@ -69,6 +74,49 @@ fn sample_line(alloc: Global, number: &str) -> Result<String, AllocError> {
     format!(in alloc; "{verdict}: the sample of {number}")
 }
 
+/// The line of what is seen of a dossier, which is to be this text.
+fn seen_line(
+    alloc: Global,
+    name: &str,
+    what: &str,
+    seen: &Result<String, InFault>,
+    text: &str,
+) -> Result<String, AllocError> {
+    match seen {
+        Ok(seen) if seen.as_str() == text => format!(in alloc; "ok: {name}: {what}"),
+        Ok(seen) => format!(in alloc; "FAILED: {name}: {what}\n{seen}"),
+        Err(_) => format!(in alloc; "FAILED: {name}: {what}: no dossier"),
+    }
+}
+
+/// The line of a section in which a slot of a dossier stands, or its tables or a chain are looked
+/// at; none where there is nothing to print.
+fn take_other(
+    alloc: Global,
+    name: &str,
+    slots: &mut Slots,
+    section: &Section<'_>,
+) -> Result<Option<String>, AllocError> {
+    let text = section.text.as_str();
+    match section.name {
+        "morning" => {
+            let seen = morning_in(alloc, slots, section.words.parse::<u32>().unwrap_or(0));
+            Ok(Some(seen_line(alloc, name, section.line, &seen, text)?))
+        }
+        "verdict" => {
+            let seen = verdict_in(alloc, slots);
+            Ok(Some(seen_line(alloc, name, section.line, &seen, text)?))
+        }
+        other => match slot_named(other) {
+            Some(slot) => {
+                slots.put(alloc, slot, text.as_bytes())?;
+                Ok(None)
+            }
+            None => Ok(Some(format!(in alloc; "FAILED: no section is {other}")?)),
+        },
+    }
+}
+
 /// Takes a section, and answers what there is to print.
 fn take(
     alloc: Global,
@@ -87,13 +135,7 @@ fn take(
             Ok(Some(line_of(alloc, name.as_str(), &seen, section.text.as_str())?))
         }
         "sample" => Ok(Some(sample_line(alloc, section.words)?)),
-        other => match slot_named(other) {
-            Some(slot) => {
-                slots.put(alloc, slot, section.text.as_bytes())?;
-                Ok(None)
-            }
-            None => Ok(Some(format!(in alloc; "FAILED: no section is {other}")?)),
-        },
+        _ => take_other(alloc, name.as_str(), slots, section),
     }
 }
 

@@ -14,7 +14,7 @@ use dossier_csv::{
 use std::alloc::Global;
 
 /// The tables of slots.
-fn tables_of(alloc: Global, slots: &Slots) -> Result<Tables, InFault>
+pub(crate) fn tables_of(alloc: Global, slots: &Slots) -> Result<Tables, InFault>
     ensures { IfOk result AreTables }
 {
     Ok(Tables {
