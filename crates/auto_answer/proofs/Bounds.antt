@@ -11,7 +11,11 @@ use Rattle.admit_core.specs.declared.dossier.Wish.{Wish}
 use Rattle.admit_core.specs.declared.state.Mark.{Mark}
 use Rattle.admit_core.specs.State.{State, entries, is_live, is_school, has_school, holds_seat, holds_bed}
 use Rattle.admit_core.specs.AutoAnswer.{seats_freed, beds_freed}
-use Rattle.auto_answer.specs.Asked.{wishers}
+use Rattle.admit_core.specs.DossierRows.{DossierRows}
+
+-- the candidates of the wishes, by place
+abbrev pub wishers : DossierRows → List ℕ
+wishers d = map (λ w. w.candidate) d.wishes
 
 abbrev one : Bool → ℕ
 one b = cond b 1 0

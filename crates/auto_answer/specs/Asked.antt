@@ -1,16 +1,12 @@
--- Whose the wishes are, and at which of them their candidates are asked.
-use Rattle.std.specs.Prelude.{ℕ, ◌+◌, ◌<◌, ◌^◌, Bool, ◌&&◌, List, map, nat_lt, if◌then◌else◌}
+-- At which wishes their candidates are asked, and what that frees.
+use Rattle.std.specs.Prelude.{ℕ, ◌+◌, ◌<◌, ◌^◌, Bool, ◌&&◌, nat_lt, if◌then◌else◌}
 use Rattle.admit_core.specs.declared.state.Freed.{Freed}
 use Rattle.admit_core.specs.declared.state.Stamp.{Stamp}
 use Rattle.admit_core.specs.Answers.{status_at}
 use Rattle.admit_core.specs.AutoAnswer.{auto_one, freed_by}
-use Rattle.admit_core.specs.DossierRows.{DossierRows, candidate_of}
+use Rattle.admit_core.specs.DossierRows.{candidate_of}
 use Rattle.admit_core.specs.State.{State, is_live_status}
 use Rattle.day_state.specs.Kept.{wish_in}
-
--- the candidates of the wishes, by place
-abbrev pub wishers : DossierRows → List ℕ
-wishers d = map (λ w. w.candidate) d.wishes
 
 -- the wish at a place is live, and its candidate ranks their wishes
 abbrev pub is_live_ranked : State → ℕ → Bool
