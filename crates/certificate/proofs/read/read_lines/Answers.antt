@@ -63,4 +63,4 @@ pub returns : goal.returns
 returns c =
     let last : parts 10 c.lines.rest.now ≡ c.lines.rest.now ∷ [] = search rules in
     rw (c.fault_at-2.ensures, c.unended.ensures)
-        (is_unended c.lines.reading c.lines.row c.lines.rest.now _ _ last c.lines.invariant.whole)
+    (is_unended c.lines.reading c.lines.row c.lines.rest.now _ _ last c.lines.invariant.whole)
