@@ -32,22 +32,22 @@ nothing_for (Some asked) shelf = (
   },
 )
 
-unread_for : (asked : Option Asked) (shelf : OnShelf) (refusal : WordsRefusal) → ReadsAsked (Err refusal) asked
-    → TakesFor asked shelf shelf (Err (words_stop refusal))
-unread_for asked shelf refusals.Bad reads =
+unread_for : (words : List (List ℕ)) (shelf : OnShelf) (refusal : WordsRefusal) → ReadsAsked (Err refusal) words
+    → TakesFor (asked_of words) shelf shelf (Err (words_stop refusal))
+unread_for words shelf refusals.Bad reads =
     subst (λ (q : Option Asked). TakesFor q shelf shelf (Err stops.BadWords)) (sym reads) (tt, refl)
-unread_for asked shelf refusals.OutOfMemory reads = nothing_for asked shelf
+unread_for words shelf refusals.OutOfMemory reads = nothing_for (asked_of words) shelf
 
 module _ (words : List (List ℕ)) where
   -- the words were not read
   pub takes_unread : (shelf : OnShelf) (refusal : WordsRefusal) (r : Result (Asked × Input) Stop)
-      → ReadsAsked (Err refusal) (asked_of words) → IsErrAnd r (λ stop. stop ≡ words_stop refusal)
+      → ReadsAsked (Err refusal) words → IsErrAnd r (λ stop. stop ≡ words_stop refusal)
       → TakesAsked words shelf shelf r
   takes_unread shelf refusal (Ok x) reads from = absurd from
   takes_unread shelf refusal (Err stop) reads from = record {
     takes =
         subst (λ (s : Stop). TakesFor (asked_of words) shelf shelf (Err s)) (sym from)
-        (unread_for (asked_of words) shelf refusal reads);
+        (unread_for words shelf refusal reads);
     known = tt;
   }
 

@@ -1,6 +1,6 @@
 -- What the words ask for: a slot, and the run after which it is written.
 use Rattle.std.specs.Prelude.{◌≡◌, ℕ, Bool, true, false, List, [], ◌∷◌, Option, Some, None, Result, Ok, Err, IsTrue}
-use Rattle.std.specs.Prelude.{codes, ⊤}
+use Rattle.std.specs.Prelude.{codes, is_some}
 use Rattle.std.specs.Option.{option_and_then}
 use Rattle.admit_core.specs.declared.slot.Slot.{Slot}
 use Rattle.admit_core.specs.declared.slot.Slot.TheVariants as slots
@@ -42,12 +42,17 @@ asked_of [] = None
 asked_of (word ∷ others) =
     option_and_then (λ slot. asked_with slot (request_of others)) (slot_named word)
 
--- a reading answers what is asked for, or that the words are bad; nothing is said of running out of
--- memory
-abbrev pub ReadsAsked : Result Asked WordsRefusal → Option Asked → Type 0
-ReadsAsked (Ok x) asked = asked ≡ Some x
-ReadsAsked (Err refusals.Bad) asked = asked ≡ None
-ReadsAsked (Err refusals.OutOfMemory) asked = ⊤
+-- whether the first word names such a slot
+abbrev pub names_slot : List (List ℕ) → Bool
+names_slot [] = false
+names_slot (word ∷ others) = is_some (slot_named word)
+
+-- a reading answers what is asked for, or that the words are bad; memory runs out only where the
+-- first word names a slot
+abbrev pub ReadsAsked : Result Asked WordsRefusal → List (List ℕ) → Type 0
+ReadsAsked (Ok x) words = asked_of words ≡ Some x
+ReadsAsked (Err refusals.Bad) words = asked_of words ≡ None
+ReadsAsked (Err refusals.OutOfMemory) words = IsTrue (names_slot words)
 
 -- what is known of what was read
 pub record IsAsked (asked : Asked) : Type 0 where

@@ -2,7 +2,7 @@
 ghost use Rattle.std.specs.Prelude.{◌≡◌, IfOk, IfSome, IsTrue, Some, map, string_bytes};
 ghost use Rattle.request.specs.Request.{IsRequest};
 ghost use Rattle.morning_cli.specs.Asked as Words;
-ghost use Rattle.morning_cli.specs.Asked.{IsAsked, ReadsAsked, asked_of, asked_with, is_daily};
+ghost use Rattle.morning_cli.specs.Asked.{IsAsked, ReadsAsked, asked_with, is_daily};
 
 use admit_core::Slot;
 use request::{Mode, Request, WordsRefusal, read_request};
@@ -30,22 +30,23 @@ fn slot_named(word: &str) -> Option<Slot>
 }
 
 /// The slot after a run of this request; only `replay` has a morning after it.
-fn asked_with(slot: Slot, request: Request) -> Result<Asked, WordsRefusal>
+fn asked_with(slot: Slot, request: Request) -> Option<Asked>
     requires daily { IsTrue (is_daily slot) }
     requires known { IsRequest request }
-    ensures value { ReadsAsked result (asked_with slot (Some request)) }
-    ensures known { IfOk result IsAsked }
+    ensures value { result ≡ asked_with slot (Some request) }
+    ensures known { IfSome result IsAsked }
 {
-    match request.mode {
-        Mode::Replay => Ok(Asked { slot, request }),
-        _ => Err(WordsRefusal::Bad),
+    if let Mode::Replay = request.mode {
+        Some(Asked { slot, request })
+    } else {
+        None
     }
 }
 
 /// What the words after the program's name ask for: the first names the slot, and the others are
 /// those of a run.
 pub(crate) fn read_asked(alloc: Global, words: &[String]) -> Result<Asked, WordsRefusal>
-    ensures value { ReadsAsked result (asked_of (map string_bytes words.now)) }
+    ensures value { ReadsAsked result (map string_bytes words.now) }
     ensures known { IfOk result IsAsked }
 {
     let Some((word, others)) = words.split_first() else {
@@ -55,7 +56,10 @@ pub(crate) fn read_asked(alloc: Global, words: &[String]) -> Result<Asked, Words
         return Err(WordsRefusal::Bad);
     };
     match read_request(alloc, others) {
-        Ok(request) => asked_with(slot, request),
+        Ok(request) => match asked_with(slot, request) {
+            Some(asked) => Ok(asked),
+            None => Err(WordsRefusal::Bad),
+        },
         Err(refusal) => Err(refusal),
     }
 }
