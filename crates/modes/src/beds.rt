@@ -16,6 +16,7 @@ use day_state::DayState;
 use desk_day::{Desk, ceilings_on};
 use dossier_check::school_place;
 use intake::Input;
+use linked_demand::Roster;
 use std::alloc::Global;
 
 /// How many beds the school at a place lacks, of those that it needs.
@@ -55,7 +56,7 @@ fn figures_of(
     beds_text(alloc, dossier, place, need, &growth)
 }
 
-/// The same for a state and its call orders, whose lineup is made once.
+/// The same for a state and its call orders, along a roster of its own.
 fn figures_text(
     alloc: Global,
     dossier: &Dossier,
@@ -77,7 +78,8 @@ fn figures_text(
     ensures early { TellsMore (told picker.old) (told picker.new) }
     ensures choice { choice picker.new ≡ choice picker.old }
 {
-    let questions = BedQuestions::build(alloc, opening, orders)?;
+    let roster = Roster::build(alloc, opening, orders)?;
+    let questions = BedQuestions::along(opening, &roster);
     figures_of(alloc, dossier, &questions, ceilings, place, picker)
 }
 
