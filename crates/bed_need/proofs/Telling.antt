@@ -71,7 +71,7 @@ module _ {T E U F : Type 0} {sys : FallingSystem} {chooses chooses_now : List �
     {before now : List ℕ} where
   pub asked_found : {found : T} (other : Result U F)
       → IsAsked {T = T} {E = E} sys (Ok found) chooses chooses_now before now
-          → IsAsked sys other chooses chooses_now before now
+      → IsAsked sys other chooses chooses_now before now
   asked_found (Ok told) asked = record { told = asked.told; falls = tt; choice = asked.choice }
   asked_found (Err e) asked = record {
     told = tt;

@@ -65,7 +65,7 @@ module _ {links : LinksRow} {ceilings bars free : List ℕ} {rows : List (List R
     {overfilled : List (Option ℕ)} {marked : List Bool} {housed : List (List Rung)} {seen : Round}
     (beds : List ℕ) (right : IsRoundUnder links ceilings bars free rows overfilled marked housed)
     (is : record { state = lent links.state beds; orders = links.orders; ceilings = ceilings; bars = bars }
-        ≡ seen) where
+    ≡ seen) where
   as_long : length bars ≡ length ceilings
   as_long = right.round.bars_each ∙ sym right.ceilings_each
 

@@ -7,7 +7,8 @@ use Rattle.admit_core.specs.State.{State, bed_holders}
 
 -- the schools with these beds
 abbrev pub schools_lent : List School → List ℕ → List School
-schools_lent schools beds = map (λ x. let s : School = record x.0 { beds = x.1 } in s) (zip schools beds)
+schools_lent schools beds =
+    map (λ x. let s : School = record x.0 { beds = x.1 } in s) (zip schools beds)
 
 -- the state whose schools have these beds
 abbrev pub lent : State → List ℕ → State

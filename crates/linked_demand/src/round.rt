@@ -30,8 +30,9 @@ use std::marker::Model;
 use std::sync::ledger::Ledger;
 
 /// The boarding schools (*internats*) of a state, with their ceilings and their present bars, and
-/// with the beds that they are lent: its state is seen with these. It keeps who is served in each programme, who has a bed in each school, and which are overfilled: a
-/// fall costs the wishes that it closes and those that become proposed.
+/// with the beds that they are lent: its state is seen with these. It keeps who is served in each
+/// programme, who has a bed in each school, and which are overfilled: a fall costs the wishes that
+/// it closes and those that become proposed.
 pub struct LinkedRound<'a, 'd> {
     links: SeatLinks<'a, 'd>,
     boarders: &'a [Vec<RowWish>],

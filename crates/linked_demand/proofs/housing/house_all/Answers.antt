@@ -17,7 +17,7 @@ loop-school-init c =
     let rows = rows_to s c.args.boarders.now c.args.ends.now in
     let many = length_rows s c.args.boarders.now c.args.ends.now c.requires.ends.one_each in
     none_yet c.args.links.now rows (left_of c.args.links.now.state c.args.beds.now) c.args.overfilled.now
-        c.in_ok-all.all.items
+    c.in_ok-all.all.items
     (c.requires.overfilled ∙ sym many) c.in_ok-all.ensures.items
 
 pub front_in-front-requires-clause-school : goal.front_in-front-requires-clause-school
@@ -41,7 +41,7 @@ pub house_row-requires : goal.house_row-requires
 house_row-requires c =
     let (bars, right) = c.requires.rows in
     first_open c.args.links.now bars (left_of c.args.links.now.state c.args.beds.now) c.args.boarders.now
-        c.args.ends.now c.requires.boarders
+    c.args.ends.now c.requires.boarders
     c.requires.ends right c.loop-school.school c.front_in-front.result.now c.front_in-front.ensures
 
 pub put-requires : goal.put-requires

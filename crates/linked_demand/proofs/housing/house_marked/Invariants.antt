@@ -6,7 +6,7 @@ use Rattle.linked_demand.proofs.housing.house_marked.Given as goal
 abbrev pub invariant-loop-wish : goal.invariant-loop-wish
 invariant-loop-wish l =
     IsWalked l.links (left_of l.links.state l.beds) l.initial.marked l.marked l.initial.overfilled l.overfilled
-        l.initial.housed.items
+    l.initial.housed.items
     l.housed.items
 
 abbrev pub decreases-loop-wish : goal.decreases-loop-wish

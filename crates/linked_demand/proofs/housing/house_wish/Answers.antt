@@ -9,7 +9,7 @@ use Rattle.linked_demand.proofs.housing.house_wish.Goals as goal
 pub returns-in_default-clause-all : goal.returns-in_default-clause-all
 returns-in_default-clause-all c = λ bars rows left right all.
     nothing_sought c.args.links.now bars (left_of c.args.links.now.state c.args.beds.now) rows left right c.args.wish
-        c.requires.wish
+    c.requires.wish
     c.args.overfilled.now c.args.housed.now.items all (sym c.bed_sought.ensures.sought ∙ c.in_default.is)
 
 pub returns-then-is_some-clause-all : goal.returns-then-is_some-clause-all

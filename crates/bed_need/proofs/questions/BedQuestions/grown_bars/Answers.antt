@@ -29,7 +29,7 @@ returns-clause-growth g c =
     let before = subst (λ (sys : FallingSystem). IsGreatest sys c.in_ok-before.before.items) first
     c.in_ok-before.ensures.bars in
     let after : IsGreatest (with_more_beds s orders c.args.high.now c.args.school c.args.more)
-        c.in_ok-after.after.items =
+    c.in_ok-after.after.items =
     subst (λ (sys : FallingSystem). IsGreatest sys c.in_ok-after.after.items) second c.in_ok-after.ensures.bars in
     record {
       before = before;

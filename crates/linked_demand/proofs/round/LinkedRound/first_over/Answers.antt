@@ -12,4 +12,4 @@ get-requires c =
 pub returns : goal.returns
 returns c =
     c.get.ensures ∙ answer_read _ c.self.invariant.under c.self.view_is c.self.invariant.beds_each refl c.args.i
-        c.requires
+    c.requires

@@ -23,7 +23,7 @@ close_past-end-requires-clause-front g c =
     let first : AreFirst boarders ends c.args.i front = rw c.deref.ensures.value at c.front_in-front.ensures in
     let found = row_found r.links.state boarders ends whole.ends_are.one_each c.args.i front first in
     first_cut r.links r.bars.items (left_of r.links.state r.beds.items) c.deref-2.result.now c.args.to boarders ends
-        whole.boarders_are
+    whole.boarders_are
     whole.ends_are whole.under.round c.args.i front first
     (stay _ whole.under c.self.view_is c.args.i c.args.to c.requires.in_range c.requires.lower found
     c.deref-2.result.now c.deref-2.ensures.value)
@@ -69,9 +69,9 @@ invariant_of-self g c =
     c.house_marked.new.marked c.house_marked.new.housed.items c.close_past-end.ensures.links whole.boarders_are
     whole.ends_are c.args.i c.close_past-end.result front first c.close_past-end.ensures.within
     whole.beds_each (lowered _ whole.under c.self.view_is c.args.i c.args.to c.requires.in_range c.requires.lower found
-        state orders
+    state orders
     c.close_past-end.ensures.cut c.deref-2.ensures.value c.close_past-end.ensures.marked c.cut_school.new.overfilled
-        c.cut_school.new.housed.items c.cut_school.ensures.overfilled
+    c.cut_school.new.housed.items c.cut_school.ensures.overfilled
     c.cut_school.ensures.housed c.house_marked.new.overfilled c.house_marked.new.marked
     c.house_marked.new.housed.items
     (subst P state (subst Q c.deref-3.ensures.value c.house_marked.ensures.all)) c.house_marked.ensures.unmarked)

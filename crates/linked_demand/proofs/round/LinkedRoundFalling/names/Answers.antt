@@ -24,7 +24,7 @@ demands_in-requires c =
     (first_rise r.links.state.dossier r.links.orders boarders whole.boarders_are r.ends.items c.args.i own first)
     c.front_of-front.ensures
     (first_open r.links r.bars.items (left_of r.links.state r.beds.items) boarders r.ends.items whole.boarders_are
-        whole.ends_are
+    whole.ends_are
     whole.under.round c.args.i own first)
 
 pub returns : goal.returns
