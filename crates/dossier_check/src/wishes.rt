@@ -274,7 +274,8 @@ fn no_keys(alloc: Global, keyed: Keyed) -> WishKeys
 }
 
 /// Checks the wishes. Those whose candidates don't rise are put in order first, and tested row by
-/// row only where that shows a fault, to find the first. It lacks memory only where there is a wish.
+/// row only where that shows a fault, to find the first. It lacks memory only where there is a
+/// wish.
 pub(crate) fn check_wishes<'a>(
     alloc: Global,
     tables: &'a Tables,
