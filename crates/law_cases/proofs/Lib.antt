@@ -1,7 +1,7 @@
 -- Reading order. Each file says in its first line what it shows.
 -- Tools: Tested (tests of small lists that compute), Valid (whether a small dossier is valid).
 -- Witnesses, from the bottom of the rules up: BarCases, OrderCases, AnswerCases, PassCases,
--- BedCases, DayCases, ChainCases, PromiseCases, MarketCases, AutomaticCases,
+-- BedCases, DayCases, ChainCases, PromiseCases, MarketCases, AutomaticCases, EveningCases,
 -- ChangeCases.
 -- Worked cases of definitions: DefinitionCases; of what is read: ReadCases.
 pub mod AnswerCases

@@ -3,7 +3,8 @@
 -- A market as a falling system: Held, Rounds, Filled; how it is solved: Seated, Led, Noting, Tied.
 -- The solution: Stable, Best, SamePlaces, Existing, and last SamePlaced (the same candidates
 -- have a place in every stable matching).
--- The market of a dossier: InTurn, Owning, OneMore, Rankers, Called, Ranking, Telling.
+-- The market of a dossier: Choosing, InTurn, Owning, OneMore, Rankers, Walking (who lists a programme, as called),
+-- Called, Calls (programme by programme), Ranking, Telling.
 pub mod BelowCount
 pub mod Best
 pub mod Called
