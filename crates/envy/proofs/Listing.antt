@@ -1,6 +1,6 @@
 -- The blocks of a state are listed by place.
 use Rattle.std.proofs.Common.{ℕ, zero, suc, ◌+◌, ◌<◌, ◌≤◌, ◌≡◌, Bool, true, false, cond, List, [], ◌∷◌, ◌++◌, map}
-use Rattle.std.proofs.Common.{length, inl, inr, refl, sym, ◌∙◌, ap, arith, filter, Option, All}
+use Rattle.std.proofs.Common.{◌&&◌, length, inl, inr, refl, sym, ◌∙◌, ap, arith, filter, Option, Some, None, All}
 use Rattle.std.specs.List.{enumerate_from, range_with_len}
 use Rattle.std.proofs.lemmas.Bool.{cases_Bool}
 use Rattle.std.proofs.lemmas.List.{append-nil}
@@ -10,40 +10,71 @@ use Rattle.std.proofs.lemmas.List.FromFn.{filter_of_map_range_with_len_more}
 use Rattle.admit_core.specs.declared.dossier.Wish.{Wish}
 use Rattle.admit_core.specs.declared.ranking.CallOrder.{CallOrder}
 use Rattle.admit_core.specs.declared.state.Mark.{Mark}
-use Rattle.admit_core.specs.Blocking.{is_blocking}
+use Rattle.admit_core.specs.Blocking.{is_blocking, wants_more}
 use Rattle.admit_core.specs.State.{State, entries}
+use Rattle.day_state.specs.Kept.{mark_in, wish_in}
 use Rattle.day_state.proofs.Places.{entries_by_place, entry_in}
 use Rattle.envy.specs.declared.blocks.Block.{Block}
-use Rattle.envy.specs.Blocks.{block_at, blocks_of, is_block}
+use Rattle.envy.specs.Blocks.{block_at, blocks_of, found_at, is_block}
+use Rattle.envy.specs.Known.{has_reason}
 
 pub same_block : (wish left left_too : ℕ) (envied envied_too : Option ℕ) → left ≡ left_too → envied ≡ envied_too
     → (let b : Block = record { wish = wish; left = left; envied = envied } in b)
     ≡ (let b : Block = record { wish = wish; left = left_too; envied = envied_too } in b)
 same_block wish left left_too envied envied_too a b = rw (a, b) refl
 
+-- a block, where its candidate has nothing that is as good
+pub blocks_so : (s : State) (orders : List CallOrder) (k : ℕ) (block : Block) (wants reason : Bool)
+    → block ≡ block_at s orders k → wants ≡ wants_more s (wish_in s.dossier.wishes k) (mark_in s.marks k)
+    → reason ≡ has_reason block → is_block s orders block ≡ (wants && reason)
+blocks_so s orders k block wants reason is wants_is reason_is =
+    let both : wants_more s (wish_in s.dossier.wishes k) (mark_in s.marks k) && has_reason (block_at s orders k)
+    ≡ (wants && reason) =
+    λ i. sym wants_is i && sym (reason_is ∙ ap has_reason is) i in
+    ap (is_block s orders) is ∙ both
+
 -- what is listed of the first places
 abbrev pub listed : State → List CallOrder → ℕ → List Block
 listed s orders n = filter (is_block s orders) (map (block_at s orders) (range_with_len 0 n))
 
--- one more place, of a wish that blocks or not
-pub listed_some : (s : State) (orders : List CallOrder) (k : ℕ) (block : Block) (now new : List
-    Block) → now ≡ listed s orders k → block ≡ block_at s orders k → is_block s orders block ≡ true
-    → new ≡ now ++ block ∷ [] → new ≡ listed s orders (k + 1)
-listed_some s orders k block now new are is blocks pushed =
-    pushed
-    ∙ ap (λ (bs : List Block). bs ++ block ∷ []) are
-    ∙ ap (λ (b : Block). listed s orders k ++ b ∷ []) is
-    ∙ sym (filter_of_map_range_with_len_more (is_block s orders) (block_at s orders) 0 k k (omega arith)
-    ∙ ap (λ t. listed s orders k ++ cond t (block_at s orders k ∷ []) []) (ap (is_block s orders) (sym is) ∙ blocks))
+found_one : (one other : Block) → (let o : Option Block = Some one in o) ≡ Some other → one ≡ other
+found_one one other same = cc
 
-pub listed_none : (s : State) (orders : List CallOrder) (k : ℕ) (block : Block) (now : List Block)
-    → now ≡ listed s orders k → block ≡ block_at s orders k → is_block s orders block ≡ false
-    → now ≡ listed s orders (k + 1)
-listed_none s orders k block now are is blocks_not =
-    are
-    ∙ sym (filter_of_map_range_with_len_more (is_block s orders) (block_at s orders) 0 k k (omega arith)
-    ∙ ap (λ t. listed s orders k ++ cond t (block_at s orders k ∷ []) []) (ap (is_block s orders) (sym is) ∙ blocks_not)
-    ∙ append-nil (listed s orders k))
+found_none : (one : Block) → (let o : Option Block = Some one in o) ≡ None → ⊥
+found_none one same = absurd (cc)
+
+-- one more place, of a wish that blocks or not
+listed_so : (s : State) (orders : List CallOrder) (k : ℕ) (now : List Block) → now ≡ listed s orders k
+    → (t : Bool) → is_block s orders (block_at s orders k) ≡ t
+    → listed s orders (k + 1) ≡ now ++ cond t (block_at s orders k ∷ []) []
+listed_so s orders k now are t is =
+    filter_of_map_range_with_len_more (is_block s orders) (block_at s orders) 0 k k (omega arith)
+    ∙ ap (λ b. listed s orders k ++ cond b (block_at s orders k ∷ []) []) is
+    ∙ ap (λ (bs : List Block). bs ++ cond t (block_at s orders k ∷ []) []) (sym are)
+
+pub listed_some : (s : State) (orders : List CallOrder) (k : ℕ) (block : Block) (now new : List Block)
+    → now ≡ listed s orders k → found_at s orders k ≡ Some block → new ≡ now ++ block ∷ []
+    → new ≡ listed s orders (k + 1)
+listed_some s orders k block now new are found pushed =
+    elim (cases_Bool (is_block s orders (block_at s orders k))) [
+      | inl blocks ↦
+          let here : found_at s orders k ≡ Some (block_at s orders k) = rw blocks refl in
+          let block_is : block ≡ block_at s orders k = found_one block (block_at s orders k) (sym found ∙ here) in
+          pushed ∙ ap (λ (b : Block). now ++ b ∷ []) block_is ∙ sym (listed_so s orders k now are true blocks)
+      | inr blocks_not ↦
+          let here : found_at s orders k ≡ None = rw blocks_not refl in
+          absurd (found_none block (sym found ∙ here))
+    ]
+
+pub listed_none : (s : State) (orders : List CallOrder) (k : ℕ) (now : List Block)
+    → now ≡ listed s orders k → found_at s orders k ≡ None → now ≡ listed s orders (k + 1)
+listed_none s orders k now are found =
+    elim (cases_Bool (is_block s orders (block_at s orders k))) [
+      | inl blocks ↦
+          let here : found_at s orders k ≡ Some (block_at s orders k) = rw blocks refl in
+          absurd (found_none (block_at s orders k) (sym here ∙ found))
+      | inr blocks_not ↦ sym (listed_so s orders k now are false blocks_not ∙ append-nil now)
+    ]
 
 -- all places: the blocks of the state
 blocks_from : (f : ℕ → Wish × Mark) (g : ℕ → Block) (test : Wish × Mark → Bool) (p : Block → Bool)

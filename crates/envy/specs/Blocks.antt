@@ -1,6 +1,6 @@
 -- The wishes that block a state, each with its programme's seats left and the last candidate who is
 -- envied.
-use Rattle.std.specs.Prelude.{ℕ, Bool, List, Option, Some, None, map}
+use Rattle.std.specs.Prelude.{ℕ, Bool, List, Option, Some, None, if◌then◌else◌, map}
 use Rattle.std.specs.List.{filter_map}
 use Rattle.admit_core.specs.declared.ranking.CallOrder.{CallOrder}
 use Rattle.admit_core.specs.Blocking.{blocking, is_blocking, last_envied}
@@ -19,6 +19,11 @@ block_at s orders place =
 abbrev pub is_block : State → List CallOrder → Block → Bool
 is_block s orders block =
     is_blocking s orders (wish_in s.dossier.wishes block.wish) (mark_in s.marks block.wish)
+
+-- what is told of the wish at a place, where it blocks
+abbrev pub found_at : State → List CallOrder → ℕ → Option Block
+found_at s orders place =
+    if is_block s orders (block_at s orders place) then Some (block_at s orders place) else None
 
 -- the blocks of a state, by place
 abbrev pub blocks_of : State → List CallOrder → List Block

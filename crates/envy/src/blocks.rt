@@ -1,24 +1,19 @@
 //! The wishes that block a state.
-ghost use Rattle.std.specs.Prelude.{◌≡◌, ◌<◌, [], All, IfOk, List, length, map, nat_eq};
+ghost use Rattle.std.specs.Prelude.{◌≡◌, ◌<◌, [], All, IfOk, IfSome, length};
 ghost use Rattle.std.specs.List.{filter_map};
-ghost use Rattle.indexmap.specs.IndexMap.{get};
-ghost use Rattle.admit_core.specs.declared.ranking.CallOrder.{CallOrder};
-ghost use Rattle.admit_core.specs.Blocking.{is_missed, lacks_school, wants_more};
+ghost use Rattle.admit_core.specs.Blocking.{has_better, is_missed, lacks_school, wants_more};
 ghost use Rattle.admit_core.specs.CallOrder.{AreCallOrders};
-ghost use Rattle.admit_core.specs.State.{entries};
 ghost use Rattle.day_state.specs.Kept.{mark_in, wish_in};
 ghost use Rattle.envy.specs.AutomaticDays.{IsFirstEvening, IsLaterEvening};
-ghost use Rattle.envy.specs.Blocks.{block_at, blocks_of, envies_of, envy_in, is_block};
-ghost use Rattle.envy.specs.Known.{AreBest, AreLast, envied_at, is_below, place_of};
+ghost use Rattle.envy.specs.Blocks.{block_at, blocks_of, envies_of, envy_in, found_at};
+ghost use Rattle.envy.specs.Known.{AreBest, AreLast, envied_by, has_reason, is_below};
 
-use crate::called::places_of;
-use crate::known::{best_wishes, last_live, wish_count};
+use crate::known::{best_wishes, first_own, last_live, wish_count};
 use crate::laws::laws_of_automatic_days;
 use admit_core::{CallOrders, Mark, OutOfMemory, Status, Wish};
 use day_state::{DayState, seats_left};
-use indexmap::IndexMap;
-use keyed_hash::Keyed;
-use proposals::{call_everyone, mark_at, order_of, programme_count, wish_at};
+use linked_demand::Roster;
+use proposals::{mark_at, programme_count, wish_at};
 use std::alloc::Global;
 
 /// A wish that blocks: the seats left of its programme, and the last candidate behind its own who
@@ -64,58 +59,73 @@ fn is_below(number: Option<u32>, other: u32) -> bool
     }
 }
 
-/// Whether the candidate of the wish at a place has nothing that is as good; `best` has the best
-/// live wish of each candidate.
-fn wants_more(state: &DayState<'_>, best: &IndexMap<u32, u32, Keyed>, place: u32) -> bool
+/// Whether the candidate of the wish at a place holds one that they prefer; `best` has the best live
+/// wish of each candidate.
+fn has_better(state: &DayState<'_>, best: &[Option<u32>], place: u32) -> bool
     requires place { place < length state.now.dossier.wishes }
-    requires best { AreBest (entries state.now) (get nat_eq best.now) }
+    requires best { AreBest state.now best.now }
+    ensures { result ≡ has_better state.now (wish_in state.now.dossier.wishes place) }
+{
+    let held = best[first_own(state, place) as usize];
+    is_below(held, wish_at(state, place).preference)
+}
+
+/// Whether the candidate of the wish at a place has nothing that is as good.
+fn wants_more(state: &DayState<'_>, best: &[Option<u32>], place: u32) -> bool
+    requires place { place < length state.now.dossier.wishes }
+    requires best { AreBest state.now best.now }
     ensures { result ≡ wants_more state.now
         (wish_in state.now.dossier.wishes place) (mark_in state.now.marks place) }
 {
+    let _ = state.marks(); // one for each wish
     let wish = wish_at(state, place);
-    let held = best.get(&wish.candidate).copied();
     lacks_school(wish)
         && wish.preference > 0
         && is_missed(mark_at(state, place))
         && !state.is_live_in_its_programme(place)
-        && !is_below(held, wish.preference)
+        && !has_better(state, best, place)
 }
 
-/// Who stands at the last place where somebody is live, where this is behind a place.
-fn envied_at(order: &[u32], last: Option<usize>, place: usize) -> Option<u32>
-    ensures { result ≡ envied_at order.now last place }
+/// The candidate of the last live wish of a programme, where they stand behind that of a wish.
+fn envied_by(
+    state: &DayState<'_>,
+    roster: &Roster<'_, '_>,
+    last: Option<u32>,
+    wish: u32,
+) -> Option<u32>
+    requires same { roster.now.dossier ≡ state.now.dossier }
+    requires last { IfSome last (λ k. k < length state.now.dossier.wishes) }
+    requires wish { wish < length state.now.dossier.wishes }
+    ensures { result ≡ envied_by state.now.dossier roster.now.orders last wish }
 {
     match last {
-        Some(last) if place < last => order.get(last).copied(),
+        Some(last) if roster.place_in_line(wish) < roster.place_in_line(last) => {
+            Some(wish_at(state, last).candidate)
+        }
         _ => None,
     }
 }
 
-/// What is told of the wish at a place.
+/// What is told of the wish at a place, where it is known which wish is the last live one of each
+/// programme.
 fn block_at(
     state: &DayState<'_>,
-    orders: &CallOrders,
-    places: &[usize],
-    lasts: &[Option<usize>],
+    roster: &Roster<'_, '_>,
+    lasts: &[Option<u32>],
     wish: u32,
 ) -> Block
-    requires orders { AreCallOrders state.now.dossier.groups orders.now.orders }
-    requires places { places.now
-        ≡ map (place_of state.now.dossier orders.now.orders) state.now.dossier.wishes }
-    requires lasts { AreLast state.now.dossier orders.now.orders (entries state.now) lasts.now }
+    requires same { roster.now.dossier ≡ state.now.dossier }
+    requires lasts { AreLast state.now roster.now.orders lasts.now }
     requires wish { wish < length state.now.dossier.wishes }
-    ensures { result ≡ block_at state.now orders.now.orders wish }
+    ensures { result ≡ block_at state.now roster.now.orders wish }
 {
-    call_everyone(state, orders);
     let dossier = state.dossier();
     let _ = &dossier.wishes; // learns that the dossier is valid
     let _ = state.marks(); // one for each wish
     let _ = programme_count(state); // each wish is for one of them
+    let _ = roster.orders(); // those of the dossier
     let programme = wish_at(state, wish).programme;
-    let order = order_of(state, orders, programme);
-    let last = lasts[programme as usize];
-    let place = places[wish as usize];
-    let envied = envied_at(order, last, place);
+    let envied = envied_by(state, roster, lasts[programme as usize], wish);
     Block {
         wish,
         left: seats_left(state, programme),
@@ -123,48 +133,89 @@ fn block_at(
     }
 }
 
-/// Whether what is told of a wish says that it blocks.
-fn is_block(state: &DayState<'_>, best: &IndexMap<u32, u32, Keyed>, block: Block) -> bool
-    requires best { AreBest (entries state.now) (get nat_eq best.now) }
-    requires wish { block.wish < length state.now.dossier.wishes }
-    ensures { (orders : List CallOrder) → block ≡ block_at state.now orders block.wish
-        → result ≡ is_block state.now orders block }
+/// Whether a seat is left, or somebody is envied.
+fn has_reason(block: Block) -> bool
+    ensures { result ≡ has_reason block }
 {
-    wants_more(state, best, block.wish) && (block.left > 0 || block.envied.is_some())
+    block.left > 0 || block.envied.is_some()
 }
 
-/// The blocks of a state, by place, where it is known where each wish stands, which wish is the
-/// last live one of each programme, and which is the best one of each candidate.
+/// What is told of the wish at a place, where it blocks.
+fn found_at(
+    state: &DayState<'_>,
+    roster: &Roster<'_, '_>,
+    lasts: &[Option<u32>],
+    best: &[Option<u32>],
+    place: u32,
+) -> Option<Block>
+    requires same { roster.now.dossier ≡ state.now.dossier }
+    requires lasts { AreLast state.now roster.now.orders lasts.now }
+    requires best { AreBest state.now best.now }
+    requires place { place < length state.now.dossier.wishes }
+    ensures { result ≡ found_at state.now roster.now.orders place }
+{
+    if !wants_more(state, best, place) {
+        return None;
+    }
+    let block = block_at(state, roster, lasts, place);
+    if has_reason(block) { Some(block) } else { None }
+}
+
+/// The blocks of a state, by place, where it is known which wish is the last live one of each
+/// programme, and which is the best one of each candidate.
 fn listed_blocks(
     alloc: Global,
     state: &DayState<'_>,
-    orders: &CallOrders,
-    places: &[usize],
-    lasts: &[Option<usize>],
-    best: &IndexMap<u32, u32, Keyed>,
+    roster: &Roster<'_, '_>,
+    lasts: &[Option<u32>],
+    best: &[Option<u32>],
 ) -> Result<Vec<Block>, OutOfMemory>
-    requires orders { AreCallOrders state.now.dossier.groups orders.now.orders }
-    requires places { places.now
-        ≡ map (place_of state.now.dossier orders.now.orders) state.now.dossier.wishes }
-    requires lasts { AreLast state.now.dossier orders.now.orders (entries state.now) lasts.now }
-    requires best { AreBest (entries state.now) (get nat_eq best.now) }
-    ensures { IfOk result (λ blocks. blocks.items ≡ blocks_of state.now orders.now.orders) }
+    requires same { roster.now.dossier ≡ state.now.dossier }
+    requires lasts { AreLast state.now roster.now.orders lasts.now }
+    requires best { AreBest state.now best.now }
+    ensures { IfOk result (λ blocks. blocks.items ≡ blocks_of state.now roster.now.orders) }
 {
     let _ = state.marks(); // one for each wish
     let mut blocks = Vec::new(alloc);
     for place in 0..wish_count(state) {
-        let block = block_at(state, orders, places, lasts, place);
-        if is_block(state, best, block) {
+        if let Some(block) = found_at(state, roster, lasts, best, place) {
             blocks.push(block)?;
         }
     }
     Ok(blocks)
 }
 
-/// The wishes that block a state, by place. After automatic days there are none.
+/// The wishes that block a state, by place, along the roster of its dossier. After automatic days
+/// there are none.
 ///
-/// It costs about the wishes and the call orders together: what each candidate holds, where they
-/// stand and who is the last live one of each programme is noted once.
+/// It costs about the wishes: what each candidate holds, and who is the last live one of each
+/// programme, is noted once.
+pub fn blocking_pairs_along(
+    alloc: Global,
+    state: &DayState<'_>,
+    roster: &Roster<'_, '_>,
+) -> Result<Vec<Block>, OutOfMemory>
+    requires { roster.now.dossier ≡ state.now.dossier }
+    ensures blocks { IfOk result (λ blocks.
+        blocks.items ≡ blocks_of state.now roster.now.orders) }
+    ensures within { IfOk result (λ blocks.
+        All (λ block. block.wish < length state.now.dossier.wishes) blocks.items) }
+    ensures first_evening { IsFirstEvening roster.now.orders state.now
+        → IfOk result (λ blocks. blocks.items ≡ []) }
+    ensures later_evening { IsLaterEvening roster.now.orders state.now
+        → IfOk result (λ blocks. blocks.items ≡ []) }
+{
+    let dossier = state.dossier();
+    let _ = &dossier.wishes; // learns that the dossier is valid
+    let _ = roster.orders(); // those of the dossier
+    laws_of_automatic_days();
+    let lasts = last_live(alloc, state, roster)?;
+    let best = best_wishes(alloc, state)?;
+    listed_blocks(alloc, state, roster, &lasts, &best)
+}
+
+/// The same, along a roster that is made for it: a walk along the call order of each group. Where
+/// days were run, theirs serves (`blocking_pairs_along`).
 pub fn blocking_pairs(
     alloc: Global,
     state: &DayState<'_>,
@@ -179,15 +230,8 @@ pub fn blocking_pairs(
     ensures later_evening { IsLaterEvening orders.now.orders state.now
         → IfOk result (λ blocks. blocks.items ≡ []) }
 {
-    let dossier = state.dossier();
-    let _ = &dossier.wishes; // learns that the dossier is valid
-    let _ = state.marks(); // one for each wish
-    laws_of_automatic_days();
-    let places = places_of(alloc, state, orders)?;
-    let lasts = last_live(alloc, state, &places)?;
-    // The map comes last: it is held over no `?`, where each of its parts would be dropped.
-    let best = best_wishes(alloc, state)?;
-    listed_blocks(alloc, state, orders, &places, &lasts, &best)
+    let roster = Roster::build(alloc, state, orders)?;
+    blocking_pairs_along(alloc, state, &roster)
 }
 
 /// Who is envied in a block, where somebody is.

@@ -1,16 +1,12 @@
-//! What each candidate holds, and up to where in each call order somebody is live.
-ghost use Rattle.std.specs.Prelude.{◌≡◌, ◌==◌, ◌&&◌, ◌||◌, ◌<◌, ℕ, IfOk, List, OnOk, length, map, nat_eq, nat_le, nat_lt};
-ghost use Rattle.indexmap.specs.IndexMap.{get, hasher_of};
-ghost use Rattle.admit_core.specs.declared.ranking.CallOrder.{CallOrder};
-ghost use Rattle.admit_core.specs.State.{entries, is_live};
+//! What each candidate holds, and who of the last ones in each line is live.
+ghost use Rattle.std.specs.Prelude.{◌≡◌, ◌||◌, ◌+◌, ◌<◌, ℕ, IfOk, IfSome, Some, length, nat_le, nat_lt, option_map};
 ghost use Rattle.day_state.specs.Bundles.{number_in};
-ghost use Rattle.envy.specs.Hashing.{keyed_by_wishes};
-ghost use Rattle.envy.specs.Known.{AreBest, AreLast, is_better, is_below, place_of, reaches};
+ghost use Rattle.day_state.specs.Kept.{wish_in};
+ghost use Rattle.envy.specs.Known.{AreBest, AreBestTo, AreLast, AreLastTo, IsFor, first_own, is_below, place_at, reaches};
 
-use admit_core::{Mark, OutOfMemory, Wish};
+use admit_core::OutOfMemory;
 use day_state::DayState;
-use indexmap::IndexMap;
-use keyed_hash::{KeyMaker, Keyed};
+use linked_demand::Roster;
 use proposals::{mark_at, programme_count, wish_at};
 use std::alloc::Global;
 
@@ -32,94 +28,97 @@ fn lesser(known: Option<u32>, preference: u32) -> u32
     }
 }
 
-/// The later of two places, the first of which may be missing.
-fn later(known: Option<usize>, place: usize) -> usize
-    ensures { (k : ℕ) → nat_le k result ≡ (reaches known k || nat_le k place) }
+/// The first wish of a wish's candidate: what is known of the candidate is kept at its place.
+pub(crate) fn first_own(state: &DayState<'_>, wish: u32) -> u32
+    requires { wish < length state.now.dossier.wishes }
+    ensures first { result ≡ first_own state.now.dossier wish }
+    ensures within { result < length state.now.dossier.wishes }
 {
-    match known {
-        Some(known) if known > place => known,
-        _ => place,
+    state.own_wishes_beside(wish)[0]
+}
+
+/// Notes the wish at a place, where it is live.
+fn note_best(best: &mut Vec<Option<u32>>, state: &DayState<'_>, place: u32)
+    requires place { place < length state.now.dossier.wishes }
+    requires best { AreBestTo state.now place best.old.items }
+    ensures { AreBestTo state.now (place + 1) best.new.items }
+{
+    let _ = state.marks(); // one for each wish
+    if mark_at(state, place).is_live() {
+        let first = first_own(state, place) as usize;
+        best[first] = Some(lesser(best[first], wish_at(state, place).preference));
     }
 }
 
-/// Hashing by a key of the wishes' candidates.
-fn keyed_by_wishes(wishes: &[Wish]) -> Keyed
-    ensures { result ≡ keyed_by_wishes wishes.now }
-{
-    let key = wishes.iter().fold(KeyMaker::new(), |key, wish| {
-        key.with(wish.candidate, wish.id)
-    });
-    key.done()
-}
-
-/// Notes a wish, where it is live.
-fn note_best(
-    best: &mut IndexMap<u32, u32, Keyed>,
-    wish: Wish,
-    mark: Mark,
-) -> Result<(), OutOfMemory>
-    ensures noted { OnOk result ((c q : ℕ) → is_below (get nat_eq best.new c) q
-        ≡ (is_below (get nat_eq best.old c) q || is_better c q (wish, mark))) }
-    ensures hashing { hasher_of best.new ≡ hasher_of best.old }
-{
-    if mark.is_live() {
-        let least = lesser(best.get(&wish.candidate).copied(), wish.preference);
-        best.insert(wish.candidate, least)?;
-    }
-    Ok(())
-}
-
-/// Of each candidate who is live the least preference number of a live wish.
+/// Of each candidate who is live the least preference number of a live wish, at the place of their
+/// first wish.
 pub(crate) fn best_wishes(
     alloc: Global,
     state: &DayState<'_>,
-) -> Result<IndexMap<u32, u32, Keyed>, OutOfMemory>
-    ensures best { IfOk result (λ best. AreBest (entries state.now) (get nat_eq best)) }
-    ensures hashing { IfOk result (λ best.
-        hasher_of best ≡ keyed_by_wishes state.now.dossier.wishes) }
+) -> Result<Vec<Option<u32>>, OutOfMemory>
+    ensures { IfOk result (λ best. AreBest state.now best.items) }
 {
     let _ = state.marks(); // one for each wish
-    let dossier = state.dossier();
-    let hashing = keyed_by_wishes(dossier.wishes.as_slice());
-    let mut best = IndexMap::with_hasher(alloc, hashing);
-    for place in 0..wish_count(state) {
-        note_best(&mut best, wish_at(state, place), mark_at(state, place))?;
+    let count = wish_count(state);
+    let mut best = vec![in alloc; None; count as usize]?;
+    for place in 0..count {
+        note_best(&mut best, state, place);
     }
     Ok(best)
 }
 
-/// Notes a wish of a candidate at this place of the call order, where it is live.
-fn note_last(lasts: &mut Vec<Option<usize>>, wish: Wish, mark: Mark, place: usize)
-    requires { wish.programme < length lasts.old.items }
-    ensures as_long { length lasts.new.items ≡ length lasts.old.items }
-    ensures each { (p k : ℕ) → reaches (number_in lasts.new.items p) k
-        ≡ (reaches (number_in lasts.old.items p) k
-        || (is_live mark && (wish.programme == p) && nat_le k place)) }
+/// Of a wish that may be missing and another one for its programme, the one whose candidate stands
+/// later in the line.
+fn later(roster: &Roster<'_, '_>, known: Option<u32>, wish: u32) -> u32
+    requires known { IfSome known (λ k. k < length roster.now.dossier.wishes) }
+    requires wish { wish < length roster.now.dossier.wishes }
+    ensures place { (k : ℕ) → nat_le k (place_at roster.now.dossier roster.now.orders result)
+        ≡ (reaches (option_map (place_at roster.now.dossier roster.now.orders) known) k
+        || nat_le k (place_at roster.now.dossier roster.now.orders wish)) }
+    ensures fits { (p : ℕ) → IfSome known (IsFor roster.now.dossier roster.now.orders p)
+        → (wish_in roster.now.dossier.wishes wish).programme ≡ p
+        → IsFor roster.now.dossier roster.now.orders p result }
 {
-    if mark.is_live() {
-        let programme = wish.programme as usize;
-        lasts[programme] = Some(later(lasts[programme], place));
+    let place = roster.place_in_line(wish);
+    match known {
+        Some(known) if place < roster.place_in_line(known) => known,
+        _ => wish,
     }
 }
 
-/// Of each programme the last place in its call order at which somebody is live there; `places` has
-/// that of each wish's candidate.
+/// Notes the wish at a place, where it is live.
+fn note_last(
+    lasts: &mut Vec<Option<u32>>,
+    state: &DayState<'_>,
+    roster: &Roster<'_, '_>,
+    place: u32,
+)
+    requires same { roster.now.dossier ≡ state.now.dossier }
+    requires place { place < length state.now.dossier.wishes }
+    requires lasts { AreLastTo state.now roster.now.orders place lasts.old.items }
+    ensures { AreLastTo state.now roster.now.orders (place + 1) lasts.new.items }
+{
+    let _ = state.marks(); // one for each wish
+    let _ = programme_count(state); // each wish is for one of them
+    if mark_at(state, place).is_live() {
+        let programme = wish_at(state, place).programme as usize;
+        lasts[programme] = Some(later(roster, lasts[programme], place));
+    }
+}
+
+/// Of each programme the live wish whose candidate stands last in its line.
 pub(crate) fn last_live(
     alloc: Global,
     state: &DayState<'_>,
-    places: &[usize],
-) -> Result<Vec<Option<usize>>, OutOfMemory>
-    requires { length places.now ≡ length state.now.dossier.wishes }
-    ensures { IfOk result (λ lasts. (orders : List CallOrder)
-        → places.now ≡ map (place_of state.now.dossier orders) state.now.dossier.wishes
-        → AreLast state.now.dossier orders (entries state.now) lasts.items) }
+    roster: &Roster<'_, '_>,
+) -> Result<Vec<Option<u32>>, OutOfMemory>
+    requires { roster.now.dossier ≡ state.now.dossier }
+    ensures { IfOk result (λ lasts. AreLast state.now roster.now.orders lasts.items) }
 {
     let _ = state.marks(); // one for each wish
     let mut lasts = vec![in alloc; None; programme_count(state) as usize]?;
     for place in 0..wish_count(state) {
-        let wish = wish_at(state, place);
-        let mark = mark_at(state, place);
-        note_last(&mut lasts, wish, mark, places[place as usize]);
+        note_last(&mut lasts, state, roster, place);
     }
     Ok(lasts)
 }

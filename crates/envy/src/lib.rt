@@ -5,11 +5,10 @@
 #![tactic(auto)]
 
 mod blocks;
-mod called;
 mod known;
 mod laws;
 mod text;
 
-pub use blocks::{Block, Envy, blocking_pairs, envy_list};
+pub use blocks::{Block, Envy, blocking_pairs, blocking_pairs_along, envy_list};
 pub use laws::laws_of_automatic_days;
 pub use text::envy_text;

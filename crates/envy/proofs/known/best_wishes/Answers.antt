@@ -1,20 +1,14 @@
-use Rattle.std.proofs.Common.{◌∙◌, arith, nat_eq}
-use Rattle.indexmap.specs.IndexMap.{get}
-use Rattle.envy.proofs.Knowing.{best_all, best_more}
+use Rattle.std.proofs.Common.{◌≡◌, arith, replicate, rules, None}
+use Rattle.envy.proofs.Knowing.{best_all, best_none}
 use Rattle.envy.proofs.known.best_wishes.Goals as goal
 
-pub loop-place-preserved : goal.loop-place-preserved
-loop-place-preserved c = record {
-  best = best_more c.args.state.now (rw c.marks.ensures.marks at c.marks.ensures.one_each)
-      c.loop-place.place (omega (arith, c.loop-place-test.true, c.wish_count-place-end.ensures))
-      c.wish_at.result c.mark_at.result
-      (get nat_eq c.loop-place.best) (get nat_eq c.note_best.new.best) c.wish_at.ensures.wish
-      c.mark_at.ensures c.loop-place.invariant.best c.in_ok-note_best.ensures.noted;
-  hashing = c.note_best.ensures.hashing ∙ c.loop-place.invariant.hashing;
-}
+pub loop-place-init : goal.loop-place-init
+loop-place-init c =
+    let none : c.in_ok-best.best.items ≡ replicate c.wish_count-count.result None = search rules in
+    best_none c.args.state.now c.in_ok-best.best.items c.wish_count-count.result c.wish_count-count.ensures none
 
-pub returns-clause-best : goal.returns-clause-best
-returns-clause-best c =
-    best_all c.args.state.now c.loop-place.place (get nat_eq c.loop-place.best)
+pub returns : goal.returns
+returns c =
+    best_all c.args.state.now c.loop-place.place c.loop-place.best.items
     (rw c.marks.ensures.marks at c.marks.ensures.one_each)
-    (omega (arith, c.loop-place-test.false, c.wish_count-place-end.ensures)) c.loop-place.invariant.best
+    (omega (arith, c.loop-place-test.false, c.wish_count-count.ensures)) c.loop-place.invariant
