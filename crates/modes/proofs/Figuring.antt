@@ -136,21 +136,24 @@ module _ (d : DossierRows) (ids : Ids) (orders : List CallOrder) (days : List Da
   pub opening_ceilings : length last.ceilings ≡ length desk.opening.dossier.schools
   opening_ceilings = ends_so.of_dossier.ceilings
 
-  -- what was figured in the opening under the day's ceilings
-  module _ (opening : State) (ceilings : List ℕ) (choice : List ℕ → List ℕ → ℕ) (told told' : List ℕ)
-      (opens : opening ≡ desk.opening) (ceil : ceilings ≡ last.ceilings) (more : TellsMore told told') where
+  -- what was figured in the opening, by the call orders of a roster, under the day's ceilings
+  module _ (opening : State) (called : List CallOrder) (ceilings : List ℕ) (choice : List ℕ → List ℕ → ℕ)
+      (told told' : List ℕ) (opens : opening ≡ desk.opening) (calls : called ≡ orders) (ceil : ceilings ≡ last.ceilings)
+      (more : TellsMore told told') where
     abbrev Figured : List ℕ → Type 0
-    Figured text = (figures : Figures) × IsTextOf d opening orders ceilings place figures text
-        × TellsOfFigures opening orders ceilings place figures.need choice told told'
+    Figured text = (figures : Figures) × IsTextOf d opening called ceilings place figures text
+        × TellsOfFigures opening called ceilings place figures.need choice told told'
 
     in_last : (text : List ℕ) → Figured text
         → (figures : Figures) × IsTextOf d last.opening orders last.ceilings place figures text
         × TellsOfFigures last.opening orders last.ceilings place figures.need choice told told'
     in_last text figured =
-        let P : State → List ℕ → Type 0 =
-        λ o cs. (figures : Figures) × IsTextOf d o orders cs place figures text
-        × TellsOfFigures o orders cs place figures.need choice told told' in
-        subst (λ (o : State). P o last.ceilings) opens (subst (λ (cs : List ℕ). P opening cs) ceil figured)
+        let P : State → List CallOrder → List ℕ → Type 0 =
+        λ o os cs. (figures : Figures) × IsTextOf d o os cs place figures text
+        × TellsOfFigures o os cs place figures.need choice told told' in
+        subst (λ (o : State). P o orders last.ceilings) opens
+        (subst (λ (os : List CallOrder). P opening os last.ceilings) calls
+        (subst (λ (cs : List ℕ). P opening called cs) ceil figured))
 
     tells : (text : List ℕ) → Figured text → TellsFigures d ids orders days desk school text
     tells text figured =

@@ -112,3 +112,13 @@ pub ends_so : {E : Type 0} (end found : Result DeskStates Refusal) (seen : Seen)
 ends_so end found seen orders days between after result is ends =
     subst (λ (e : Result DeskStates Refusal). EndsAfter e seen (record { orders = orders; days = days; end = e })
     between after result) (sym is) ends
+
+-- the same of days that were run by call orders of another name
+pub ends_by_orders : {E : Type 0} (end found : Result DeskStates Refusal) (seen : Seen) (one other : List CallOrder)
+    (days : List DayRecord) (between after : Lent) (result : Result Reply E) → end ≡ found → one ≡ other
+    → EndsAfter found seen (record { orders = one; days = days; end = found }) between after result
+    → EndsAfter end seen (record { orders = other; days = days; end = end }) between after result
+ends_by_orders end found seen one other days between after result is same ends =
+    ends_so end found seen other days between after result is
+    (subst (λ (o : List CallOrder). EndsAfter found seen (record { orders = o; days = days; end = found }) between after
+    result) same ends)

@@ -106,6 +106,14 @@ ends_led seen played desk can same =
     (record { orders = played.orders; days = played.days; end = end }) desk) same
     (ends_on seen played desk can same)
 
+-- and of call orders of another name
+pub ends_led_by : (seen : Seen) (one other : List CallOrder) (days : List DayRecord) (end : Result DeskStates Refusal)
+    (desk : DeskStates) → CanEnd seen (record { orders = other; days = days; end = end }) → end ≡ Ok desk → one ≡ other
+    → CanBeEnded seen (record { orders = one; days = days; end = Ok desk }) desk
+ends_led_by seen one other days end desk can is same =
+    subst (λ (o : List CallOrder). CanBeEnded seen (record { orders = o; days = days; end = Ok desk }) desk) (sym same)
+    (ends_led seen (record { orders = other; days = days; end = end }) desk can is)
+
 -- what is found by its id is one of so many
 pub found_within : (ids : List ℕ) (n id place : ℕ) → length ids ≡ n → position (nat_eq id) ids ≡ Some place → place < n
 found_within ids n id place long found = omega (arith, (position-Some (nat_eq id) ids place 0 found).0, long)

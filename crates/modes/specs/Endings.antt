@@ -35,7 +35,7 @@ use Rattle.modes.specs.declared.reply.Reply.{Reply}
 
 -- what was played where all days have led to a desk
 abbrev pub led_by : Led → Played
-led_by led = record { orders = led.orders.orders; days = led.days.items; end = Ok led.desk }
+led_by led = record { orders = led.last.orders; days = led.days.items; end = Ok led.last.desk }
 
 -- a run is done with its whole text
 abbrev pub IsDoneWith : List ℕ → Exit → List ℕ → Type 0

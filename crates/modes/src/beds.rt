@@ -1,22 +1,25 @@
 //! The mode `beds`: how many beds a school needs in the last pass, and how the bars stand then.
 ghost use Rattle.std.specs.Prelude.{◌≡◌, ◌<◌, ◌≤◌, ◌+◌, ◌-◌, IfOk, IsTrue, length};
-ghost use Rattle.admit_core.specs.CallOrder.{AreCallOrders};
 ghost use Rattle.admit_core.specs.DossierRows.{beds_of};
 ghost use Rattle.admit_core.specs.Lists.{is_among};
 ghost use Rattle.bed_need.specs.Figures.{Figures, TellsOfFigures};
 ghost use Rattle.desk_day.specs.DayPasses.{TellsMore};
 ghost use Rattle.modes.specs.Asking.{TellsPicks};
 ghost use Rattle.modes.specs.Beds.{IsOnlyText, IsTextOf, PicksForFigures, TellsFigures};
+ghost use Rattle.modes.specs.Endings.{IsDoneSaying};
 ghost use Rattle.played.specs.LastDays.{IsDeskAfter};
 
-use admit_core::{CallOrders, DayRecord, Dossier, OutOfMemory};
+use crate::led::Led;
+use crate::reply::{Reply, done};
+use admit_core::{DayRecord, Dossier, OutOfMemory};
 use bar_fixpoint::Picker;
 use bed_need::{BedQuestions, beds_text};
 use day_state::DayState;
-use desk_day::{Desk, ceilings_on};
+use desk_day::ceilings_on;
 use dossier_check::school_place;
 use intake::Input;
 use linked_demand::Roster;
+use played::DeskAlong;
 use std::alloc::Global;
 
 /// How many beds the school at a place lacks, of those that it needs.
@@ -56,53 +59,51 @@ fn figures_of(
     beds_text(alloc, dossier, place, need, &growth)
 }
 
-/// The same for a state and its call orders, along a roster of its own.
+/// The same for a state and the roster of its dossier.
 fn figures_text(
     alloc: Global,
     dossier: &Dossier,
     opening: &DayState<'_>,
-    orders: &CallOrders,
+    roster: &Roster<'_, '_>,
     ceilings: &[u32],
     place: u32,
     picker: &mut dyn Picker,
 ) -> Result<Vec<u8>, OutOfMemory>
     requires dossier { opening.now.dossier ≡ dossier.now }
-    requires orders { AreCallOrders opening.now.dossier.groups orders.now.orders }
+    requires roster { roster.now.dossier ≡ opening.now.dossier }
     requires ceilings { length ceilings.now ≡ length opening.now.dossier.schools }
     requires place { place < length opening.now.dossier.schools }
 
     ensures text { IfOk result (λ text. (figures : Figures)
-        × IsTextOf dossier.now opening.now orders.now.orders ceilings.now place figures text.items
-        × TellsOfFigures opening.now orders.now.orders ceilings.now place figures.need
+        × IsTextOf dossier.now opening.now roster.now.orders ceilings.now place figures text.items
+        × TellsOfFigures opening.now roster.now.orders ceilings.now place figures.need
         (choice picker.old) (told picker.old) (told picker.new)) }
     ensures early { TellsMore (told picker.old) (told picker.new) }
     ensures choice { choice picker.new ≡ choice picker.old }
 {
-    let roster = Roster::build(alloc, opening, orders)?;
-    let questions = BedQuestions::along(opening, &roster);
+    let questions = BedQuestions::along(opening, roster);
     figures_of(alloc, dossier, &questions, ceilings, place, picker)
 }
 
 /// The figures of the school of this id in the last pass. The picker has no say in them.
-pub(crate) fn school_text(
+fn school_text(
     alloc: Global,
     input: &Input,
-    orders: &CallOrders,
     days: &[DayRecord],
-    desk: &Desk<'_>,
+    along: &DeskAlong<'_, '_>,
     school: u32,
     picker: &mut dyn Picker,
 ) -> Result<Vec<u8>, OutOfMemory>
     requires named { IsTrue (is_among school input.now.index.schools) }
     requires some_day { 0 < length days.now }
-    requires desk { IsDeskAfter input.now.dossier orders.now.orders days.now desk.now }
+    requires desk { IsDeskAfter input.now.dossier along.now.orders days.now along.now.desk }
 
     ensures text { IfOk result (λ text. TellsFigures
-        input.now.dossier input.now.index orders.now.orders days.now desk.now school text.items) }
+        input.now.dossier input.now.index along.now.orders days.now along.now.desk school text.items) }
     ensures only { IfOk result (λ text. IsOnlyText
-        input.now.dossier input.now.index orders.now.orders days.now desk.now school text.items) }
+        input.now.dossier input.now.index along.now.orders days.now along.now.desk school text.items) }
     ensures picks { IfOk result (λ text. TellsPicks
-        (PicksForFigures input.now.dossier input.now.index orders.now.orders days.now desk.now
+        (PicksForFigures input.now.dossier input.now.index along.now.orders days.now along.now.desk
         school (choice picker.old) (told picker.old))
         (told picker.old) (told picker.new)) }
     ensures early { TellsMore (told picker.old) (told picker.new) }
@@ -115,14 +116,45 @@ pub(crate) fn school_text(
         unreachable!()
     };
     let ceilings = ceilings_on(alloc, &input.dossier, day.day)?;
-    let opening = desk.opening();
+    let opening = along.desk().opening();
     figures_text(
         alloc,
         &input.dossier,
         opening,
-        orders,
+        along.roster(),
         &ceilings,
         place,
         picker,
     )
+}
+
+/// How the mode `beds` ends, which needs the opening of the last pass too, and asks along the
+/// roster of the days.
+pub(crate) fn needed(
+    alloc: Global,
+    input: &Input,
+    led: Led<'_, '_>,
+    school: u32,
+    picker: &mut dyn Picker,
+) -> Result<Reply, OutOfMemory>
+    requires named { IsTrue (is_among school input.now.index.schools) }
+    requires some_day { 0 < length led.days.items }
+    requires desk { IsDeskAfter
+        input.now.dossier led.last.orders led.days.items led.last.desk }
+
+    ensures text { IfOk result (λ reply. IsDoneSaying
+        (TellsFigures input.now.dossier input.now.index led.entry.last.orders
+        led.entry.days.items led.entry.last.desk school)
+        reply.exit reply.text.items) }
+    ensures picks { IfOk result (λ _. TellsPicks
+        (PicksForFigures input.now.dossier input.now.index led.entry.last.orders
+        led.entry.days.items led.entry.last.desk school (choice picker.old) (told picker.old))
+        (told picker.old) (told picker.new)) }
+    ensures early { TellsMore (told picker.old) (told picker.new) }
+    ensures choice { choice picker.new ≡ choice picker.old }
+{
+    let (days, last) = led.into_parts();
+    let along = last.into_along(alloc)?;
+    let text = school_text(alloc, input, days.as_slice(), &along, school, picker)?;
+    Ok(done(text))
 }

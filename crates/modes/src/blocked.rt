@@ -1,22 +1,37 @@
 //! The mode `envy`: the wishes that block the evening after the days.
 ghost use Rattle.std.specs.Prelude.{◌≡◌, IfOk};
-ghost use Rattle.admit_core.specs.CallOrder.{AreCallOrders};
 ghost use Rattle.modes.specs.Blocked.{blocked_text};
+ghost use Rattle.modes.specs.Endings.{IsDoneWith};
 
-use admit_core::{CallOrders, OutOfMemory};
+use crate::led::Led;
+use crate::reply::{Reply, done};
+use admit_core::OutOfMemory;
 use day_state::DayState;
-use envy::{blocking_pairs, envy_text};
+use envy::{blocking_pairs_along, envy_text};
+use linked_demand::Roster;
 use std::alloc::Global;
 
 /// The lines of the wishes that block an evening.
-pub(crate) fn blocked_text(
+fn blocked_text(
     alloc: Global,
     evening: &DayState<'_>,
-    orders: &CallOrders,
+    roster: &Roster<'_, '_>,
 ) -> Result<Vec<u8>, OutOfMemory>
-    requires { AreCallOrders evening.now.dossier.groups orders.now.orders }
-    ensures { IfOk result (λ text. text.items ≡ blocked_text evening.now orders.now.orders) }
+    requires { roster.now.dossier ≡ evening.now.dossier }
+    ensures { IfOk result (λ text. text.items ≡ blocked_text evening.now roster.now.orders) }
 {
-    let blocks = blocking_pairs(alloc, evening, orders)?;
+    let blocks = blocking_pairs_along(alloc, evening, roster)?;
     envy_text(alloc, evening.dossier(), &blocks)
+}
+
+/// How the mode `envy` ends, along the roster of the days. All of the desk but its present state
+/// is given up before the wishes are gone through.
+pub(crate) fn envied(alloc: Global, led: Led<'_, '_>) -> Result<Reply, OutOfMemory>
+    ensures { IfOk result (λ reply. IsDoneWith
+        (blocked_text led.entry.last.desk.present led.entry.last.orders)
+        reply.exit reply.text.items) }
+{
+    let along = led.into_last().into_along(alloc)?;
+    let (evening, roster) = along.into_now();
+    Ok(done(blocked_text(alloc, &evening, &roster)?))
 }

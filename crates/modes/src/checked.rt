@@ -16,6 +16,7 @@ ghost use Rattle.modes.specs.declared.unproved.Unproved.TheVariants as whys;
 
 use crate::exit::Exit;
 use crate::job::terms_in;
+use crate::led::Led;
 use crate::replay::push_final_lines;
 use crate::reply::Reply;
 use crate::unproved::Unproved;
@@ -185,7 +186,7 @@ fn check_chain(
 
 /// Reads the chain that is handed in, tests its days from the first evening on, and replies. No
 /// picker is asked.
-pub(crate) fn checked(
+fn checked(
     alloc: Global,
     input: &Input,
     dated: Option<&DatedTerms>,
@@ -209,4 +210,25 @@ pub(crate) fn checked(
         }
         Err(ChainRefusal::OutOfMemory) => Err(OutOfMemory),
     }
+}
+
+/// How the mode `check` ends, whose desk is the first one.
+pub(crate) fn tested(
+    alloc: Global,
+    input: &Input,
+    dated: Option<&DatedTerms>,
+    led: Led<'_, '_>,
+) -> Result<Reply, OutOfMemory>
+    requires index { input.now.index ≡ ids_in input.now.dossier }
+    requires dated { IfSome (option_copied dated) (AreDatedFor input.now.dossier) }
+    requires orders { AreCallOrders input.now.dossier.groups led.last.orders }
+    requires first { led.last.desk.present ≡ first_evening input.now.dossier }
+    ensures { IfOk result (λ reply. IsChecked
+        input.now.dossier input.now.chain (option_copied dated.entry) led.entry.last.orders
+        reply.exit reply.text.items) }
+{
+    let last = led.into_last();
+    let orders = last.orders();
+    let first = last.into_now(alloc)?;
+    checked(alloc, input, dated, orders, first)
 }

@@ -2,9 +2,12 @@
 ghost use Rattle.std.specs.Prelude.{◌≡◌, ◌<◌, IfOk, IsTrue, length};
 ghost use Rattle.admit_core.specs.EveningLaws.{last_bars};
 ghost use Rattle.admit_core.specs.Lists.{is_among};
+ghost use Rattle.modes.specs.Endings.{IsDoneSaying};
 ghost use Rattle.modes.specs.Explained.{IsExplained};
 ghost use Rattle.played.specs.LastDays.{IsDeskAfter};
 
+use crate::led::Led;
+use crate::reply::{Reply, done};
 use admit_core::{CallOrders, DayRecord, OutOfMemory, PassEnd};
 use desk_day::{Desk, ceilings_on};
 use dossier_check::wish_place;
@@ -24,7 +27,7 @@ fn last_bars(passes: &[PassEnd]) -> &[u32]
 }
 
 /// The line that explains the wish of this id.
-pub(crate) fn explained_text(
+fn explained_text(
     alloc: Global,
     input: &Input,
     orders: &CallOrders,
@@ -48,4 +51,27 @@ pub(crate) fn explained_text(
     let bars = last_bars(day.passes.as_slice());
     let why = explain_on_desk(desk, orders, &ceilings, bars, place);
     explain_text(alloc, &input.dossier, place, why)
+}
+
+/// How the mode `explain` ends, which needs the opening of the last pass too.
+pub(crate) fn explained(
+    alloc: Global,
+    input: &Input,
+    led: Led<'_, '_>,
+    wish: u32,
+) -> Result<Reply, OutOfMemory>
+    requires named { IsTrue (is_among wish input.now.index.wishes) }
+    requires some_day { 0 < length led.days.items }
+    requires desk { IsDeskAfter
+        input.now.dossier led.last.orders led.days.items led.last.desk }
+    ensures { IfOk result (λ reply. IsDoneSaying
+        (IsExplained input.now.dossier input.now.index led.entry.last.orders
+        led.entry.days.items led.entry.last.desk wish)
+        reply.exit reply.text.items) }
+{
+    let (days, last) = led.into_parts();
+    let orders = last.orders();
+    let along = last.into_along(alloc)?;
+    let text = explained_text(alloc, input, orders, days.as_slice(), along.desk(), wish)?;
+    Ok(done(text))
 }

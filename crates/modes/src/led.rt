@@ -4,57 +4,51 @@ ghost use Rattle.std.specs.Prelude.{◌≡◌};
 use admit_core::{CallOrders, DayRecord};
 use played::LastDesk;
 
-/// All days that were asked for, by which call orders they were run, and the desk after them, which
-/// is begun when it is asked for.
-pub(crate) struct Led<'d> {
-    pub orders: CallOrders,
+/// All days that were asked for, and what they left: the desk after them, with the call orders by
+/// which they were run and the roster, which is made when it is asked for where no day was run.
+pub(crate) struct Led<'a, 'd> {
     pub days: Vec<DayRecord>,
-    pub desk: LastDesk<'d>,
+    pub last: LastDesk<'a, 'd>,
 }
 
 // Not derived, so that it is dropped in one step where it is held, and not list by list.
-impl<'d> Drop for Led<'d> {
+impl Drop for Led<'_, '_> {
     fn drop(self) {
-        let Led {
-            orders: _,
-            days: _,
-            desk: _,
-        } = self;
+        let Led { days: _, last: _ } = self;
     }
 }
 
-impl<'d> Led<'d> {
+impl<'a, 'd> Led<'a, 'd> {
     /// The call orders alone.
-    pub fn into_orders(self) -> CallOrders
-        ensures { result ≡ self.entry.orders }
+    pub fn into_orders(self) -> &'a CallOrders
+        ensures { result.now.orders ≡ self.entry.last.orders }
     {
-        let Led {
-            orders,
-            days: _,
-            desk: _,
-        } = self;
-        orders
+        let Led { days: _, last } = self;
+        last.orders()
     }
 
     /// The days alone.
     pub fn into_days(self) -> Vec<DayRecord>
         ensures { result.items ≡ self.entry.days.items }
     {
-        let Led {
-            orders: _,
-            days,
-            desk: _,
-        } = self;
+        let Led { days, last: _ } = self;
         days
     }
 
-    /// All three.
-    pub fn into_parts(self) -> (CallOrders, Vec<DayRecord>, LastDesk<'d>)
-        ensures orders { result.0.orders ≡ self.entry.orders.orders }
-        ensures days { result.1.items ≡ self.entry.days.items }
-        ensures desk { result.2 ≡ self.entry.desk }
+    /// The desk alone.
+    pub fn into_last(self) -> LastDesk<'a, 'd>
+        ensures { result ≡ self.entry.last }
     {
-        let Led { orders, days, desk } = self;
-        (orders, days, desk)
+        let Led { days: _, last } = self;
+        last
+    }
+
+    /// The days, and what they left.
+    pub fn into_parts(self) -> (Vec<DayRecord>, LastDesk<'a, 'd>)
+        ensures days { result.0.items ≡ self.entry.days.items }
+        ensures last { result.1 ≡ self.entry.last }
+    {
+        let Led { days, last } = self;
+        (days, last)
     }
 }

@@ -1,11 +1,12 @@
 //! The modes: how a run ends once its days are over, with each mode's text; and the line of what
 //! stopped a run before them.
 //!
-//! `let reply = ending(alloc, &request, &input, dated, played, &mut pickers)?;`
+//! `let reply = ending(alloc, &request, &input, dated, &orders, played, &mut pickers)?;`
 #![tactic(auto)]
 
 mod beds;
 mod blocked;
+mod chain;
 mod checked;
 mod endings;
 mod exit;
@@ -16,6 +17,7 @@ mod market;
 mod order;
 mod replay;
 mod reply;
+mod sample;
 mod unproved;
 
 pub use endings::ending;

@@ -6,12 +6,15 @@ ghost use Rattle.admit_core.specs.Falls.{IsGreatest};
 ghost use Rattle.bar_fixpoint.specs.Chosen.{TellsOfFalls};
 ghost use Rattle.desk_day.specs.DayPasses.{TellsMore};
 ghost use Rattle.modes.specs.Asking.{TellsPicks};
+ghost use Rattle.modes.specs.Endings.{IsDoneSaying};
 ghost use Rattle.modes.specs.Market.{PicksForMarket, TellsMarket};
 ghost use Rattle.markets.specs.Bars.{market_system, matched_under};
 ghost use Rattle.markets.specs.Dossiers.{market_candidates, market_of};
 ghost use Rattle.markets.specs.Matchings.{IsStable};
 ghost use Rattle.markets.specs.Solving.{IsLedTo};
 
+use crate::led::Led;
+use crate::reply::{Reply, done};
 use admit_core::{CallOrders, Dossier, OutOfMemory, Steps};
 use bar_fixpoint::Picker;
 use markets::{Market, Named, Solved, from_dossier, market_text, solve};
@@ -71,7 +74,7 @@ fn text_of(
 
 /// The stable matching of those who rank their wishes, over the wishes without boarding, that is
 /// best for each of them. The picker has no say in it.
-pub(crate) fn matched_text(
+fn matched_text(
     alloc: Global,
     dossier: &Dossier,
     orders: &CallOrders,
@@ -88,4 +91,26 @@ pub(crate) fn matched_text(
 {
     let named = from_dossier(alloc, dossier, orders)?;
     text_of(alloc, dossier, orders, &named, picker)
+}
+
+/// How the mode `market` ends, for which the days count for nothing.
+pub(crate) fn matched(
+    alloc: Global,
+    dossier: &Dossier,
+    led: Led<'_, '_>,
+    picker: &mut dyn Picker,
+) -> Result<Reply, OutOfMemory>
+    requires { AreCallOrders dossier.now.groups led.last.orders }
+
+    ensures text { IfOk result (λ reply. IsDoneSaying
+        (TellsMarket dossier.now led.entry.last.orders) reply.exit reply.text.items) }
+    ensures picks { IfOk result (λ _. TellsPicks
+        (PicksForMarket dossier.now led.entry.last.orders (choice picker.old) (told picker.old))
+        (told picker.old) (told picker.new)) }
+    ensures early { TellsMore (told picker.old) (told picker.new) }
+    ensures choice { choice picker.new ≡ choice picker.old }
+{
+    let orders = led.into_orders();
+    let text = matched_text(alloc, dossier, orders, picker)?;
+    Ok(done(text))
 }

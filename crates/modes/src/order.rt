@@ -1,8 +1,11 @@
 //! The mode `order`: the lines of the call orders.
 ghost use Rattle.std.specs.Prelude.{◌≡◌, ◌++◌, IfOk, OnOk, string_bytes};
+ghost use Rattle.modes.specs.Endings.{IsDoneWith};
 ghost use Rattle.modes.specs.Order.{orders_text};
 
-use admit_core::{CallOrder, OutOfMemory, RankGroup};
+use crate::led::Led;
+use crate::reply::{Reply, done};
+use admit_core::{CallOrder, Dossier, OutOfMemory, RankGroup};
 use report::push_order;
 use std::alloc::{AllocError, Global};
 
@@ -32,4 +35,18 @@ pub(crate) fn orders_text(
     let mut text = String::new(alloc);
     push_orders(&mut text, groups, orders)?;
     Ok(text.into_bytes())
+}
+
+/// How the mode `order` ends, for which the days count for nothing.
+pub(crate) fn ordered(
+    alloc: Global,
+    dossier: &Dossier,
+    led: Led<'_, '_>,
+) -> Result<Reply, OutOfMemory>
+    ensures { IfOk result (λ reply. IsDoneWith
+        (orders_text dossier.now.groups led.entry.last.orders)
+        reply.exit reply.text.items) }
+{
+    let called = led.into_orders().orders.as_slice();
+    Ok(done(orders_text(alloc, dossier.groups.as_slice(), called)?))
 }

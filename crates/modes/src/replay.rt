@@ -1,11 +1,14 @@
 //! The mode `replay`: the call orders, the days and the final state.
 ghost use Rattle.std.specs.Prelude.{◌≡◌, ◌++◌, All, IfOk, OnOk, option_copied, string_bytes};
+ghost use Rattle.modes.specs.Endings.{IsDoneWith};
 ghost use Rattle.modes.specs.Replay.{CanBeDated, CanBeWritten, day_lines, days_text, final_lines, replay_text};
 
+use crate::led::Led;
 use crate::order::push_orders;
+use crate::reply::{Reply, done};
 use admit_core::{CallOrder, DayRecord, Dossier, OutOfMemory};
 use day_state::DayState;
-use intake::DatedTerms;
+use intake::{DatedTerms, Input};
 use report::{push_dated_day, push_dated_final, push_day, push_final};
 use std::alloc::{AllocError, Global};
 
@@ -79,7 +82,7 @@ pub(crate) fn days_text(
 }
 
 /// The whole text, which grows in one buffer.
-pub(crate) fn replay_text(
+fn replay_text(
     alloc: Global,
     dossier: &Dossier,
     dated: Option<&DatedTerms>,
@@ -96,4 +99,33 @@ pub(crate) fn replay_text(
     push_days(&mut text, dossier, dated, orders, days)?;
     push_final_lines(&mut text, evening, dated)?;
     Ok(text.into_bytes())
+}
+
+/// How the mode `replay` ends. All of the desk but its present state, and the roster, are given up
+/// before the text is made, which is the longest of all modes.
+pub(crate) fn replayed(
+    alloc: Global,
+    input: &Input,
+    dated: Option<&DatedTerms>,
+    led: Led<'_, '_>,
+) -> Result<Reply, OutOfMemory>
+    requires days { All (CanBeWritten input.now.dossier (option_copied dated)) led.days.items }
+    requires offers { CanBeDated (option_copied dated) led.last.desk.present }
+    ensures { IfOk result (λ reply. IsDoneWith
+        (replay_text input.now.dossier (option_copied dated.entry)
+        led.entry.last.orders led.entry.days.items led.entry.last.desk.present)
+        reply.exit reply.text.items) }
+{
+    let (days, last) = led.into_parts();
+    let called = last.orders().orders.as_slice();
+    let evening = last.into_now(alloc)?;
+    let text = replay_text(
+        alloc,
+        &input.dossier,
+        dated,
+        called,
+        days.as_slice(),
+        &evening,
+    )?;
+    Ok(done(text))
 }

@@ -14,6 +14,17 @@ pub struct Reply {
     pub text: Vec<u8>,
 }
 
+/// A run that is done with its whole text.
+pub(crate) fn done(text: Vec<u8>) -> Reply
+    ensures exit { result.exit ≡ Exit.Done }
+    ensures text { result.text.items ≡ text.items }
+{
+    Reply {
+        exit: Exit::Done,
+        text,
+    }
+}
+
 /// The line of what stopped a run before its days.
 pub fn stopped(alloc: Global, stop: Stop) -> Result<Reply, OutOfMemory>
     ensures { IfOk result (λ reply. IsStoppedBy stop reply.exit reply.text.items) }

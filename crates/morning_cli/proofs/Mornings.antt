@@ -1,6 +1,6 @@
 -- How a run over a job ends after its days.
 use Rattle.std.proofs.Common.{◌≡◌, ◌∙◌, ℕ, List, Option, None, Some, Result, Ok, Err, IfOk, IfSome, true, false, ap}
-use Rattle.std.proofs.Common.{inl, inr, is_err, option_map, subst, sym}
+use Rattle.std.proofs.Common.{inl, inr, is_err, option_map, refl, subst, sym}
 use Rattle.std.proofs.lemmas.Bool.{false≢true}
 use Rattle.std.proofs.lemmas.Simd.{map-map}
 use Rattle.admit_core.specs.DossierRows.{DossierRows}
@@ -27,6 +27,7 @@ use Rattle.modes.specs.Jobs.{dated_of, days_of, deadlines_of, dossier, seen_by, 
 use Rattle.modes.specs.Replay.{CanBeDated}
 use Rattle.modes.specs.declared.exit.Exit.{Exit}
 use Rattle.modes.specs.declared.reply.Reply.{Reply}
+use Rattle.played.specs.LastDesks.{DeskLeft, desk_in}
 use Rattle.played.specs.Lent.{Lent}
 use Rattle.played.specs.PlayedDays.{IsPlayed, Played}
 use Rattle.replay_cli.proofs.Played.{can_end, reply_ends}
@@ -64,6 +65,17 @@ same_desk (Ok x) found desk a b =
     let other : x ≡ desk = cc in
     sym one ∙ other
 same_desk (Err refusal) found desk a b = absurd (cc)
+
+-- days were cut short, or they were not
+pub err_in : (end : Result DeskLeft Refusal) → is_err (desk_in end) ≡ is_err end
+err_in (Ok last) = refl
+err_in (Err refusal) = refl
+
+-- what holds of the states of the desk that days leave
+pub on_desk : (end : Result DeskLeft Refusal) (P : DeskStates → Type 0) → IfOk (desk_in end) P
+    → IfOk end (λ last. P last.desk)
+on_desk (Ok last) P holds = holds
+on_desk (Err refusal) P holds = tt
 
 -- what is played and written is the job's
 module _ (job : Job) (request : Request) (d : DossierRows) (dates : List (Option Since)) (dated : Option DatedTerms)

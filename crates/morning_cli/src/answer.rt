@@ -9,6 +9,7 @@ ghost use Rattle.intake.specs.Input.{IsInputOf, IsJobOf, Job};
 ghost use Rattle.intake.specs.Shelves.{on_shelf};
 ghost use Rattle.modes.specs.Endings.{IsDoneWith};
 ghost use Rattle.modes.specs.Replay.{CanBeDated};
+ghost use Rattle.played.specs.LastDesks.{desk_in};
 ghost use Rattle.played.specs.Lent.{AreBack, AreThere, standing};
 ghost use Rattle.morning_cli.specs.Asked.{IsAsked, is_daily};
 ghost use Rattle.morning_cli.specs.Answering.{RepliesSlot, TakesAsked};
@@ -17,6 +18,7 @@ ghost use Rattle.morning_cli.specs.Morning.{IsSlotEnding, morning_text};
 use crate::asked::{Asked, read_asked};
 use crate::morning::slot_reply;
 use admit_core::{OutOfMemory, Slot};
+use call_order::call_orders;
 use intake::{DatedTerms, Input, Stop, dated_terms, take_in};
 use modes::{Reply, days_of, deadlines_of, ending, stopped, terms_in};
 use played::{Pickers, Played, play};
@@ -40,24 +42,20 @@ fn morning_after(
     slot: Slot,
     day: u32,
     dated: Option<&DatedTerms>,
-    played: Played<'_>,
+    played: Played<'_, '_>,
 ) -> Result<Reply, OutOfMemory>
     requires daily { IsTrue (is_daily slot) }
     requires all { IsOk played.end }
-    requires dates { IfOk played.end (λ desk. CanBeDated (option_copied dated) desk.present) }
-    ensures { (t : Tables) (desk : DeskStates) → played.entry.end ≡ Ok desk
+    requires dates { IfOk played.end (λ last. CanBeDated (option_copied dated) last.desk.present) }
+    ensures { (t : Tables) (desk : DeskStates) → desk_in played.entry.end ≡ Ok desk
         → desk.present.dossier ≡ dossier_of t → first_fault t ≡ None
         → IfOk result (λ reply. IsDoneWith
         (morning_text slot t desk.present day (option_copied dated.entry))
         reply.exit reply.text.items) }
 {
-    let Played {
-        orders: _,
-        days: _,
-        end,
-    } = played;
-    let Ok(desk) = end else { unreachable!() };
-    let evening = desk.into_now(alloc)?;
+    let Played { days: _, end } = played;
+    let Ok(last) = end else { unreachable!() };
+    let evening = last.into_now(alloc)?;
     slot_reply(alloc, slot, &evening, day, dated)
 }
 
@@ -86,16 +84,19 @@ fn play_out(
     let dated = dated_terms(alloc, input, deadlines_of(request))?;
     let dated = dated.as_ref();
     let number = days_of(request);
+    let dossier = &input.dossier;
+    let orders = call_orders(alloc, dossier.groups.as_slice())?;
     let played = play(
         alloc,
-        &input.dossier,
+        dossier,
+        &orders,
         terms_in(dated),
         number,
         request.picker,
         pickers,
     )?;
     if played.end.is_err() {
-        return ending(alloc, request, input, dated, played, pickers);
+        return ending(alloc, request, input, dated, &orders, played, pickers);
     }
     morning_after(alloc, asked.slot, number, dated, played)
 }

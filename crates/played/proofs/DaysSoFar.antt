@@ -230,18 +230,14 @@ module _ (d : DossierRows) (number : ℕ) (plan : Plan) (old new : DeskStates) (
   }
 
 -- a run of which no day is asked for
-pub none_played : {A E : Type 0} (shown : A → Played) (d : DossierRows) (terms : Option Terms) (number : ℕ)
-    (who : PickerChoice)
-    (before : Lent) (r : Result A E) → IfOk r (λ p. AreCallOrders d.groups (shown p).orders)
-    → IfOk r (λ p. (shown p).days ≡ [])
-    → IfOk r (λ p. (shown p).end ≡ Ok (first_desk d)) → number ≡ 0
-    → IfOk r (λ p. IsPlayed d terms number who before (shown p) before)
-none_played shown d terms number who before (Err e) called days end none = tt
-none_played shown d terms number who before (Ok p) called days end none = record {
+pub none_played : (d : DossierRows) (terms : Option Terms) (number : ℕ) (who : PickerChoice) (before : Lent)
+    (played : Played) → AreCallOrders d.groups played.orders → played.days ≡ [] → played.end ≡ Ok (first_desk d)
+    → number ≡ 0 → IsPlayed d terms number who before played before
+none_played d terms number who before played called days end none = record {
   called = called;
   last = first_desk d;
   days = subst (λ (ds : List DayRecord).
-      Lead (record { orders = (shown p).orders; terms = terms; who = who }) 1 (first_desk d) before ds (first_desk d))
+      Lead (record { orders = played.orders; terms = terms; who = who }) 1 (first_desk d) before ds (first_desk d))
       (sym days) refl;
   ends = rw (end, days) (sym none, refl);
   told = subst (λ (ds : List DayRecord). Told who ds before before) (sym days)

@@ -1,6 +1,8 @@
 -- Days that were played, of which the falls are kept or left out.
-use Rattle.std.proofs.Common.{◌≡◌, ◌∙◌, ℕ, ◌+◌, ◌<◌, Bool, true, List, [], ◌∷◌, ◌++◌, Option, Result, Ok, Err, IfOk}
-use Rattle.std.proofs.Common.{IsErrAnd, ap, map, refl, subst, sym}
+use Rattle.std.proofs.Common.{◌≡◌, ◌∙◌, ℕ, ◌+◌, ◌<◌, Bool, true, false, List, [], ◌∷◌, ◌++◌, Option, Result, Ok, Err}
+use Rattle.std.proofs.Common.{IfOk, IsErrAnd, ap, map, refl, subst, sym}
+use Rattle.std.specs.Prelude.{nat_lt}
+use Rattle.std.proofs.lemmas.Bool.{lt-ltb}
 use Rattle.std.proofs.lemmas.Result.{IfOk-weaker}
 use Rattle.admit_core.specs.CallOrder.{AreCallOrders}
 use Rattle.admit_core.specs.Days.{ceilings_of, unfit_on}
@@ -21,11 +23,12 @@ use Rattle.desk_day.specs.declared.refusal.DayRefusal.TheVariants as refusals
 use Rattle.request.specs.declared.pickers.PickerChoice.{PickerChoice}
 use Rattle.round.specs.KeptFalls.{IsKeptOf}
 use Rattle.played.specs.KeptDays.{IsPlayedKept, PlaysDaysKept, kept_played}
+use Rattle.played.specs.LastDesks.{DeskLeft, EndsBy, IsLeftBy, desk_in}
 use Rattle.played.specs.Lent.{Lent}
 use Rattle.played.specs.OneDay.{DayEndsWith}
 use Rattle.played.specs.PlayedDays.{EndsNext, IsPlayed, OnFit, Plan, Played, first_desk}
-use Rattle.played.proofs.DaysSoFar.{SoFar, all_played, cut_short, none_played, nothing_played, played_on, plays_all}
-use Rattle.played.proofs.DaysSoFar.{plays_out, plays_some}
+use Rattle.played.proofs.DaysSoFar.{SoFar, all_played, cut_short, lead_dossier, none_played, nothing_played, played_on}
+use Rattle.played.proofs.DaysSoFar.{plays_all, plays_out, plays_some}
 
 -- one day with one picker
 ok_so : {A E P : Type 0} (r : Result A E) → P → IfOk r (λ x. P)
@@ -137,29 +140,47 @@ module _ (keeps : Bool) (plan : Plan) (old : DeskStates) (before : Lent) (played
 
 -- what became of the days that were asked for
 module _ (keeps : Bool) (d : DossierRows) (number : ℕ) (plan : Plan) (old new : DeskStates) (before after : Lent)
-    (kept : List DayRecord) (end : Result DeskStates Refusal)
+    (kept : List DayRecord) (end : Result DeskLeft Refusal)
     (called : AreCallOrders d.groups plan.orders) (begun : old ≡ first_desk d) where
   abbrev with_days : List DayRecord → Played
-  with_days days = record { orders = plan.orders; days = days; end = end }
+  with_days days = record { orders = plan.orders; days = days; end = desk_in end }
 
   abbrev IsAll : Type 0
-  IsAll = IsPlayedKept keeps d plan.terms number plan.who before (with_days kept) after
+  IsAll = EndsBy plan.orders number (λ played. IsPlayedKept keeps d plan.terms number plan.who before played after)
+      kept end
 
-  pub all_kept : PlaysDaysKept keeps plan number old before kept (Ok tt) new after → end ≡ Ok new → IsAll
-  all_kept plays is = (
-    with_days plays.days,
-    all_played d number plan old new before after plays.days end called begun plays.plays is,
-    ap with_days plays.keeps_so,
-  )
+  pub all_kept : 0 < number → PlaysDaysKept keeps plan number old before kept (Ok tt) new after
+      → end ≡ Ok (record { desk = new; orders = plan.orders; is_begun = true }) → IsAll
+  all_kept some plays is = record {
+    plays = (
+      with_days plays.days,
+      all_played d number plan old new before after plays.days (desk_in end) called begun plays.plays (ap desk_in is),
+      ap with_days plays.keeps_so,
+    );
+    left = subst (λ (e : Result DeskLeft Refusal). IfOk e (IsLeftBy plan.orders number)) (sym is)
+        (record { by_orders = refl; begun = sym (lt-ltb 0 number some) });
+  }
 
   pub cut_kept : (refusal : Refusal)
       → PlaysDaysKept keeps plan number old before kept (Err (refusals.Unfit refusal)) new after → end ≡ Err refusal
       → IsAll
-  cut_kept refusal plays is = (
-    with_days plays.days,
-    cut_short d number plan old new before after plays.days end called begun refusal plays.plays is,
-    ap with_days plays.keeps_so,
-  )
+  cut_kept refusal plays is = record {
+    plays = (
+      with_days plays.days,
+      cut_short d number plan old new before after plays.days (desk_in end) called begun refusal plays.plays
+          (ap desk_in is),
+      ap with_days plays.keeps_so,
+    );
+    left = subst (λ (e : Result DeskLeft Refusal). IfOk e (IsLeftBy plan.orders number)) (sym is) tt;
+  }
+
+-- the desk after days is of the roster's dossier still
+pub along_still : (keeps : Bool) (plan : Plan) (number : ℕ) (old new : DeskStates) (before after : Lent)
+    (kept : List DayRecord) (d : DossierRows) → PlaysDaysKept keeps plan number old before kept (Ok tt) new after
+    → d ≡ old.present.dossier → d ≡ new.present.dossier
+along_still keeps plan number old new before after kept d plays same =
+    same ∙ sym (lead_dossier plan 1 old before plays.days plays.plays.last plays.plays.lead)
+    ∙ ap (λ (desk : DeskStates). desk.present.dossier) (sym plays.plays.stops.1)
 
 -- along a roster, by the orders that it was made of
 pub kept_by_orders : (keeps : Bool) (one other : List CallOrder) (terms : Option Terms) (who : PickerChoice)
@@ -179,17 +200,22 @@ kept_none keeps played none =
     ap (λ (days : List DayRecord). record { orders = played.orders; days = days; end = played.end })
     (none ∙ ap (map (kept_day keeps)) (sym none))
 
-pub none_played_kept : {A E : Type 0} (shown : A → Played) (keeps : Bool) (d : DossierRows) (terms : Option Terms)
-    (number : ℕ) (who : PickerChoice) (before : Lent) (r : Result A E)
-    → IfOk r (λ p. AreCallOrders d.groups (shown p).orders) → IfOk r (λ p. (shown p).days ≡ [])
-    → IfOk r (λ p. (shown p).end ≡ Ok (first_desk d)) → number ≡ 0
-    → IfOk r (λ p. IsPlayedKept keeps d terms number who before (shown p) before)
-none_played_kept {E = E} shown keeps d terms number who before (Err e) called days end none = tt
-none_played_kept {E = E} shown keeps d terms number who before (Ok p) called days end none = (
-  shown p,
-  none_played {E = E} shown d terms number who before (Ok p) called days end none,
-  kept_none keeps (shown p) days,
-)
+pub none_played_kept : (keeps : Bool) (d : DossierRows) (orders : List CallOrder) (terms : Option Terms) (number : ℕ)
+    (who : PickerChoice) (before : Lent) (days : List DayRecord) (end : Result DeskLeft Refusal)
+    → AreCallOrders d.groups orders → days ≡ []
+    → end ≡ Ok (record { desk = first_desk d; orders = orders; is_begun = false }) → number ≡ 0
+    → EndsBy orders number (λ played. IsPlayedKept keeps d terms number who before played before) days end
+none_played_kept keeps d orders terms number who before days end called none is zero =
+    let played : Played = record { orders = orders; days = days; end = desk_in end } in
+    record {
+      plays = (
+        played,
+        none_played d terms number who before played called none (ap desk_in is) zero,
+        kept_none keeps played none,
+      );
+      left = subst (λ (e : Result DeskLeft Refusal). IfOk e (IsLeftBy orders number)) (sym is)
+          (record { by_orders = refl; begun = ap (nat_lt 0) (sym zero) });
+    }
 
 -- a run whose falls are all kept
 days_whole : (days : List DayRecord) → map (kept_day true) days ≡ days
@@ -203,11 +229,16 @@ played_whole played =
     ap (λ (days : List DayRecord). record { orders = played.orders; days = days; end = played.end })
     (days_whole played.days)
 
-pub all_whole : {A E : Type 0} (shown : A → Played) (d : DossierRows) (terms : Option Terms) (number : ℕ)
-    (who : PickerChoice) (before after : Lent) (r : Result A E)
-    → IfOk r (λ p. IsPlayedKept true d terms number who before (shown p) after)
-    → IfOk r (λ p. IsPlayed d terms number who before (shown p) after)
-all_whole shown d terms number who before after r =
+pub all_whole : {A E : Type 0} (d : DossierRows) (orders : List CallOrder) (terms : Option Terms) (number : ℕ)
+    (who : PickerChoice) (before after : Lent) (days : A → List DayRecord) (end : A → Result DeskLeft Refusal)
+    (r : Result A E)
+    → IfOk r (λ p. EndsBy orders number (λ played. IsPlayedKept true d terms number who before played after)
+    (days p) (end p))
+    → IfOk r (λ p. EndsBy orders number (λ played. IsPlayed d terms number who before played after) (days p) (end p))
+all_whole d orders terms number who before after days end r =
     IfOk-weaker r _ _
-    (λ p is. subst (λ (played : Played). IsPlayed d terms number who before played after)
-    (sym (played_whole is.0) ∙ sym is.2) is.1)
+    (λ p ends. record {
+      plays = subst (λ (played : Played). IsPlayed d terms number who before played after)
+          (sym (played_whole ends.plays.0) ∙ sym ends.plays.2) ends.plays.1;
+      left = ends.left;
+    })

@@ -1,17 +1,17 @@
 //! The days of a run.
-ghost use Rattle.std.specs.Prelude.{◌≡◌, ◌≤◌, [], ◌∷◌, ◌++◌, IfOk, Ok, OnOk, option_copied};
+ghost use Rattle.std.specs.Prelude.{◌≡◌, ◌≤◌, ◌<◌, false, [], ◌∷◌, ◌++◌, IfOk, Ok, OnOk, option_copied};
 ghost use Rattle.admit_core.specs.CallOrder.{AreCallOrders};
 ghost use Rattle.admit_core.specs.Lapses.{AreTermsFor};
 ghost use Rattle.played.specs.KeptDays.{IsPlayedKept, PlaysDaysKept};
+ghost use Rattle.played.specs.LastDesks.{EndsBy};
 ghost use Rattle.played.specs.Lent.{AreBack, AreThere, Untold, lent};
 ghost use Rattle.played.specs.PlayedDays.{IsPlayed, first_desk};
 
 use crate::day::next_day;
-use crate::last::LastDesk;
+use crate::last::{DeskAlong, LastDesk};
 use crate::pickers::Pickers;
 use crate::wanted::Wanted;
 use admit_core::{CallOrders, DayRecord, Dossier, OutOfMemory, Refusal, Terms};
-use call_order::call_orders;
 use desk_day::{DayRefusal, Desk};
 use linked_demand::Roster;
 use request::PickerChoice;
@@ -19,12 +19,11 @@ use std::alloc::Global;
 
 /// What became of the days that were asked for.
 #[derive(Drop)]
-pub struct Played<'d> {
-    pub orders: CallOrders,
+pub struct Played<'a, 'd> {
     /// The days that came about, from day 1 on.
     pub days: Vec<DayRecord>,
     /// The desk after all of them, or the refusal of the first answer that does not fit.
-    pub end: Result<LastDesk<'d>, Refusal>,
+    pub end: Result<LastDesk<'a, 'd>, Refusal>,
 }
 
 /// Keeps the record of a day.
@@ -68,79 +67,75 @@ fn play_days(
     Ok(())
 }
 
-/// What the days begin with.
-#[derive(Drop)]
-struct Begun<'d> {
-    orders: CallOrders,
-    desk: Desk<'d>,
-}
-
-fn begin<'d>(alloc: Global, dossier: &'d Dossier) -> Result<Begun<'d>, OutOfMemory>
-    ensures orders { IfOk result (λ x. AreCallOrders dossier.now.groups x.orders.orders) }
-    ensures desk { IfOk result (λ x. x.desk ≡ first_desk dossier.now) }
-{
-    let orders = call_orders(alloc, dossier.groups.as_slice())?;
-    let desk = Desk::begin(alloc, dossier)?;
-    Ok(Begun { orders, desk })
-}
-
 /// A run for which no day is asked.
-fn unplayed<'d>(alloc: Global, dossier: &'d Dossier) -> Result<Played<'d>, OutOfMemory>
-    ensures orders { IfOk result (λ p. AreCallOrders dossier.now.groups p.orders.orders) }
-    ensures days { IfOk result (λ p. p.days.items ≡ []) }
-    ensures end { IfOk result (λ p. p.end ≡ Ok (first_desk dossier.now)) }
+fn unplayed<'a, 'd>(alloc: Global, dossier: &'d Dossier, orders: &'a CallOrders) -> Played<'a, 'd>
+    requires { AreCallOrders dossier.now.groups orders.now.orders }
+    ensures days { result.days.items ≡ [] }
+    ensures end { result.end ≡ Ok (record {
+      desk = first_desk dossier.now;
+      orders = orders.now.orders;
+      is_begun = false;
+    }) }
 {
-    Ok(Played {
-        orders: call_orders(alloc, dossier.groups.as_slice())?,
+    Played {
         days: Vec::new(alloc),
-        end: Ok(LastDesk::first(dossier)),
-    })
+        end: Ok(LastDesk::first(dossier, orders)),
+    }
 }
 
-/// Runs so many days of a dossier, at least one.
-fn play_some<'d>(
+/// Runs so many days of a dossier, at least one, along a roster that is made once. Where an answer
+/// does not fit, the desk and the roster are given up.
+fn play_some<'a, 'd>(
     alloc: Global,
     dossier: &'d Dossier,
+    orders: &'a CallOrders,
     terms: Option<&Terms>,
     wanted: Wanted,
     pickers: &mut Pickers,
-) -> Result<Played<'d>, OutOfMemory>
+) -> Result<Played<'a, 'd>, OutOfMemory>
+    requires orders { AreCallOrders dossier.now.groups orders.now.orders }
     requires terms { AreTermsFor dossier.now (option_copied terms) }
+    requires some_day { 0 < wanted.number }
     requires number { wanted.number ≤ 366 }
     requires there { AreThere pickers.old }
 
     ensures there { AreThere pickers.new }
     ensures back { AreBack (lent (λ p. told p) (λ p. choice p) pickers.old)
         (lent (λ p. told p) (λ p. choice p) pickers.new) }
-    ensures played { IfOk result (λ p. IsPlayedKept wanted.keeps_falls
+    ensures ends { IfOk result (λ p. EndsBy orders.now.orders wanted.number
+        (λ played. IsPlayedKept wanted.keeps_falls
         dossier.now (option_copied terms.entry) wanted.number wanted.who
-        (lent (λ p. told p) (λ p. choice p) pickers.old)
-        (record { orders = p.orders.orders; days = p.days.items; end = p.end })
-        (lent (λ p. told p) (λ p. choice p) pickers.new)) }
+        (lent (λ p. told p) (λ p. choice p) pickers.old) played
+        (lent (λ p. told p) (λ p. choice p) pickers.new)) p.days.items p.end) }
 {
-    let Begun { orders, mut desk } = begin(alloc, dossier)?;
+    let (mut desk, roster) = DeskAlong::begin(alloc, dossier, orders)?.into_parts();
     let mut days = Vec::new(alloc);
-    let roster = Roster::build(alloc, desk.now(), &orders)?;
-    let end = match play_days(alloc, &mut desk, &roster, terms, wanted, pickers, &mut days) {
-        Ok(()) => Ok(LastDesk::after_days(dossier, desk)),
-        Err(DayRefusal::Unfit(refusal)) => Err(refusal),
-        Err(DayRefusal::OutOfMemory) => return Err(OutOfMemory),
-    };
-    drop(roster);
-    Ok(Played { orders, days, end })
+    match play_days(alloc, &mut desk, &roster, terms, wanted, pickers, &mut days) {
+        Ok(()) => Ok(Played {
+            days,
+            end: Ok(LastDesk::after_days(DeskAlong { desk, roster })),
+        }),
+        Err(DayRefusal::Unfit(refusal)) => Ok(Played {
+            days,
+            end: Err(refusal),
+        }),
+        Err(DayRefusal::OutOfMemory) => Err(OutOfMemory),
+    }
 }
 
 /// Runs so many days of a dossier, each with the picker of the day, from the evening that it comes
-/// in with: all of them, or those before one with an answer that does not fit. Where none is asked
-/// for, no state is made.
-pub fn play<'d>(
+/// in with: all of them, or those before one with an answer that does not fit. The call orders
+/// (*ordres d'appel*) are those of the dossier. Where no day is asked for, no state is made.
+pub fn play<'a, 'd>(
     alloc: Global,
     dossier: &'d Dossier,
+    orders: &'a CallOrders,
     terms: Option<&Terms>,
     number: u32,
     who: PickerChoice,
     pickers: &mut Pickers,
-) -> Result<Played<'d>, OutOfMemory>
+) -> Result<Played<'a, 'd>, OutOfMemory>
+    requires orders { AreCallOrders dossier.now.groups orders.now.orders }
     requires terms { AreTermsFor dossier.now (option_copied terms) }
     requires number { number ≤ 366 }
     requires there { AreThere pickers.old }
@@ -150,28 +145,30 @@ pub fn play<'d>(
         (lent (λ p. told p) (λ p. choice p) pickers.new) }
     ensures idle { number ≡ 0 → Untold (lent (λ p. told p) (λ p. choice p) pickers.old)
         (lent (λ p. told p) (λ p. choice p) pickers.new) }
-    ensures played { IfOk result (λ p. IsPlayed dossier.now (option_copied terms.entry) number who
-        (lent (λ p. told p) (λ p. choice p) pickers.old)
-        (record { orders = p.orders.orders; days = p.days.items; end = p.end })
-        (lent (λ p. told p) (λ p. choice p) pickers.new)) }
+    ensures ends { IfOk result (λ p. EndsBy orders.now.orders number
+        (λ played. IsPlayed dossier.now (option_copied terms.entry) number who
+        (lent (λ p. told p) (λ p. choice p) pickers.old) played
+        (lent (λ p. told p) (λ p. choice p) pickers.new)) p.days.items p.end) }
 {
     let wanted = Wanted {
         number,
         who,
         keeps_falls: true,
     };
-    play_wanted(alloc, dossier, terms, wanted, pickers)
+    play_wanted(alloc, dossier, orders, terms, wanted, pickers)
 }
 
 /// Runs days as [`play`] does. Where their falls are not kept, the records have none, and the days
 /// take no memory for them.
-pub fn play_wanted<'d>(
+pub fn play_wanted<'a, 'd>(
     alloc: Global,
     dossier: &'d Dossier,
+    orders: &'a CallOrders,
     terms: Option<&Terms>,
     wanted: Wanted,
     pickers: &mut Pickers,
-) -> Result<Played<'d>, OutOfMemory>
+) -> Result<Played<'a, 'd>, OutOfMemory>
+    requires orders { AreCallOrders dossier.now.groups orders.now.orders }
     requires terms { AreTermsFor dossier.now (option_copied terms) }
     requires number { wanted.number ≤ 366 }
     requires there { AreThere pickers.old }
@@ -181,14 +178,14 @@ pub fn play_wanted<'d>(
         (lent (λ p. told p) (λ p. choice p) pickers.new) }
     ensures idle { wanted.number ≡ 0 → Untold (lent (λ p. told p) (λ p. choice p) pickers.old)
         (lent (λ p. told p) (λ p. choice p) pickers.new) }
-    ensures played { IfOk result (λ p. IsPlayedKept wanted.keeps_falls
+    ensures ends { IfOk result (λ p. EndsBy orders.now.orders wanted.number
+        (λ played. IsPlayedKept wanted.keeps_falls
         dossier.now (option_copied terms.entry) wanted.number wanted.who
-        (lent (λ p. told p) (λ p. choice p) pickers.old)
-        (record { orders = p.orders.orders; days = p.days.items; end = p.end })
-        (lent (λ p. told p) (λ p. choice p) pickers.new)) }
+        (lent (λ p. told p) (λ p. choice p) pickers.old) played
+        (lent (λ p. told p) (λ p. choice p) pickers.new)) p.days.items p.end) }
 {
     if wanted.number == 0 {
-        return unplayed(alloc, dossier);
+        return Ok(unplayed(alloc, dossier, orders));
     }
-    play_some(alloc, dossier, terms, wanted, pickers)
+    play_some(alloc, dossier, orders, terms, wanted, pickers)
 }

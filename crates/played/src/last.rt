@@ -1,78 +1,197 @@
-//! The desk after the days of a run.
-ghost use Rattle.std.specs.Prelude.{◌≡◌, IfOk};
+//! What the days of a run leave.
+ghost use Rattle.std.specs.Prelude.{◌≡◌, true, false, IfOk, IsOk};
+ghost use Rattle.admit_core.specs.CallOrder.{AreCallOrders};
 ghost use Rattle.played.specs.PlayedDays.{first_desk};
 
-use admit_core::{Dossier, OutOfMemory};
+use admit_core::{CallOrders, Dossier, OutOfMemory};
 use day_state::DayState;
 use desk_day::Desk;
+use linked_demand::Roster;
 use std::alloc::Global;
 use std::marker::Model;
 
-/// The desk after the days of a run. Where no day was run it is the one that a dossier comes in
-/// with, and is not begun before it is asked for.
-pub struct LastDesk<'d> {
-    dossier: &'d Dossier,
-    desk: Option<Desk<'d>>,
+/// A desk, and the roster along which its days are run. Both are of one dossier.
+pub struct DeskAlong<'a, 'd> {
+    pub(crate) desk: Desk<'d>,
+    pub(crate) roster: Roster<'a, 'd>,
 }
 
 // Not derived: so it is dropped in one step where it is held.
-impl Drop for LastDesk<'_> {
+impl Drop for DeskAlong<'_, '_> {
+    fn drop(self) {
+        let DeskAlong { desk: _, roster: _ } = self;
+    }
+}
+
+impl<'a, 'd> Model for DeskAlong<'a, 'd> {
+    ghost use Rattle.std.specs.Prelude.{◌≡◌};
+    ghost use Rattle.played.specs.LastDesks.{DeskBy};
+
+    ghost Value = { DeskBy };
+
+    ghost view = { λ s. record { desk = s.desk; orders = s.roster.orders } };
+
+    ghost invariant = { λ s. s.roster.dossier ≡ s.desk.present.dossier };
+}
+
+impl<'a, 'd> DeskAlong<'a, 'd> {
+    /// The desk that a dossier comes in with, and the roster of its call orders.
+    pub fn begin(
+        alloc: Global,
+        dossier: &'d Dossier,
+        orders: &'a CallOrders,
+    ) -> Result<DeskAlong<'a, 'd>, OutOfMemory>
+        requires { AreCallOrders dossier.now.groups orders.now.orders }
+        ensures { IfOk result (λ along. along ≡ record {
+          desk = first_desk dossier.now;
+          orders = orders.now.orders;
+        }) }
+    {
+        let desk = Desk::begin(alloc, dossier)?;
+        let roster = Roster::build(alloc, desk.now(), orders)?;
+        Ok(DeskAlong { desk, roster })
+    }
+
+    /// The desk.
+    pub fn desk(&self) -> &Desk<'d>
+        ensures { result.now ≡ self.now.desk }
+    {
+        &self.desk
+    }
+
+    /// The roster, of the desk's dossier.
+    pub fn roster(&self) -> &Roster<'a, 'd>
+        ensures dossier { result.now.dossier ≡ self.now.desk.present.dossier }
+        ensures orders { result.now.orders ≡ self.now.orders }
+    {
+        &self.roster
+    }
+
+    /// Both.
+    pub(crate) fn into_parts(self) -> (Desk<'d>, Roster<'a, 'd>)
+        ensures desk { result.0 ≡ self.entry.desk }
+        ensures dossier { result.1.dossier ≡ self.entry.desk.present.dossier }
+        ensures orders { result.1.orders ≡ self.entry.orders }
+    {
+        let DeskAlong { desk, roster } = self;
+        (desk, roster)
+    }
+
+    /// The present state alone, and the roster.
+    pub fn into_now(self) -> (DayState<'d>, Roster<'a, 'd>)
+        ensures state { result.0 ≡ self.entry.desk.present }
+        ensures dossier { result.1.dossier ≡ self.entry.desk.present.dossier }
+        ensures orders { result.1.orders ≡ self.entry.orders }
+    {
+        let DeskAlong { desk, roster } = self;
+        (desk.into_now(), roster)
+    }
+}
+
+/// The desk after the days of a run, with the roster along which they were run. Where no day was
+/// run it is the one that a dossier comes in with, and neither is made before it is asked for.
+pub struct LastDesk<'a, 'd> {
+    dossier: &'d Dossier,
+    orders: &'a CallOrders,
+    along: Option<DeskAlong<'a, 'd>>,
+}
+
+// Not derived: so it is dropped in one step where it is held.
+impl Drop for LastDesk<'_, '_> {
     fn drop(self) {
         let LastDesk {
             dossier: _,
-            desk: _,
+            orders: _,
+            along: _,
         } = self;
     }
 }
 
-impl<'d> Model for LastDesk<'d> {
-    ghost use Rattle.desk_day.specs.DeskStates.{DeskStates};
-    ghost use Rattle.played.specs.LastDesks.{last_desk};
+impl<'a, 'd> Model for LastDesk<'a, 'd> {
+    ghost use Rattle.admit_core.specs.CallOrder.{AreCallOrders};
+    ghost use Rattle.played.specs.LastDesks.{DeskLeft, desk_left};
 
-    ghost Value = { DeskStates };
+    ghost Value = { DeskLeft };
 
-    ghost view = { λ s. last_desk s.dossier.now s.desk };
+    ghost view = { λ s. desk_left s.dossier.now s.orders.now.orders s.along };
+
+    ghost invariant = { λ s. AreCallOrders s.dossier.now.groups s.orders.now.orders };
 }
 
-impl<'d> LastDesk<'d> {
-    /// The desk of a dossier of which no day was run.
-    pub fn first(dossier: &'d Dossier) -> LastDesk<'d>
-        ensures { result ≡ first_desk dossier.now }
+impl<'a, 'd> LastDesk<'a, 'd> {
+    /// The desk of a dossier of which no day was run, with its call orders.
+    pub fn first(dossier: &'d Dossier, orders: &'a CallOrders) -> LastDesk<'a, 'd>
+        requires { AreCallOrders dossier.now.groups orders.now.orders }
+        ensures { result ≡ record {
+          desk = first_desk dossier.now;
+          orders = orders.now.orders;
+          is_begun = false;
+        } }
     {
         LastDesk {
             dossier,
-            desk: None,
+            orders,
+            along: None,
         }
     }
 
     /// The desk after days.
-    pub fn after_days(dossier: &'d Dossier, desk: Desk<'d>) -> LastDesk<'d>
-        ensures { result ≡ desk.entry }
+    pub fn after_days(along: DeskAlong<'a, 'd>) -> LastDesk<'a, 'd>
+        ensures { result ≡ record {
+          desk = along.entry.desk;
+          orders = along.entry.orders;
+          is_begun = true;
+        } }
     {
         LastDesk {
+            dossier: along.roster.dossier(),
+            orders: along.roster.orders(),
+            along: Some(along),
+        }
+    }
+
+    /// The call orders by which the days were run.
+    pub fn orders(&self) -> &'a CallOrders
+        ensures { result.now.orders ≡ self.now.orders }
+    {
+        match &self.along {
+            Some(along) => along.roster.orders(),
+            None => self.orders,
+        }
+    }
+
+    /// The desk and the roster. Where days were run both are there, and no memory is taken.
+    pub fn into_along(self, alloc: Global) -> Result<DeskAlong<'a, 'd>, OutOfMemory>
+        ensures along { IfOk result (λ along. along ≡ record {
+          desk = self.entry.desk;
+          orders = self.entry.orders;
+        }) }
+        ensures begun { self.entry.is_begun ≡ true → IsOk result }
+    {
+        let LastDesk {
             dossier,
-            desk: Some(desk),
+            orders,
+            along,
+        } = self;
+        match along {
+            Some(along) => Ok(along),
+            None => DeskAlong::begin(alloc, dossier, orders),
         }
     }
 
-    /// The desk, which is begun where no day was run.
-    pub fn into_desk(self, alloc: Global) -> Result<Desk<'d>, OutOfMemory>
-        ensures { IfOk result (λ desk. desk ≡ self.entry) }
-    {
-        let LastDesk { dossier, desk } = self;
-        match desk {
-            Some(desk) => Ok(desk),
-            None => Desk::begin(alloc, dossier),
-        }
-    }
-
-    /// The present state alone. Where no day was run, no other is begun.
+    /// The present state alone. Where days were run it is there, and no memory is taken; elsewhere
+    /// no other state is begun, and no roster made.
     pub fn into_now(self, alloc: Global) -> Result<DayState<'d>, OutOfMemory>
-        ensures { IfOk result (λ state. state ≡ self.entry.present) }
+        ensures now { IfOk result (λ state. state ≡ self.entry.desk.present) }
+        ensures begun { self.entry.is_begun ≡ true → IsOk result }
     {
-        let LastDesk { dossier, desk } = self;
-        match desk {
-            Some(desk) => Ok(desk.into_now()),
+        let LastDesk {
+            dossier,
+            orders: _,
+            along,
+        } = self;
+        match along {
+            Some(along) => Ok(along.into_now().0),
             None => DayState::begin(alloc, dossier),
         }
     }

@@ -32,6 +32,8 @@ use Rattle.modes.specs.declared.exit.Exit.TheVariants as exits
 use Rattle.modes.specs.declared.reply.Reply.{Reply}
 use Rattle.played.proofs.KeptDays.{played_whole}
 use Rattle.played.specs.KeptDays.{IsPlayedKept}
+use Rattle.admit_core.specs.declared.ranking.CallOrder.{CallOrder}
+use Rattle.played.specs.LastDesks.{DeskLeft, IsLeftBy}
 use Rattle.played.specs.Lent.{Lent, Untold}
 use Rattle.played.specs.PlayedDays as PlayedDays
 use Rattle.played.specs.PlayedDays.{IsPlayed, Lead, Plan, Played, lent_after}
@@ -173,6 +175,12 @@ ending_done job before after exit text ending can =
       called = ending.days.called;
       run = lead_days _ 1 _ before ending.played.days ending.days.last ending.days.days;
     }) ending.days.ends ending.ends can
+
+-- the desk that days leave goes by their call orders
+pub by_orders : (orders : List CallOrder) (number : ℕ) (end : Result DeskLeft Refusal)
+    → IfOk end (IsLeftBy orders number) → IfOk end (λ last. last.orders ≡ orders)
+by_orders orders number (Ok last) is = is.by_orders
+by_orders orders number (Err refusal) is = tt
 
 -- what an ending rests on, by what is kept of the days of a request
 ends_kept : (request : Request) (input : Input) (dated given : Option DatedTerms) (keeps : Bool)

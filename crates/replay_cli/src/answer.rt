@@ -10,6 +10,7 @@ ghost use Rattle.replay_cli.specs.Answering.{Replies, TakesAll};
 ghost use Rattle.request.specs.Request.{IsRequest};
 
 use admit_core::OutOfMemory;
+use call_order::call_orders;
 use intake::{Input, Stop, dated_terms, take_in};
 use modes::{Reply, days_of, deadlines_of, ending, keeps_falls, stopped, terms_in};
 use played::{Pickers, Wanted, play_wanted};
@@ -28,7 +29,8 @@ fn take<S: Shelf>(alloc: Global, words: &[String], shelf: &mut S) -> Result<(Req
     Ok((request, input))
 }
 
-/// Runs the days that are asked for, and ends by the mode.
+/// Runs the days that are asked for, and ends by the mode. The call orders are made here, and lent
+/// to both: so the roster of the days serves the ending too.
 fn play_out(
     alloc: Global,
     request: &Request,
@@ -60,8 +62,11 @@ fn play_out(
         who: request.picker,
         keeps_falls,
     };
-    let played = play_wanted(alloc, &input.dossier, terms_in(dated), wanted, pickers)?;
-    ending(alloc, request, input, dated, played, pickers)
+    let terms = terms_in(dated);
+    let dossier = &input.dossier;
+    let orders = call_orders(alloc, dossier.groups.as_slice())?;
+    let played = play_wanted(alloc, dossier, &orders, terms, wanted, pickers)?;
+    ending(alloc, request, input, dated, &orders, played, pickers)
 }
 
 /// What a run answers, before anything is written.

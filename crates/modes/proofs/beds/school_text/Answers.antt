@@ -1,9 +1,9 @@
 use Rattle.std.proofs.Common.{◌∙◌, ap, arith, length, nat_eq, subst, sym}
-use Rattle.admit_core.specs.CallOrder.{AreCallOrders}
 use Rattle.admit_core.specs.DossierRows.{DossierRows}
 use Rattle.admit_core.specs.State.{State}
+use Rattle.desk_day.specs.DeskStates.{DeskStates}
 use Rattle.dossier_check.proofs.Places.{position-any}
-use Rattle.modes.proofs.Figuring.{all_only, all_picked, all_tell, opening_called, opening_ceilings, opening_dossier}
+use Rattle.modes.proofs.Figuring.{all_only, all_picked, all_tell, opening_ceilings, opening_dossier}
 use Rattle.modes.proofs.OnDesks.{found_within}
 use Rattle.modes.proofs.beds.school_text.Goals as goal
 
@@ -14,28 +14,25 @@ unreachable-requires g c =
 
 pub figures_text-requires-clause-dossier : goal.figures_text-requires-clause-dossier
 figures_text-requires-clause-dossier g c =
-    ap (λ (s : State). s.dossier) c.opening-opening.ensures
-    ∙ opening_dossier c.args.input.now.dossier c.args.input.now.index c.args.orders.now.orders c.args.days.now
-    c.args.desk.now
+    ap (λ (s : State). s.dossier) (c.opening-opening.ensures ∙ ap (λ (k : DeskStates). k.opening) c.desk.ensures)
+    ∙ opening_dossier c.args.input.now.dossier c.args.input.now.index c.args.along.now.orders c.args.days.now
+    c.args.along.now.desk
     c.args.school c.in-Some.place c.in-Some-last.day.now (sym c.school_place.ensures ∙ c.in-Some.is)
     (sym c.in-Some-last.ensures.value) c.requires.desk
 
-pub figures_text-requires-clause-orders : goal.figures_text-requires-clause-orders
-figures_text-requires-clause-orders g c =
-    subst (λ (s : State). AreCallOrders s.dossier.groups c.args.orders.now.orders) (sym c.opening-opening.ensures)
-    (opening_called c.args.input.now.dossier c.args.input.now.index c.args.orders.now.orders c.args.days.now
-    c.args.desk.now
-    c.args.school c.in-Some.place c.in-Some-last.day.now (sym c.school_place.ensures ∙ c.in-Some.is)
-    (sym c.in-Some-last.ensures.value) c.requires.desk)
+pub figures_text-requires-clause-roster : goal.figures_text-requires-clause-roster
+figures_text-requires-clause-roster g c =
+    c.roster.ensures.dossier ∙ c.requires.desk.dossier ∙ sym (figures_text-requires-clause-dossier g c)
 
 pub figures_text-requires-clause-ceilings : goal.figures_text-requires-clause-ceilings
 figures_text-requires-clause-ceilings g c =
     ap length (c.deref.ensures.value ∙ c.in_ok-ceilings.ensures.ceilings)
-    ∙ opening_ceilings c.args.input.now.dossier c.args.input.now.index c.args.orders.now.orders c.args.days.now
-    c.args.desk.now
+    ∙ opening_ceilings c.args.input.now.dossier c.args.input.now.index c.args.along.now.orders c.args.days.now
+    c.args.along.now.desk
     c.args.school c.in-Some.place c.in-Some-last.day.now (sym c.school_place.ensures ∙ c.in-Some.is)
     (sym c.in-Some-last.ensures.value) c.requires.desk
-    ∙ ap (λ (s : State). length s.dossier.schools) (sym c.opening-opening.ensures)
+    ∙ ap (λ (s : State). length s.dossier.schools)
+    (sym (c.opening-opening.ensures ∙ ap (λ (k : DeskStates). k.opening) c.desk.ensures))
 
 pub figures_text-requires-clause-place : goal.figures_text-requires-clause-place
 figures_text-requires-clause-place g c =
@@ -45,26 +42,29 @@ figures_text-requires-clause-place g c =
 
 pub returns-clause-text : goal.returns-clause-text
 returns-clause-text g c =
-    all_tell c.args.input.now.dossier c.args.input.now.index c.args.orders.now.orders c.args.days.now c.args.desk.now
+    all_tell c.args.input.now.dossier c.args.input.now.index c.args.along.now.orders c.args.days.now c.args.along.now.desk
     c.args.school c.in-Some.place c.in-Some-last.day.now (sym c.school_place.ensures ∙ c.in-Some.is)
-    (sym c.in-Some-last.ensures.value) c.requires.desk c.opening-opening.result.now c.deref.result.now _ _ _
-    c.opening-opening.ensures (c.deref.ensures.value ∙ c.in_ok-ceilings.ensures.ceilings)
+    (sym c.in-Some-last.ensures.value) c.requires.desk c.opening-opening.result.now c.roster.result.now.orders
+    c.deref.result.now _ _ _ (c.opening-opening.ensures ∙ ap (λ (k : DeskStates). k.opening) c.desk.ensures)
+    c.roster.ensures.orders (c.deref.ensures.value ∙ c.in_ok-ceilings.ensures.ceilings)
     c.figures_text.ensures.early (λ text. text.items) c.figures_text.result c.figures_text.ensures.text
 
 pub returns-clause-only : goal.returns-clause-only
 returns-clause-only g c =
-    all_only c.args.input.now.dossier c.args.input.now.index c.args.orders.now.orders c.args.days.now c.args.desk.now
+    all_only c.args.input.now.dossier c.args.input.now.index c.args.along.now.orders c.args.days.now c.args.along.now.desk
     c.args.school c.in-Some.place c.in-Some-last.day.now (sym c.school_place.ensures ∙ c.in-Some.is)
-    (sym c.in-Some-last.ensures.value) c.requires.desk c.opening-opening.result.now c.deref.result.now _ _ _
-    c.opening-opening.ensures (c.deref.ensures.value ∙ c.in_ok-ceilings.ensures.ceilings)
+    (sym c.in-Some-last.ensures.value) c.requires.desk c.opening-opening.result.now c.roster.result.now.orders
+    c.deref.result.now _ _ _ (c.opening-opening.ensures ∙ ap (λ (k : DeskStates). k.opening) c.desk.ensures)
+    c.roster.ensures.orders (c.deref.ensures.value ∙ c.in_ok-ceilings.ensures.ceilings)
     c.figures_text.ensures.early (λ text. text.items) c.figures_text.result c.figures_text.ensures.text
 
 pub returns-clause-picks : goal.returns-clause-picks
 returns-clause-picks g c =
-    all_picked c.args.input.now.dossier c.args.input.now.index c.args.orders.now.orders c.args.days.now c.args.desk.now
+    all_picked c.args.input.now.dossier c.args.input.now.index c.args.along.now.orders c.args.days.now c.args.along.now.desk
     c.args.school c.in-Some.place c.in-Some-last.day.now (sym c.school_place.ensures ∙ c.in-Some.is)
-    (sym c.in-Some-last.ensures.value) c.requires.desk c.opening-opening.result.now c.deref.result.now _ _ _
-    c.opening-opening.ensures (c.deref.ensures.value ∙ c.in_ok-ceilings.ensures.ceilings)
+    (sym c.in-Some-last.ensures.value) c.requires.desk c.opening-opening.result.now c.roster.result.now.orders
+    c.deref.result.now _ _ _ (c.opening-opening.ensures ∙ ap (λ (k : DeskStates). k.opening) c.desk.ensures)
+    c.roster.ensures.orders (c.deref.ensures.value ∙ c.in_ok-ceilings.ensures.ceilings)
     c.figures_text.ensures.early (λ text. text.items) c.figures_text.result c.figures_text.ensures.text
 
 pub returns-clause-early : goal.returns-clause-early

@@ -1,16 +1,26 @@
-use Rattle.modes.proofs.Lending.{ends_cut_short, ends_so}
-use Rattle.modes.proofs.OnDesks.{ends_led, written}
+use Rattle.std.proofs.Common.{◌≡◌, IfOk, Result, ap, refl, subst}
+use Rattle.admit_core.specs.declared.refusal.Refusal.{Refusal}
+use Rattle.played.specs.LastDesks.{DeskLeft, desk_in}
+use Rattle.modes.proofs.Lending.{ends_by_orders, ends_cut_short}
+use Rattle.modes.proofs.OnDesks.{ends_led_by, written}
 use Rattle.modes.proofs.endings.ending.Goals as goal
 
 pub ended_by-requires-clause-can : goal.ended_by-requires-clause-can
-ended_by-requires-clause-can g c = ends_led _ _ c.in-Ok.desk c.requires.can c.in-Ok.is
+ended_by-requires-clause-can g c =
+    let same = subst (λ (e : Result DeskLeft Refusal). IfOk e (λ last. last.orders ≡ c.args.orders.now.orders))
+    c.in-Ok.is c.requires.by_orders in
+    ends_led_by _ _ _ _ _ _ c.requires.can (ap desk_in c.in-Ok.is) same
 
 pub returns-in-Ok-clause-ends : goal.returns-in-Ok-clause-ends
-returns-in-Ok-clause-ends g c = ends_so _ _ _ _ _ _ _ c.ended_by.result c.in-Ok.is c.ended_by.ensures.ends
+returns-in-Ok-clause-ends g c =
+    let same = subst (λ (e : Result DeskLeft Refusal). IfOk e (λ last. last.orders ≡ c.args.orders.now.orders))
+    c.in-Ok.is c.requires.by_orders in
+    ends_by_orders _ _ _ _ _ _ _ _ c.ended_by.result (ap desk_in c.in-Ok.is) same c.ended_by.ensures.ends
 
 pub cut_short-requires : goal.cut_short-requires
 cut_short-requires g c = (written _ _ c.requires.can).0
 
 pub returns-in-Err-clause-ends : goal.returns-in-Err-clause-ends
-returns-in-Err-clause-ends g c = ends_so _ _ _ _ _ _ _ c.cut_short.result c.in-Err.is
+returns-in-Err-clause-ends g c =
+    ends_by_orders _ _ _ _ _ _ _ _ c.cut_short.result (ap desk_in c.in-Err.is) refl
     (ends_cut_short _ _ _ _ c.cut_short.result c.cut_short.ensures)

@@ -1,17 +1,31 @@
-use Rattle.std.proofs.Common.{◌∙◌, Ok, ap}
-use Rattle.linked_demand.specs.Rosters.{Setting}
-use Rattle.played.proofs.KeptDays.{all_kept, cut_kept, kept_by_orders}
+use Rattle.std.proofs.Common.{◌≡◌, ◌∙◌, List, Ok, Result, ap, refl, sym, true}
+use Rattle.admit_core.specs.declared.ranking.CallOrder.{CallOrder}
+use Rattle.admit_core.specs.declared.refusal.Refusal.{Refusal}
+use Rattle.desk_day.specs.DeskStates.{DeskStates}
+use Rattle.played.specs.LastDesks.{DeskBy, DeskLeft}
+use Rattle.played.proofs.KeptDays.{all_kept, along_still, cut_kept, kept_by_orders}
 use Rattle.played.proofs.days.play_some.Goals as goal
-use Rattle.played.proofs.days.play_some.Goals.{in-Ok, in-Err-Unfit}
 
-pub returns-clause-played : goal.returns-clause-played
-returns-clause-played g c =
-    let same = ap (λ (r : Setting). r.orders) c.in_ok-roster.ensures in
-    elim c.match-play_days.branch [
-      | in-Ok w ↦ all_kept _ _ _ _ _ _ _ _ _ _ c.in_ok-orders.ensures.orders c.in_ok-orders.ensures.desk
-          (kept_by_orders _ _ _ _ _ _ _ _ _ _ _ _ same w.in-Ok.ensures.plays) (w.end-is ∙ ap Ok w.after_days.ensures)
-      | in-Err-Unfit w ↦ cut_kept _ _ _ _ _ _ _ _ _ _ c.in_ok-orders.ensures.orders
-          c.in_ok-orders.ensures.desk w.in-Err-Unfit.refusal
-          (kept_by_orders _ _ _ _ _ _ _ _ _ _ _ _ same (rw w.in-Err-Unfit.field-0-is at w.in-Err-Unfit.ensures.plays))
-          w.end-is
-    ]
+pub invariant_of-after_days : goal.invariant_of-after_days
+invariant_of-after_days g c =
+    along_still _ _ _ _ _ _ _ _ _ c.in-Ok.ensures.plays
+    (c.into_parts-desk.ensures.dossier
+    ∙ ap (λ (k : DeskStates). k.present.dossier) (sym c.into_parts-desk.ensures.desk))
+
+pub returns-in-Ok-clause-ends : goal.returns-in-Ok-clause-ends
+returns-in-Ok-clause-ends g c =
+    let same = c.into_parts-desk.ensures.orders ∙ ap (λ (x : DeskBy). x.orders) c.in_ok-begin.ensures in
+    let begun = c.into_parts-desk.ensures.desk ∙ ap (λ (x : DeskBy). x.desk) c.in_ok-begin.ensures in
+    let left : List CallOrder → DeskLeft =
+    λ orders. record { desk = c.play_days.new.desk; orders = orders; is_begun = true } in
+    let ended : DeskLeft → Result DeskLeft Refusal = λ last. Ok last in
+    all_kept _ _ _ _ _ _ _ _ _ _ c.requires.orders begun c.requires.some_day
+    (kept_by_orders _ _ _ _ _ _ _ _ _ _ _ _ same c.in-Ok.ensures.plays)
+    (ap ended (c.after_days.ensures ∙ ap left same))
+
+pub returns-in-Err-Unfit-clause-ends : goal.returns-in-Err-Unfit-clause-ends
+returns-in-Err-Unfit-clause-ends g c =
+    let same = c.into_parts-desk.ensures.orders ∙ ap (λ (x : DeskBy). x.orders) c.in_ok-begin.ensures in
+    let begun = c.into_parts-desk.ensures.desk ∙ ap (λ (x : DeskBy). x.desk) c.in_ok-begin.ensures in
+    cut_kept _ _ _ _ _ _ _ _ _ _ c.requires.orders begun c.in-Err-Unfit.refusal
+    (kept_by_orders _ _ _ _ _ _ _ _ _ _ _ _ same (rw c.in-Err-Unfit.field-0-is at c.in-Err-Unfit.ensures.plays)) refl

@@ -1,7 +1,7 @@
 use Rattle.std.proofs.Common.{◌∙◌, ap, option_map, refl}
 use Rattle.intake.specs.Dated.{dated_from}
 use Rattle.played.proofs.Naming.{back_again}
-use Rattle.replay_cli.proofs.Played.{can_end_kept, no_days, reply_ends_kept, untold_idle}
+use Rattle.replay_cli.proofs.Played.{by_orders, can_end_kept, no_days, reply_ends_kept, untold_idle}
 use Rattle.replay_cli.proofs.answer.play_out.Goals as goal
 
 pub returns-in_err-played-clause-idle : goal.returns-in_err-played-clause-idle
@@ -11,8 +11,12 @@ returns-in_err-played-clause-idle g c = λ idle. c.in_err-played.ensures.idle
 pub ending-requires-clause-can : goal.ending-requires-clause-can
 ending-requires-clause-can g c =
     can_end_kept c.args.request.now c.requires.request c.args.input.now _ _ _ _ _ _ _ _ _ c.as_ref-dated.ensures.value
-    c.in_ok-dated.ensures.dates c.terms_in.ensures c.days_of-number.ensures refl c.keeps_falls-keeps_falls.ensures
-    c.in_ok-played.ensures.played c.requires.named c.requires.indexed
+    c.in_ok-dated.ensures.dates c.terms_in-terms.ensures c.days_of-number.ensures refl c.keeps_falls-keeps_falls.ensures
+    c.in_ok-played.ensures.ends.plays c.requires.named c.requires.indexed
+
+pub ending-requires-clause-by_orders : goal.ending-requires-clause-by_orders
+ending-requires-clause-by_orders g c =
+    by_orders _ _ _ c.in_ok-played.ensures.ends.left
 
 pub returns-clause-back : goal.returns-clause-back
 returns-clause-back g c = back_again _ _ _ c.in_ok-played.ensures.back c.ending.ensures.ends.lends.back
@@ -26,7 +30,7 @@ returns-clause-ends g c =
     λ job is_job is_input.
     reply_ends_kept c.args.request.now c.requires.request c.args.input.now _ _ _ _ _ _ _ _ _
     c.as_ref-dated.ensures.value
-    c.in_ok-dated.ensures.dates c.terms_in.ensures c.days_of-number.ensures refl c.keeps_falls-keeps_falls.ensures
-    c.in_ok-played.ensures.played _ c.ending.result job (c.in_ok-dated.ensures.value
+    c.in_ok-dated.ensures.dates c.terms_in-terms.ensures c.days_of-number.ensures refl c.keeps_falls-keeps_falls.ensures
+    c.in_ok-played.ensures.ends.plays _ c.ending.result job (c.in_ok-dated.ensures.value
     ∙ ap (option_map (dated_from c.args.input.now.dossier c.args.input.now.dates)) c.deadlines_of.ensures) is_job
     is_input c.ending.ensures.ends

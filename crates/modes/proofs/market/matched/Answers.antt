@@ -1,20 +1,20 @@
-use Rattle.std.proofs.Common.{sym, subst}
+use Rattle.std.proofs.Common.{List, sym, subst}
 use Rattle.admit_core.specs.CallOrder.{AreCallOrders}
-use Rattle.admit_core.specs.declared.ranking.CallOrders.{CallOrders}
+use Rattle.admit_core.specs.declared.ranking.CallOrder.{CallOrder}
 use Rattle.modes.specs.Asking.{TellsPicks}
 use Rattle.modes.specs.Market.{PicksForMarket, TellsMarket}
-use Rattle.modes.proofs.endings.matched.Goals as goal
+use Rattle.modes.proofs.market.matched.Goals as goal
 
 pub matched_text-requires : goal.matched_text-requires
 matched_text-requires g c =
-    subst (λ (o : CallOrders). AreCallOrders c.args.dossier.now.groups o.orders) (sym c.into_orders-orders.ensures)
+    subst (λ (o : List CallOrder). AreCallOrders c.args.dossier.now.groups o) (sym c.into_orders-orders.ensures)
     c.requires
 
 pub returns-clause-text : goal.returns-clause-text
 returns-clause-text g c = (
   c.done.ensures.exit,
-  subst (TellsMarket c.args.dossier.now c.args.led.orders.orders) (sym c.done.ensures.text)
-      (subst (λ (o : CallOrders). TellsMarket c.args.dossier.now o.orders c.in_ok-text.text.items)
+  subst (TellsMarket c.args.dossier.now c.args.led.last.orders) (sym c.done.ensures.text)
+      (subst (λ (o : List CallOrder). TellsMarket c.args.dossier.now o c.in_ok-text.text.items)
       c.into_orders-orders.ensures
       c.in_ok-text.ensures.text),
 )
@@ -23,8 +23,8 @@ pub returns-clause-picks : goal.returns-clause-picks
 returns-clause-picks g c =
     let before = goal.Picker-dyn g c.args.picker.now in
     let after = goal.Picker-dyn g (c.args.picker.now.0, c.matched_text.new.picker) in
-    subst (λ (o : CallOrders).
-    TellsPicks (PicksForMarket c.args.dossier.now o.orders (before.choice c.args.picker.now.1)
+    subst (λ (o : List CallOrder).
+    TellsPicks (PicksForMarket c.args.dossier.now o (before.choice c.args.picker.now.1)
     (before.told c.args.picker.now.1))
     (before.told c.args.picker.now.1) (after.told c.matched_text.new.picker)) c.into_orders-orders.ensures
     c.in_ok-text.ensures.picks

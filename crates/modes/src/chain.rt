@@ -1,0 +1,25 @@
+//! The mode `chain`: the falls of the days.
+ghost use Rattle.std.specs.Prelude.{All, IfOk};
+ghost use Rattle.certificate.specs.ChainText.{HasPassesOf, chain_text};
+ghost use Rattle.modes.specs.Endings.{IsDoneWith};
+
+use crate::led::Led;
+use crate::reply::{Reply, done};
+use admit_core::{Dossier, OutOfMemory};
+use certificate::write_chain;
+use std::alloc::Global;
+
+/// How the mode `chain` ends. The desk and the roster are given up before the text is made.
+pub(crate) fn chained(
+    alloc: Global,
+    dossier: &Dossier,
+    led: Led<'_, '_>,
+) -> Result<Reply, OutOfMemory>
+    requires { All (HasPassesOf dossier.now) led.days.items }
+    ensures { IfOk result (λ reply. IsDoneWith
+        (chain_text dossier.now led.entry.days.items)
+        reply.exit reply.text.items) }
+{
+    let days = led.into_days();
+    Ok(done(write_chain(alloc, dossier, days.as_slice())?))
+}
