@@ -1,10 +1,13 @@
 -- What is noted of entries, one after another.
-use Rattle.std.proofs.Common.{ℕ, ◌+◌, ◌<◌, ◌≤◌, ◌≡◌, ◌≢◌, Bool, true, false, ◌&&◌, ◌||◌, List, [], ◌∷◌, length, take, set}
-use Rattle.std.proofs.Common.{replicate, inl, inr, refl, sym, ◌∙◌, ap, arith, nat_eq, nat_le, get_or, subst, Option, Some, None, IfSome}
+use Rattle.std.proofs.Common.{ℕ, ◌+◌, ◌<◌, ◌≤◌, ◌≡◌, ◌≢◌, Bool, true, false, ◌&&◌, ◌||◌, List, [], ◌∷◌, length, take}
+use Rattle.std.proofs.Common.{set}
+use Rattle.std.proofs.Common.{replicate, inl, inr, refl, sym, ◌∙◌, ap, arith, nat_eq, nat_le, get_or, subst, Option}
+use Rattle.std.proofs.Common.{Some, None, IfSome}
 use Rattle.std.specs.Prelude.{if◌then◌else◌, nat_lt, option_map, slice_index}
 use Rattle.std.specs.List.{list_any}
 use Rattle.std.proofs.lemmas.Bool.{cases_Bool, eq-eqb, eqb-false, eqb-true, false≢true, ne_eqb}
-use Rattle.std.proofs.lemmas.List.{get_or_default, get_or-replicate, get_or-set_other, get_or-set_same, length-replicate}
+use Rattle.std.proofs.lemmas.List.{get_or_default, get_or-replicate, get_or-set_other, get_or-set_same}
+use Rattle.std.proofs.lemmas.List.{length-replicate}
 use Rattle.std.proofs.lemmas.List.{length-set, take_all}
 use Rattle.std.proofs.lemmas.List.Folds.{list_any_more}
 use Rattle.std.proofs.lemmas.Option.{unwrap_or-slice_get}
@@ -13,15 +16,16 @@ use Rattle.admit_core.specs.declared.dossier.Wish.{Wish}
 use Rattle.admit_core.specs.declared.ranking.CallOrder.{CallOrder}
 use Rattle.admit_core.specs.declared.state.Mark.{Mark}
 use Rattle.admit_core.specs.DossierRows.{DossierRows, candidate_of}
-use Rattle.admit_core.specs.Lists.{is_among}
 use Rattle.admit_core.specs.OwnWishes.{own_places}
 use Rattle.admit_core.specs.State.{State, entries, is_live}
+use Rattle.admit_core.proofs.Plain.{or_false}
 use Rattle.day_state.specs.Bundles.{number_in}
 use Rattle.day_state.specs.Kept.{mark_in, wish_in}
 use Rattle.day_state.proofs.Along.{among-filter, own_at}
 use Rattle.day_state.proofs.Places.{candidate_in}
 use Rattle.linked_demand.specs.Rows.{line_place}
-use Rattle.envy.specs.Known.{AreBest, AreBestTo, AreLast, AreLastTo, IsFor, first_own, is_better, is_below, is_live_from}
+use Rattle.envy.specs.Known.{AreBest, AreBestTo, AreLast, AreLastTo, IsFor, first_own, is_better, is_below}
+use Rattle.envy.specs.Known.{is_live_from}
 use Rattle.envy.specs.Known.{place_at, reaches}
 
 -- an entry that stands nowhere
@@ -66,20 +70,16 @@ set_other : (ns : List (Option ℕ)) (k p : ℕ) (n : Option ℕ) → k < length
 set_other ns k p n lt apart =
     number_set ns k p n lt ∙ ap (λ b. if b then n else number_in ns p) (ne_eqb k p apart)
 
-or_none : (b : Bool) → (b || false) ≡ b
-or_none true = refl
-or_none false = refl
-
 -- the first wish of a candidate is one of theirs
-not_none : (k : ℕ) (ks : List ℕ) → is_among k ks ≡ true → 0 < length ks
-not_none k [] among = absurd (false≢true among)
-not_none k (j ∷ ks) among = omega arith
+any_some : (test : ℕ → Bool) (ks : List ℕ) → list_any test ks ≡ true → 0 < length ks
+any_some test [] any = absurd (false≢true any)
+any_some test (k ∷ ks) any = omega arith
 
 pub has_own : (d : DossierRows) (k : ℕ) → k < length d.wishes → 0 < length (own_places d (candidate_of d k))
 has_own d k lt =
     let c = candidate_of d k in
     let own = λ (j : ℕ). nat_eq (candidate_of d j) c in
-    not_none k (own_places d c) (among-filter own k (length d.wishes) lt ∙ eq-eqb c c refl)
+    any_some (nat_eq k) (own_places d c) (among-filter own k (length d.wishes) lt ∙ eq-eqb c c refl)
 
 pub first_is : (d : DossierRows) (k : ℕ) → k < length d.wishes
     → (first_own d k < length d.wishes) × (candidate_of d (first_own d k) ≡ candidate_of d k)
@@ -120,7 +120,7 @@ module _ (s : State) (long : length s.marks ≡ length s.dossier.wishes) (k : �
         let front = list_any (is_better c q) (take k (entries s)) in
         are.each j q lt_j
         ∙ sym (any_more (is_better c q)
-        ∙ ap (λ b. front || ((b && nat_eq w.candidate c) && nat_lt w.preference q)) dead ∙ or_none front);
+        ∙ ap (λ b. front || ((b && nat_eq w.candidate c) && nat_lt w.preference q)) dead ∙ or_false front);
   }
 
   pub last_still : (orders : List CallOrder) (lasts : List (Option ℕ)) → is_live m ≡ false
@@ -134,7 +134,7 @@ module _ (s : State) (long : length s.marks ≡ length s.dossier.wishes) (k : �
         are.each p j lt_p
         ∙ sym (any_more test
         ∙ ap (λ b. front || ((b && nat_eq w.programme p) && nat_le j (line_place s.dossier orders w))) dead
-        ∙ or_none front);
+        ∙ or_false front);
   }
 
   -- one more live wish in the best ones
@@ -169,7 +169,7 @@ module _ (s : State) (long : length s.marks ≡ length s.dossier.wishes) (k : �
                   ap (λ n. is_below n q) (set_other old first other (Some least) within
                   (first_apart d k j lt lt_j (eqb-false w.candidate c differ)))
                   ∙ are.each j q lt_j
-                  ∙ sym (shown ∙ ap (λ b. front || (b && nat_lt w.preference q)) differ ∙ or_none front)
+                  ∙ sym (shown ∙ ap (λ b. front || (b && nat_lt w.preference q)) differ ∙ or_false front)
             ];
       }
 
@@ -219,7 +219,7 @@ module _ (s : State) (long : length s.marks ≡ length s.dossier.wishes) (k : �
               | inr other ↦
                   ap reach (set_other old q p (Some kept) within (eqb-false q p other))
                   ∙ are.each p j lt_p
-                  ∙ sym (shown ∙ ap (λ b. front || (b && nat_le j at)) other ∙ or_none front)
+                  ∙ sym (shown ∙ ap (λ b. front || (b && nat_le j at)) other ∙ or_false front)
             ];
       }
 

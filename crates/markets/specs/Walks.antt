@@ -1,5 +1,6 @@
 -- Walks along the call orders of groups, by the numbers of a market's candidates.
-use Rattle.std.specs.Prelude.{◌≡◌, ℕ, ◌<◌, true, List, [], length, map, nat_eq, option_map, slice_get, slice_index, Some}
+use Rattle.std.specs.Prelude.{◌≡◌, ℕ, ◌<◌, true, List, [], length, map, nat_eq, option_map, slice_get, slice_index}
+use Rattle.std.specs.Prelude.{Some}
 use Rattle.std.specs.Prelude.{unwrap_or}
 use Rattle.std.specs.List.{position_or_len}
 use Rattle.std.specs.List.Sorted.{IsStrictlyIncreasing}

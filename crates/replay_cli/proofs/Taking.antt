@@ -1,16 +1,9 @@
 -- What the words ask for, taken in.
-use Rattle.std.proofs.Common.{◌≡◌, ◌∙◌, ℕ, ◌≤◌, List, [], ◌∷◌, Option, None, Some, Result, Ok, Err, IsErrAnd, ap, arith}
-use Rattle.std.proofs.Common.{inl, map, refl, subst, sym}
-use Rattle.admit_core.specs.Relations.{school_ids}
-use Rattle.admit_core.specs.Standing.{dossier_of, school_of_row, wish_of_row}
-use Rattle.admit_core.specs.declared.dossier.School.{School}
-use Rattle.admit_core.specs.declared.dossier.Wish.{Wish}
+use Rattle.std.proofs.Common.{◌≡◌, ◌∙◌, ℕ, ◌≤◌, List, Option, None, Some, Result, Ok, Err, IsErrAnd, ap, arith}
+use Rattle.std.proofs.Common.{inl, refl, subst, sym}
 use Rattle.admit_core.specs.declared.slot.Slot.{Slot}
-use Rattle.admit_core.specs.declared.tables.SchoolRow.{SchoolRow}
-use Rattle.admit_core.specs.declared.tables.Tables.{Tables}
-use Rattle.admit_core.specs.declared.tables.WishRow.{WishRow}
 use Rattle.certificate.specs.Checked.{ids_in}
-use Rattle.dossier_check.specs.Ids.{ids_of}
+use Rattle.certificate.proofs.Indexed.{ids_are}
 use Rattle.intake.specs.Input.{IsInputFor, Job, NamesIn, TakesIn, job_of}
 use Rattle.intake.specs.Shelves.{OnShelf, TakesSlots, Tells}
 use Rattle.intake.specs.Stops.{◌>>=◌, Stopped, asked, words_stop}
@@ -131,20 +124,7 @@ pub named_in : (request : Request) (before : OnShelf) (input : Input) → IsInpu
     → NamesIn request.mode input.index
 named_in request before input is = subst (NamesIn request.mode) (sym is.is_input.index) is.is_job.named
 
--- the ids of tables are those of their dossier
-ids_same : {X Y : Type 0} (id : X → ℕ) (own : Y → ℕ) (made : X → Y) (xs : List X) → ((x : X) → own (made x) ≡ id x)
-    → map id xs ≡ map own (map made xs)
-ids_same id own made [] same = refl
-ids_same id own made (x ∷ xs) same = ap (λ n. n ∷ map id xs) (sym (same x))
-    ∙ ap (λ (ns : List ℕ). own (made x) ∷ ns) (ids_same id own made xs same)
-
-ids_are : (t : Tables) → ids_of t ≡ ids_in (dossier_of t)
-ids_are t =
-    ap (λ (ws : List ℕ). record { wishes = ws; schools = school_ids t })
-    (ids_same (λ (w : WishRow). w.id) (λ (w : Wish). w.id) (wish_of_row t) t.wishes (λ w. refl))
-    ∙ ap (λ (hs : List ℕ). record { wishes = map (λ (w : Wish). w.id) (dossier_of t).wishes; schools = hs })
-    (ids_same (λ (h : SchoolRow). h.id) (λ (h : School). h.id) school_of_row t.schools (λ h. refl))
-
+-- the index of an input is that of its dossier
 pub indexed_in : (request : Request) (before : OnShelf) (input : Input) → IsInputFor request before input
     → input.index ≡ ids_in input.dossier
 indexed_in request before input is = is.is_input.index ∙ ids_are is.job.tables ∙ ap ids_in (sym is.is_input.dossier)

@@ -1,4 +1,5 @@
-use Rattle.std.proofs.Common.{◌≡◌, ◌<◌, ◌||◌, ◌∙◌, ℕ, IfSome, List, Option, Some, ap, arith, length, nat_le, set, subst, sym}
+use Rattle.std.proofs.Common.{◌≡◌, ◌<◌, ◌||◌, ◌∙◌, ℕ, IfSome, List, Option, Some, ap, arith, length, nat_le, set, subst}
+use Rattle.std.proofs.Common.{sym}
 use Rattle.std.specs.Prelude.{option_map}
 use Rattle.admit_core.specs.declared.dossier.Wish.{Wish}
 use Rattle.admit_core.specs.DossierRows.{DossierRows}

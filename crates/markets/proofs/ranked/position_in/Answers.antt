@@ -4,7 +4,8 @@ use Rattle.std.proofs.lemmas.Bool.{cases_lt, eq-eqb, ltb-false, ne_eqb}
 use Rattle.markets.specs.declared.ranked.Rank.{Rank}
 use Rattle.markets.proofs.Ranking.{found_first, found_none, passed_over}
 use Rattle.markets.proofs.ranked.position_in.Goals as goal
-use Rattle.markets.proofs.ranked.position_in.Goals.{else-at-own-via-then-at-own+else-own-at, else-at-own-via-else-at-own}
+use Rattle.markets.proofs.ranked.position_in.Goals.{else-at-own-via-then-at-own+else-own-at}
+use Rattle.markets.proofs.ranked.position_in.Goals.{else-at-own-via-else-at-own}
 
 pub returns-then-own-at : goal.returns-then-own-at
 returns-then-own-at c =

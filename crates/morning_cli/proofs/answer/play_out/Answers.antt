@@ -29,7 +29,8 @@ returns-then-is_err-clause-ends g c =
     c.in_ok-dated.ensures.dates c.terms_in.ensures c.days_of-number.ensures c.in_ok-played.ensures.ends.plays
     c.requires.indexed job is_job is_input (c.in_ok-dated.ensures.value
     ∙ ap (option_map (dated_from c.args.input.now.dossier c.args.input.now.dates)) c.deadlines_of.ensures) _
-    c.ending.result (desk_in c.in_ok-played.played.end) refl (err_in c.in_ok-played.played.end ∙ sym c.is_err.ensures.value ∙ c.if-is_err.true) c.ending.ensures.ends
+    c.ending.result (desk_in c.in_ok-played.played.end) refl
+        (err_in c.in_ok-played.played.end ∙ sym c.is_err.ensures.value ∙ c.if-is_err.true) c.ending.ensures.ends
 
 pub morning_after-requires-clause-dates : goal.morning_after-requires-clause-dates
 morning_after-requires-clause-dates g c =
@@ -45,5 +46,6 @@ returns-clause-ends g c =
     c.in_ok-dated.ensures.dates c.terms_in.ensures c.days_of-number.ensures c.in_ok-played.ensures.ends.plays
     c.requires.indexed job is_job is_input (c.in_ok-dated.ensures.value
     ∙ ap (option_map (dated_from c.args.input.now.dossier c.args.input.now.dates)) c.deadlines_of.ensures)
-    c.morning_after.result (desk_in c.in_ok-played.played.end) refl (err_in c.in_ok-played.played.end ∙ sym c.is_err.ensures.value ∙ c.if-is_err.false)
+    c.morning_after.result (desk_in c.in_ok-played.played.end) refl
+        (err_in c.in_ok-played.played.end ∙ sym c.is_err.ensures.value ∙ c.if-is_err.false)
     c.morning_after.ensures
