@@ -243,8 +243,10 @@ last_all s orders k lasts long le are = record {
 }
 
 -- where nothing is noted yet
-number_none : (n k : ℕ) → k < n → number_in (replicate n None) k ≡ None
-number_none n k lt = unwrap_or-slice_get (replicate n None) k None ∙ get_or-replicate n k None None lt
+none_noted : (ns : List (Option ℕ)) (n k : ℕ) → ns ≡ replicate n None → k < n → number_in ns k ≡ None
+none_noted ns n k none lt =
+    ap (λ (ms : List (Option ℕ)). number_in ms k) none
+    ∙ unwrap_or-slice_get (replicate n None) k None ∙ get_or-replicate n k None None lt
 
 pub best_none : (s : State) (best : List (Option ℕ)) (n : ℕ) → n ≡ length s.dossier.wishes
     → best ≡ replicate n None → AreBestTo s 0 best
@@ -252,16 +254,15 @@ best_none s best n all none = record {
   as_long = ap length none ∙ length-replicate n None ∙ all;
   each = λ k q lt.
       let first = first_own s.dossier k in
-      ap (λ (ns : List (Option ℕ)). is_below (number_in ns first) q) none
-      ∙ ap (λ (m : Option ℕ). is_below m q)
-      (number_none n first (omega (arith, (first_is s.dossier k lt).0, all)));
+      ap (λ (m : Option ℕ). is_below m q)
+      (none_noted best n first none (omega (arith, (first_is s.dossier k lt).0, all)));
 }
 
 pub last_none : (s : State) (orders : List CallOrder) (lasts : List (Option ℕ)) (n : ℕ)
     → n ≡ length s.dossier.programmes → lasts ≡ replicate n None → AreLastTo s orders 0 lasts
 last_none s orders lasts n all none =
     let each_none : (p : ℕ) → p < length s.dossier.programmes → number_in lasts p ≡ None =
-    λ p lt. ap (λ (ns : List (Option ℕ)). number_in ns p) none ∙ number_none n p (omega (arith, lt, all)) in
+    λ p lt. none_noted lasts n p none (omega (arith, lt, all)) in
     record {
       as_long = ap length none ∙ length-replicate n None ∙ all;
       wishes = λ p lt. subst (λ (m : Option ℕ). IfSome m (IsFor s.dossier orders p)) (sym (each_none p lt)) tt;

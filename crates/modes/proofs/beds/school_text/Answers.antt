@@ -43,7 +43,7 @@ figures_text-requires-clause-place g c =
 pub returns-clause-text : goal.returns-clause-text
 returns-clause-text g c =
     all_tell c.args.input.now.dossier c.args.input.now.index c.args.along.now.orders c.args.days.now
-        c.args.along.now.desk
+    c.args.along.now.desk
     c.args.school c.in-Some.place c.in-Some-last.day.now (sym c.school_place.ensures ∙ c.in-Some.is)
     (sym c.in-Some-last.ensures.value) c.requires.desk c.opening-opening.result.now c.roster.result.now.orders
     c.deref.result.now _ _ _ (c.opening-opening.ensures ∙ ap (λ (k : DeskStates). k.opening) c.desk.ensures)
@@ -53,7 +53,7 @@ returns-clause-text g c =
 pub returns-clause-only : goal.returns-clause-only
 returns-clause-only g c =
     all_only c.args.input.now.dossier c.args.input.now.index c.args.along.now.orders c.args.days.now
-        c.args.along.now.desk
+    c.args.along.now.desk
     c.args.school c.in-Some.place c.in-Some-last.day.now (sym c.school_place.ensures ∙ c.in-Some.is)
     (sym c.in-Some-last.ensures.value) c.requires.desk c.opening-opening.result.now c.roster.result.now.orders
     c.deref.result.now _ _ _ (c.opening-opening.ensures ∙ ap (λ (k : DeskStates). k.opening) c.desk.ensures)
@@ -63,7 +63,7 @@ returns-clause-only g c =
 pub returns-clause-picks : goal.returns-clause-picks
 returns-clause-picks g c =
     all_picked c.args.input.now.dossier c.args.input.now.index c.args.along.now.orders c.args.days.now
-        c.args.along.now.desk
+    c.args.along.now.desk
     c.args.school c.in-Some.place c.in-Some-last.day.now (sym c.school_place.ensures ∙ c.in-Some.is)
     (sym c.in-Some-last.ensures.value) c.requires.desk c.opening-opening.result.now c.roster.result.now.orders
     c.deref.result.now _ _ _ (c.opening-opening.ensures ∙ ap (λ (k : DeskStates). k.opening) c.desk.ensures)

@@ -30,7 +30,7 @@ returns-then-is_err-clause-ends g c =
     c.requires.indexed job is_job is_input (c.in_ok-dated.ensures.value
     ∙ ap (option_map (dated_from c.args.input.now.dossier c.args.input.now.dates)) c.deadlines_of.ensures) _
     c.ending.result (desk_in c.in_ok-played.played.end) refl
-        (err_in c.in_ok-played.played.end ∙ sym c.is_err.ensures.value ∙ c.if-is_err.true) c.ending.ensures.ends
+    (err_in c.in_ok-played.played.end ∙ sym c.is_err.ensures.value ∙ c.if-is_err.true) c.ending.ensures.ends
 
 pub morning_after-requires-clause-dates : goal.morning_after-requires-clause-dates
 morning_after-requires-clause-dates g c =
@@ -47,5 +47,5 @@ returns-clause-ends g c =
     c.requires.indexed job is_job is_input (c.in_ok-dated.ensures.value
     ∙ ap (option_map (dated_from c.args.input.now.dossier c.args.input.now.dates)) c.deadlines_of.ensures)
     c.morning_after.result (desk_in c.in_ok-played.played.end) refl
-        (err_in c.in_ok-played.played.end ∙ sym c.is_err.ensures.value ∙ c.if-is_err.false)
+    (err_in c.in_ok-played.played.end ∙ sym c.is_err.ensures.value ∙ c.if-is_err.false)
     c.morning_after.ensures

@@ -25,7 +25,7 @@ returns-clause-place c =
     c.self.view_is there in
     let w = wish_in c.args.self.now.dossier.wishes k in
     sym (place_is w.candidate (line_of c.args.self.now.dossier c.args.self.now.orders w.programme) c.index.result.now
-        stands)
+    stands)
 
 pub returns-clause-called : goal.returns-clause-called
 returns-clause-called c =
