@@ -20,8 +20,8 @@ pub record TellsOfBoth (one other : FallingSystem) (choice : List ℕ → List �
   pub first : TellsOfRun one choice told between
   pub second : TellsOfRun other choice between after
 
--- what a picker told where memory ran out: of falls of the one system, or of a run of it and then of
--- falls of the other
+-- what a picker told where memory ran out: of falls of the one system, or of a run of it and then
+-- of falls of the other
 abbrev pub TellsOfFallsOfBoth : FallingSystem → FallingSystem → (List ℕ → List ℕ → ℕ)
     → List ℕ → List ℕ → Type 0
 TellsOfFallsOfBoth one other choice told after =

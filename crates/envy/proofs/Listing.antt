@@ -10,28 +10,16 @@ use Rattle.std.proofs.lemmas.List.FromFn.{filter_of_map_range_with_len_more}
 use Rattle.admit_core.specs.declared.dossier.Wish.{Wish}
 use Rattle.admit_core.specs.declared.ranking.CallOrder.{CallOrder}
 use Rattle.admit_core.specs.declared.state.Mark.{Mark}
-use Rattle.admit_core.specs.Blocking.{is_blocking, wants_more}
+use Rattle.admit_core.specs.Blocking.{is_blocking}
 use Rattle.admit_core.specs.State.{State, entries}
-use Rattle.day_state.specs.Kept.{mark_in, wish_in}
 use Rattle.day_state.proofs.Places.{entries_by_place, entry_in}
 use Rattle.envy.specs.declared.blocks.Block.{Block}
 use Rattle.envy.specs.Blocks.{block_at, blocks_of, found_at, is_block}
-use Rattle.envy.specs.Known.{has_reason}
 
 pub same_block : (wish left left_too : ℕ) (envied envied_too : Option ℕ) → left ≡ left_too → envied ≡ envied_too
     → (let b : Block = record { wish = wish; left = left; envied = envied } in b)
     ≡ (let b : Block = record { wish = wish; left = left_too; envied = envied_too } in b)
 same_block wish left left_too envied envied_too a b = rw (a, b) refl
-
--- a block, where its candidate has nothing that is as good
-pub blocks_so : (s : State) (orders : List CallOrder) (k : ℕ) (block : Block) (wants reason : Bool)
-    → block ≡ block_at s orders k → wants ≡ wants_more s (wish_in s.dossier.wishes k) (mark_in s.marks k)
-    → reason ≡ has_reason block → is_block s orders block ≡ (wants && reason)
-blocks_so s orders k block wants reason is wants_is reason_is =
-    let both : wants_more s (wish_in s.dossier.wishes k) (mark_in s.marks k) && has_reason (block_at s orders k)
-    ≡ (wants && reason) =
-    λ i. sym wants_is i && sym (reason_is ∙ ap has_reason is) i in
-    ap (is_block s orders) is ∙ both
 
 -- what is listed of the first places
 abbrev pub listed : State → List CallOrder → ℕ → List Block

@@ -34,7 +34,8 @@ is_better c q (w, m) = is_live m && (w.candidate == c) && nat_lt w.preference q
 
 -- of each candidate, at the place of their first wish, the least preference number of those of
 -- these wishes that are live
-pub record AreBestOf (d : DossierRows) (es : List (Wish × Mark)) (best : List (Option ℕ)) : Type 0 where
+pub record AreBestOf (d : DossierRows) (es : List (Wish × Mark))
+    (best : List (Option ℕ)) : Type 0 where
   pub as_long : length best ≡ length d.wishes
   pub each : (k q : ℕ) → k < length d.wishes
       → is_below (number_in best (first_own d k)) q
@@ -49,7 +50,8 @@ AreBestTo s n = AreBestOf s.dossier (take n (entries s))
 
 -- a live wish for a programme whose candidate does not stand before a place of its line
 abbrev pub is_live_from : DossierRows → List CallOrder → ℕ → ℕ → Wish × Mark → Bool
-is_live_from d orders p k (w, m) = is_live m && (w.programme == p) && nat_le k (line_place d orders w)
+is_live_from d orders p k (w, m) =
+    is_live m && (w.programme == p) && nat_le k (line_place d orders w)
 
 -- the place in its line of the candidate of the wish at a place
 abbrev pub place_at : DossierRows → List CallOrder → ℕ → ℕ
@@ -61,8 +63,8 @@ pub record IsFor (d : DossierRows) (orders : List CallOrder) (p k : ℕ) : Type 
   pub programme : (wish_in d.wishes k).programme ≡ p
   pub called : place_at d orders k < length (line_of d orders p)
 
--- of each programme that one of these wishes, of those that are live, whose candidate stands last in
--- its line
+-- of each programme that one of these wishes, of those that are live, whose candidate stands last
+-- in its line
 pub record AreLastOf (d : DossierRows) (orders : List CallOrder) (es : List (Wish × Mark))
     (lasts : List (Option ℕ)) : Type 0 where
   pub as_long : length lasts ≡ length d.programmes

@@ -59,8 +59,8 @@ fn is_below(number: Option<u32>, other: u32) -> bool
     }
 }
 
-/// Whether the candidate of the wish at a place holds one that they prefer; `best` has the best live
-/// wish of each candidate.
+/// Whether the candidate of the wish at a place holds one that they prefer; `best` has the best
+/// live wish of each candidate.
 fn has_better(state: &DayState<'_>, best: &[Option<u32>], place: u32) -> bool
     requires place { place < length state.now.dossier.wishes }
     requires best { AreBest state.now best.now }

@@ -99,9 +99,11 @@ fn school_text(
     requires desk { IsDeskAfter input.now.dossier along.now.orders days.now along.now.desk }
 
     ensures text { IfOk result (λ text. TellsFigures
-        input.now.dossier input.now.index along.now.orders days.now along.now.desk school text.items) }
+        input.now.dossier input.now.index along.now.orders days.now along.now.desk school
+        text.items) }
     ensures only { IfOk result (λ text. IsOnlyText
-        input.now.dossier input.now.index along.now.orders days.now along.now.desk school text.items) }
+        input.now.dossier input.now.index along.now.orders days.now along.now.desk school
+        text.items) }
     ensures picks { IfOk result (λ text. TellsPicks
         (PicksForFigures input.now.dossier input.now.index along.now.orders days.now along.now.desk
         school (choice picker.old) (told picker.old))

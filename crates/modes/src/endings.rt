@@ -222,7 +222,11 @@ pub fn ending(
 ) -> Result<Reply, OutOfMemory>
     requires can { CanEnd
         (seen_by request.now input.now (option_copied dated))
-        (record { orders = orders.now.orders; days = played.days.items; end = desk_in played.end }) }
+        (record {
+          orders = orders.now.orders;
+          days = played.days.items;
+          end = desk_in played.end;
+        }) }
     requires by_orders { IfOk played.end (λ last. last.orders ≡ orders.now.orders) }
     requires there { AreThere pickers.old }
     ensures there { AreThere pickers.new }

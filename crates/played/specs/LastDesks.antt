@@ -1,4 +1,4 @@
--- The desk that days leave, which is begun where one was run, and by which call orders they were run.
+-- The desk that days leave, where one was run, and by which call orders they were run.
 use Rattle.std.specs.Prelude.{◌≡◌, ℕ, Bool, true, false, List, Option, None, Some, Result, Ok, Err, IfOk, nat_lt}
 use Rattle.admit_core.specs.DossierRows.{DossierRows}
 use Rattle.admit_core.specs.declared.ranking.CallOrder.{CallOrder}
