@@ -60,11 +60,11 @@ fn figures_of(
 }
 
 /// The same for a state and the roster of its dossier.
-fn figures_text(
+fn figures_text<'a, 'd>(
     alloc: Global,
     dossier: &Dossier,
-    opening: &DayState<'_>,
-    roster: &Roster<'_, '_>,
+    opening: &'a DayState<'d>,
+    roster: &'a Roster<'a, 'd>,
     ceilings: &[u32],
     place: u32,
     picker: &mut dyn Picker,
