@@ -71,7 +71,7 @@ rows-refused layout width rem b done k fields left refusal whole next fault e =
     e ∙ rw first (rows-fault layout width done k fields others refusal (sym fault))
 
 -- a row more
-pub more-rows : {A : Type 0} (layout : Layout A) (width : ℕ) (done items : List A) (count len : ℕ) (fields : List (List ℕ))
+more-rows : {A : Type 0} (layout : Layout A) (width : ℕ) (done items : List A) (count len : ℕ) (fields : List (List ℕ))
     (left others : List (List (List ℕ))) (v : A) → left ≡ fields ∷ others
     → Ok v ≡ at_row layout.slot (count + 2) (row_of layout width (count + 2) fields) → items ≡ done ++ (v ∷ [])
     → len ≡ count + 1

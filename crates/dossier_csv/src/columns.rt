@@ -40,7 +40,7 @@ pub(crate) const PERCENT: Limits = Limits {
 };
 
 /// The longest text of a number.
-pub(crate) const MOST_DIGITS: usize = 10;
+const MOST_DIGITS: usize = 10;
 
 /// The bytes of the field at a position from 1 on; none where the row has no such field.
 fn text_at(row: &ByteRecord, position: u32) -> &[u8]

@@ -11,7 +11,6 @@ ghost use Rattle.dossier_csv.specs.Rows as Rows;
 ghost use Rattle.dossier_csv.specs.Shape.{Answers, shape};
 
 mod columns;
-mod plain;
 mod rows;
 mod table;
 
@@ -51,7 +50,7 @@ pub fn read_rankings(alloc: Global, bytes: &[u8]) -> Result<Vec<RankRow>, InFaul
     ensures value { Answers (λ rows. rows.items) result (shape Rows.rankings bytes.now) }
     ensures ranges { IfOk result (λ rows. AreRows IsRankRow rows.items) }
 {
-    plain::read_plain_table(alloc, bytes)
+    table::read_table(alloc, bytes)
 }
 
 /// The rows of the boarding slot.
@@ -59,7 +58,7 @@ pub fn read_boarding(alloc: Global, bytes: &[u8]) -> Result<Vec<BoardRow>, InFau
     ensures value { Answers (λ rows. rows.items) result (shape Rows.boarding bytes.now) }
     ensures ranges { IfOk result (λ rows. AreRows IsBoardRow rows.items) }
 {
-    plain::read_plain_table(alloc, bytes)
+    table::read_table(alloc, bytes)
 }
 
 /// The rows of the wishes slot. A wish without a school has an empty field for it.
@@ -67,7 +66,7 @@ pub fn read_wishes(alloc: Global, bytes: &[u8]) -> Result<Vec<WishRow>, InFault>
     ensures value { Answers (λ rows. rows.items) result (shape Rows.wishes bytes.now) }
     ensures ranges { IfOk result (λ rows. AreRows IsWishRow rows.items) }
 {
-    plain::read_plain_table(alloc, bytes)
+    table::read_table(alloc, bytes)
 }
 
 /// The rows of the state slot. Under the header without dates no row has a date.
