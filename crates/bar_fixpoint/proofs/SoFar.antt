@@ -4,12 +4,13 @@ use Rattle.std.proofs.Common.{arith, append_assoc}
 use Rattle.std.specs.Prelude.{sum}
 use Rattle.std.proofs.lemmas.List.{length_push, append-nil}
 use Rattle.admit_core.specs.declared.records.Fall.{Fall}
-use Rattle.admit_core.specs.Falls.{FallingSystem, IsAtMost, IsLawful, IsGreatest, is_overfilled, is_settled, fall_of}
+use Rattle.admit_core.specs.Falls.{FallingSystem, IsAtMost, IsLawful, is_overfilled, is_settled, fall_of}
 use Rattle.admit_core.specs.Falls.{fallen, bars_after, AreFalls, IsRunOfFalls}
-use Rattle.admit_core.proofs.FallsLaw.{all_under, all_above, run_is_greatest}
+use Rattle.admit_core.proofs.FallsLaw.{all_under}
 use Rattle.bar_fixpoint.specs.Overfilled.{all_overfilled}
-use Rattle.bar_fixpoint.specs.Runs.{AreAboveAllThatFit, schools_of}
-use Rattle.bar_fixpoint.specs.Chosen.{AreChosen, PickedFall, TellsAtMostOne, EndsEarly, IsRunBy}
+use Rattle.bar_fixpoint.specs.Runs.{schools_of}
+use Rattle.bar_fixpoint.specs.Chosen.{AreChosen, PickedFall, TellsAtMostOne, EndsEarly}
+use Rattle.bar_fixpoint.specs.Steps.{HasFallen, IsNoStep}
 use Rattle.bar_fixpoint.proofs.OneFall.{sum_falls}
 
 -- the falls so far led from the ceilings to the bars
@@ -72,14 +73,6 @@ module _ (sys : FallingSystem) (lawful : IsLawful sys) (choice : List ℕ → Li
       subst P (sym so_far.bars_fell) (all_under sys lawful sys.ceilings falls
       (IsAtMost-refl sys.ceilings) so_far.are_falls)
 
-  pub above_so_far : (falls : List Fall) (bars told_now : List ℕ) → SoFar sys choice told falls bars told_now
-      → AreAboveAllThatFit sys bars
-  above_so_far falls bars told_now so_far others fits =
-      let P : List ℕ → Type 0 = λ x. IsAtMost others x in
-      subst P (sym so_far.bars_fell)
-      (all_above sys lawful others fits sys.ceilings falls
-      (IsAtMost-refl sys.ceilings) fits.under_ceilings so_far.are_falls)
-
   -- one fall more
   pub one_more : (falls : List Fall) (bars told_now : List ℕ) (f : Fall) (told_after after : List ℕ)
       → SoFar sys choice told falls bars told_now
@@ -112,12 +105,6 @@ module _ (sys : FallingSystem) (lawful : IsLawful sys) (choice : List ℕ → Li
       let P : List ℕ → Type 0 = λ x. is_settled sys x ≡ true in
       record { are_falls = so_far.are_falls; settled = subst P so_far.bars_fell settled }
 
-  pub greatest_so_far : (falls : List Fall) (bars told_now : List ℕ) → SoFar sys choice told falls bars told_now
-      → is_settled sys bars ≡ true → IsGreatest sys bars
-  greatest_so_far falls bars told_now so_far settled =
-      subst (IsGreatest sys) (sym so_far.bars_fell)
-      (run_is_greatest sys lawful falls (run_so_far falls bars told_now so_far settled))
-
   -- where running out of memory ends the falls
   pub early_so_far : (falls : List Fall) (bars told_now told_after : List ℕ) → SoFar sys choice told falls bars told_now
       → TellsAtMostOne sys choice bars told_now told_after
@@ -141,19 +128,6 @@ module _ (sys : FallingSystem) (lawful : IsLawful sys) (choice : List ℕ → Li
       let P : FallingSystem → Type 0 = λ s. IsAtMost bars s.ceilings in
       subst P (sym same) (under_so_far sys lawful choice told falls bars told_now so_far)
 
-  pub above_now : (falls : List Fall) (bars told_now after : List ℕ) → SoFar sys choice told falls bars told_now
-      → after ≡ bars → AreAboveAllThatFit sys after
-  above_now falls bars told_now after so_far stayed =
-      subst (AreAboveAllThatFit sys) (sym stayed) (above_so_far sys lawful choice told falls bars told_now so_far)
-
-  pub greatest_now : (falls : List Fall) (bars told_now after : List ℕ) → SoFar sys choice told falls bars told_now
-      → after ≡ bars → is_settled sys_now bars ≡ true
-      → IsGreatest sys after
-  greatest_now falls bars told_now after so_far stayed settled =
-      let P : FallingSystem → Type 0 = λ s. is_settled s bars ≡ true in
-      subst (IsGreatest sys) (sym stayed) (greatest_so_far sys lawful choice told falls bars told_now so_far
-      (subst P same settled))
-
   falls_now : (choice_now : List ℕ → List ℕ → ℕ) (bars told_now : List ℕ) (f : Fall) (told_after after : List ℕ)
       → choice_now ≡ choice
       → PickedFall sys_now choice_now told_now bars f told_after after
@@ -163,15 +137,14 @@ module _ (sys : FallingSystem) (lawful : IsLawful sys) (choice : List ℕ → Li
       let Q : (List ℕ → List ℕ → ℕ) → Type 0 = λ c. PickedFall sys c told_now bars f told_after after in
       subst Q same_choice (subst P same fell)
 
-  pub more_now : (choice_now : List ℕ → List ℕ → ℕ) (falls longer : List Fall) (bars told_now : List ℕ) (f : Fall)
+  pub more_now : (choice_now : List ℕ → List ℕ → ℕ) (falls : List Fall) (bars told_now : List ℕ) (f : Fall)
       (told_after after : List ℕ) → choice_now ≡ choice
-      → SoFar sys choice told falls bars told_now → longer ≡ falls ++ f ∷ []
+      → SoFar sys choice told falls bars told_now
       → PickedFall sys_now choice_now told_now bars f told_after after
-      → SoFar sys choice told longer after told_after
-  more_now choice_now falls longer bars told_now f told_after after same_choice so_far pushed fell =
-      let P : List Fall → Type 0 = λ fs. SoFar sys choice told fs after told_after in
-      let fell_here = falls_now choice_now bars told_now f told_after after same_choice fell in
-      subst P (sym pushed) (one_more sys lawful choice told falls bars told_now f told_after after so_far fell_here)
+      → SoFar sys choice told (falls ++ f ∷ []) after told_after
+  more_now choice_now falls bars told_now f told_after after same_choice so_far fell =
+      one_more sys lawful choice told falls bars told_now f told_after after so_far
+      (falls_now choice_now bars told_now f told_after after same_choice fell)
 
   pub smaller_now : (choice_now : List ℕ → List ℕ → ℕ) (falls : List Fall) (bars told_now : List ℕ) (f : Fall)
       (told_after after : List ℕ) → choice_now ≡ choice
@@ -182,17 +155,35 @@ module _ (sys : FallingSystem) (lawful : IsLawful sys) (choice : List ℕ → Li
       sum_falls sys lawful choice told_now bars f told_after after
       (under_so_far sys lawful choice told falls bars told_now so_far) fell_here
 
-  -- falls that nobody keeps
-  pub run_now : (falls : List Fall) (bars told_now after told_after : List ℕ)
-      → SoFar sys choice told falls bars told_now → after ≡ bars → told_after ≡ told_now
-      → is_settled sys_now bars ≡ true
-      → IsRunBy sys choice told told_after after
-  run_now falls bars told_now after told_after so_far stayed untold settled =
+  -- nothing falls any more
+  pub fallen_now : (falls : List Fall) (bars told_now after told_after : List ℕ) (given : List Fall → Type 0)
+      → SoFar sys choice told falls bars told_now
+      → (is_settled sys_now bars ≡ true) × (after ≡ bars) × (told_after ≡ told_now) → given falls
+      → HasFallen sys choice told told_after after given
+  fallen_now falls bars told_now after told_after given so_far rest given_all =
       let P : FallingSystem → Type 0 = λ s. is_settled s bars ≡ true in
+      let same_sum : sum after ≡ sum bars = ap sum rest.1 in
       record {
-        falls = falls;
-        is_run = run_so_far sys lawful choice told falls bars told_now so_far (subst P same settled);
-        chosen = so_far.chosen;
-        bars_fell = stayed ∙ so_far.bars_fell;
-        told_of = untold ∙ so_far.told_of;
+        run = record {
+          falls = falls;
+          is_run = run_so_far sys lawful choice told falls bars told_now so_far (subst P same rest.0);
+          chosen = so_far.chosen;
+          bars_fell = rest.1 ∙ so_far.bars_fell;
+          told_of = rest.2 ∙ so_far.told_of;
+        };
+        given_all = given_all;
+        few = omega (arith, same_sum, so_far.few);
       }
+
+  -- memory ran out in the next step
+  pub early_now : (choice_now : List ℕ → List ℕ → ℕ) (falls : List Fall) (bars told_now told_after after : List ℕ)
+      → choice_now ≡ choice
+      → SoFar sys choice told falls bars told_now
+      → IsNoStep sys_now choice_now told_now bars told_after after
+      → EndsEarly sys choice told told_after after
+  early_now choice_now falls bars told_now told_after after same_choice so_far stopped =
+      let P : FallingSystem → Type 0 = λ s. TellsAtMostOne s choice_now bars told_now told_after in
+      let Q : (List ℕ → List ℕ → ℕ) → Type 0 = λ c. TellsAtMostOne sys c bars told_now told_after in
+      subst (EndsEarly sys choice told told_after) (sym stopped.0)
+      (early_so_far sys lawful choice told falls bars told_now told_after so_far
+      (subst Q same_choice (subst P same stopped.1)))

@@ -2,3 +2,4 @@ pub mod Overfilled
 pub mod Runs
 pub mod Choices
 pub mod Chosen
+pub mod Steps

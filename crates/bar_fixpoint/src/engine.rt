@@ -1,13 +1,16 @@
 //! The engine.
 ghost use Rattle.std.specs.Prelude.{◌≡◌, ℕ, ◌+◌, ◌<◌, ◌≤◌, List, length, [], ◌∷◌, ◌++◌, Contains, IfOk, IsOk, OnOk, OnErr, IfSome, IfNone, IsTrue, sum};
+ghost use Rattle.admit_core.specs.declared.records.Fall.{Fall};
 ghost use Rattle.admit_core.specs.Falls.{IsAtMost, IsGreatest, IsRunOfFalls, is_overfilled, is_settled, fall_of, fallen, bars_after};
 ghost use Rattle.bar_fixpoint.specs.Runs.{AreAboveAllThatFit, schools_of};
 ghost use Rattle.bar_fixpoint.specs.Overfilled.{all_overfilled};
-ghost use Rattle.bar_fixpoint.specs.Chosen.{AreChosen, PickedFall, TellsAtMostOne, EndsEarly, IsPicked, IsRunBy};
+ghost use Rattle.bar_fixpoint.specs.Chosen.{AreChosen, EndsEarly, IsPicked, IsRunBy};
+ghost use Rattle.bar_fixpoint.specs.Steps.{HasFallen, IsStep, IsNoStep, GetsFall};
 
 use crate::falling::Falling;
+use crate::keeper::{Keeper, NoFalls};
 use crate::picker::Picker;
-use admit_core::{Fall, OutOfMemory, Sequence, Steps};
+use admit_core::{Fall, OutOfMemory, Steps};
 use std::alloc::Global;
 use std::sync::ledger::Ledger;
 
@@ -46,9 +49,7 @@ pub fn greatest<F: Falling, L: Ledger>(
     ensures choice { choice picker.new ≡ choice picker.old }
 {
     let mut falls = Vec::new(alloc);
-    while let Some(fall) = fall_once(alloc, system, picker, steps)? {
-        falls.push(fall)?;
-    }
+    lower_all(alloc, system, picker, &mut falls, steps)?;
     Ok(falls)
 }
 
@@ -76,30 +77,49 @@ pub fn settle<F: Falling, L: Ledger>(
     ensures offers { F.offers system.new ≡ F.offers system.old }
     ensures choice { choice picker.new ≡ choice picker.old }
 {
-    while let Some(_school) = sink_once(alloc, system, picker, steps)? {}
+    lower_all(alloc, system, picker, &mut NoFalls, steps)
+}
+
+/// Lowers bars from the ceilings until no place is overfilled. The keeper is given each fall.
+fn lower_all<F: Falling, K: Keeper, L: Ledger>(
+    alloc: Global,
+    system: &mut F,
+    picker: &mut dyn Picker,
+    keeper: &mut K,
+    steps: &mut Steps<L>,
+) -> Result<(), OutOfMemory>
+    requires ceilings { F.bars system.old ≡ (F.system system.old).ceilings }
+    requires none { K.was_given keeper.old [] }
+    ensures fallen { OnOk result (HasFallen (F.system system.old) (choice picker.old)
+        (told picker.old) (told picker.new) (F.bars system.new) (K.was_given keeper.new)) }
+    ensures early { OnErr result (EndsEarly (F.system system.old) (choice picker.old)
+        (told picker.old) (told picker.new) (F.bars system.new)) }
+    ensures always { F.lends system.old
+        → all_overfilled (F.system system.old) (F.bars system.old) ≡ [] → IsOk result }
+    ensures same { F.system system.new ≡ F.system system.old }
+    ensures offers { F.offers system.new ≡ F.offers system.old }
+    ensures choice { choice picker.new ≡ choice picker.old }
+{
+    while let Some(_school) = fall_once(alloc, system, picker, keeper, steps)? {}
     Ok(())
 }
 
 /// Lowers the bar of the picked place, and answers that place; `None` where no place is
 /// overfilled.
-fn sink_once<F: Falling, L: Ledger>(
+fn fall_once<F: Falling, K: Keeper, L: Ledger>(
     alloc: Global,
     system: &mut F,
     picker: &mut dyn Picker,
+    keeper: &mut K,
     steps: &mut Steps<L>,
 ) -> Result<Option<u32>, OutOfMemory>
     requires { IsAtMost (F.bars system.old) (F.system system.old).ceilings }
-    ensures fall { IfOk result (λ place.
-        IfSome place (λ i. PickedFall (F.system system.old) (choice picker.old)
-        (told picker.old) (F.bars system.old) (fall_of (F.system system.old)
-        (F.bars system.old) i) (told picker.new) (F.bars system.new))) }
-    ensures settled { IfOk result (λ place.
-        IfNone place (IsTrue (is_settled (F.system system.old) (F.bars system.old)))) }
-    ensures rest { IfOk result (λ place. IfNone place
-        ((F.bars system.new ≡ F.bars system.old) × (told picker.new ≡ told picker.old))) }
-    ensures err { OnErr result (F.bars system.new ≡ F.bars system.old) }
-    ensures told { OnErr result (TellsAtMostOne (F.system system.old) (choice picker.old)
-        (F.bars system.old) (told picker.old) (told picker.new)) }
+    ensures step { IfOk result (IsStep (F.system system.old) (choice picker.old)
+        (told picker.old) (F.bars system.old) (told picker.new) (F.bars system.new)) }
+    ensures kept { IfOk result (GetsFall (K.was_given keeper.old) (K.was_given keeper.new)
+        (fall_of (F.system system.old) (F.bars system.old))) }
+    ensures stopped { OnErr result (IsNoStep (F.system system.old) (choice picker.old)
+        (told picker.old) (F.bars system.old) (told picker.new) (F.bars system.new)) }
     ensures always { F.lends system.old
         → all_overfilled (F.system system.old) (F.bars system.old) ≡ [] → IsOk result }
     ensures same { F.system system.new ≡ F.system system.old }
@@ -109,7 +129,7 @@ fn sink_once<F: Falling, L: Ledger>(
     match picked(alloc, system, picker)? {
         None => Ok(None),
         Some(school) => {
-            lower_over(alloc, system, school, steps)?;
+            lower_over(alloc, system, school, keeper, steps)?;
             Ok(Some(school))
         }
     }
@@ -159,82 +179,21 @@ fn pick_any(places: &[u32], picker: &mut dyn Picker) -> Result<Option<u32>, OutO
     Ok(Some(place))
 }
 
-/// Lowers the bar of the picked place, and answers the fall; `None` where no place is overfilled.
-fn fall_once<F: Falling, L: Ledger>(
-    alloc: Global,
-    system: &mut F,
-    picker: &mut dyn Picker,
-    steps: &mut Steps<L>,
-) -> Result<Option<Fall>, OutOfMemory>
-    requires { IsAtMost (F.bars system.old) (F.system system.old).ceilings }
-    ensures fall { IfOk result (λ fall.
-        IfSome fall (λ f. PickedFall (F.system system.old) (choice picker.old)
-        (told picker.old) (F.bars system.old) f (told picker.new) (F.bars system.new))) }
-    ensures settled { IfOk result (λ fall.
-        IfNone fall (IsTrue (is_settled (F.system system.old) (F.bars system.old)))) }
-    ensures rest { IfOk result (λ fall. IfNone fall
-        ((F.bars system.new ≡ F.bars system.old) × (told picker.new ≡ told picker.old))) }
-    ensures err { OnErr result (F.bars system.new ≡ F.bars system.old) }
-    ensures told { OnErr result (TellsAtMostOne (F.system system.old) (choice picker.old)
-        (F.bars system.old) (told picker.old) (told picker.new)) }
-    ensures always { F.lends system.old
-        → all_overfilled (F.system system.old) (F.bars system.old) ≡ [] → IsOk result }
-    ensures same { F.system system.new ≡ F.system system.old }
-    ensures offers { F.offers system.new ≡ F.offers system.old }
-    ensures choice { choice picker.new ≡ choice picker.old }
-{
-    match picked(alloc, system, picker)? {
-        None => Ok(None),
-        Some(school) => {
-            let fall = make_fall(alloc, system, school, steps)?;
-            Ok(Some(fall))
-        }
-    }
-}
-
 /// Lowers the bar of an overfilled place below its first rank that has no bed.
-fn make_fall<F: Falling, L: Ledger>(
+fn lower_over<F: Falling, K: Keeper, L: Ledger>(
     alloc: Global,
     system: &mut F,
     school: u32,
-    steps: &mut Steps<L>,
-) -> Result<Fall, OutOfMemory>
-    requires under { IsAtMost (F.bars system.old) (F.system system.old).ceilings }
-    requires over { IsTrue (is_overfilled (F.system system.old) (F.bars system.old) school) }
-    ensures fall { IfOk result (λ f. f ≡ fall_of (F.system system.old) (F.bars system.old) school) }
-    ensures bars { IfOk result (λ f. F.bars system.new ≡ fallen (F.bars system.old) f) }
-    ensures err { OnErr result (F.bars system.new ≡ F.bars system.old) }
-    ensures same { F.system system.new ≡ F.system system.old }
-    ensures offers { F.offers system.new ≡ F.offers system.old }
-{
-    match system.over(alloc, school)? {
-        None => unreachable!(),
-        Some(rank) => {
-            let names = system.names(alloc, school, rank)?;
-            let from = system.bar(school);
-            let to = rank - 1;
-            system.lower(school, to, steps);
-            Ok(Fall {
-                school,
-                from,
-                to,
-                wishes: Sequence::from_vec(names),
-            })
-        }
-    }
-}
-
-/// The same, but names nobody.
-fn lower_over<F: Falling, L: Ledger>(
-    alloc: Global,
-    system: &mut F,
-    school: u32,
+    keeper: &mut K,
     steps: &mut Steps<L>,
 ) -> Result<(), OutOfMemory>
     requires under { IsAtMost (F.bars system.old) (F.system system.old).ceilings }
     requires over { IsTrue (is_overfilled (F.system system.old) (F.bars system.old) school) }
     ensures bars { OnOk result (F.bars system.new ≡ fallen (F.bars system.old)
         (fall_of (F.system system.old) (F.bars system.old) school)) }
+    ensures kept { OnOk result ((falls : List Fall) → K.was_given keeper.old falls
+        → K.was_given keeper.new
+        (falls ++ fall_of (F.system system.old) (F.bars system.old) school ∷ [])) }
     ensures err { OnErr result (F.bars system.new ≡ F.bars system.old) }
     ensures same { F.system system.new ≡ F.system system.old }
     ensures offers { F.offers system.new ≡ F.offers system.old }
@@ -242,6 +201,7 @@ fn lower_over<F: Falling, L: Ledger>(
     match system.over(alloc, school)? {
         None => unreachable!(),
         Some(rank) => {
+            keeper.keep(alloc, system, school, rank)?;
             system.lower(school, rank - 1, steps);
             Ok(())
         }

@@ -7,6 +7,7 @@
 
 mod engine;
 mod falling;
+mod keeper;
 mod law;
 mod picker;
 mod pickers;

@@ -3,9 +3,9 @@ use Rattle.std.specs.Prelude.{sum}
 use Rattle.admit_core.specs.declared.records.Fall.{Fall}
 use Rattle.bar_fixpoint.specs.Overfilled.{all_overfilled}
 use Rattle.bar_fixpoint.proofs.SoFar.{SoFar}
-use Rattle.bar_fixpoint.proofs.engine.settle.Given as goal
+use Rattle.bar_fixpoint.proofs.engine.lower_all.Given as goal
 
--- there are falls that led here, though nobody keeps them
+-- falls led here, and the keeper was given them
 abbrev pub invariant-loop-school : goal.invariant-loop-school
 invariant-loop-school g l =
     let f = g.F.Falling in
@@ -18,6 +18,7 @@ invariant-loop-school g l =
       choice : now.choice l.picker.now.1 ≡ first.choice l.fn.picker.now.1;
       so_far : (falls : List Fall) × SoFar (f.system l.fn.system) (first.choice l.fn.picker.now.1)
           (first.told l.fn.picker.now.1) falls (f.bars l.system) (now.told l.picker.now.1);
+      given : g.K.Keeper.was_given l.keeper so_far.0;
     }
 
 abbrev pub decreases-loop-school : goal.decreases-loop-school

@@ -1,0 +1,85 @@
+use Rattle.std.proofs.Common.{◌∙◌, ◌∷◌, ◌++◌, [], refl}
+use Rattle.admit_core.specs.Falls.{fall_of}
+use Rattle.admit_core.proofs.Plain.{on_err}
+use Rattle.bar_fixpoint.proofs.Idle.{answered, none_fell}
+use Rattle.bar_fixpoint.proofs.SoFar.{none_so_far, under_now, early_now, more_now, fallen_now, smaller_now}
+use Rattle.bar_fixpoint.proofs.engine.lower_all.Goals as goal
+
+pub fall_once-requires : goal.fall_once-requires
+fall_once-requires g c =
+    let f = g.F.Falling in
+    let now = c.loop-school.invariant in
+    under_now (f.system c.args.system.now) (g.met.F.Falling.lawful c.args.system.now) _ _
+    (f.system c.loop-school.system) now.same
+    _ _ _ now.so_far.1
+
+pub loop-school-init : goal.loop-school-init
+loop-school-init g c =
+    let f = g.F.Falling in
+    record {
+      same = refl;
+      idle = λ none. refl;
+      offers = refl;
+      choice = refl;
+      so_far = (
+        [],
+        none_so_far (f.system c.args.system.now) (g.met.F.Falling.lawful c.args.system.now) _ _ _
+            c.requires.ceilings,
+      );
+      given = c.requires.none;
+    }
+
+pub loop-school-smaller : goal.loop-school-smaller
+loop-school-smaller g c =
+    let f = g.F.Falling in
+    let now = c.loop-school.invariant in
+    let fell = rw c.in-Some.is at c.in_ok-_school.ensures.step in
+    smaller_now (f.system c.args.system.now) (g.met.F.Falling.lawful c.args.system.now) _ _
+    (f.system c.loop-school.system) now.same
+    _ _ _ _ _ _ _ now.choice now.so_far.1 fell
+
+pub loop-school-preserved : goal.loop-school-preserved
+loop-school-preserved g c =
+    let f = g.F.Falling in
+    let now = c.loop-school.invariant in
+    let fell = rw c.in-Some.is at c.in_ok-_school.ensures.step in
+    let given = rw c.in-Some.is at c.in_ok-_school.ensures.kept in
+    let fall = fall_of (f.system c.loop-school.system) (f.bars c.loop-school.system) c.in-Some._school in
+    record {
+      same = c.fall_once.ensures.same ∙ now.same;
+      idle = λ none. absurd (none_fell f.system f.bars g.met.F.Falling.lawful c.args.system.now c.loop-school.system
+          now.idle _ _ _ _ _ fell none);
+      offers = c.fall_once.ensures.offers ∙ now.offers;
+      choice = c.fall_once.ensures.choice ∙ now.choice;
+      so_far = (
+        now.so_far.0 ++ fall ∷ [],
+        more_now (f.system c.args.system.now) (g.met.F.Falling.lawful c.args.system.now) _ _
+            (f.system c.loop-school.system) now.same
+            _ _ _ _ fall _ _ now.choice now.so_far.1 fell,
+      );
+      given = given now.so_far.0 now.given;
+    }
+
+pub returns-in_err-_school-clause-early : goal.returns-in_err-_school-clause-early
+returns-in_err-_school-clause-early g c =
+    let f = g.F.Falling in
+    let now = c.loop-school.invariant in
+    on_err _ (early_now (f.system c.args.system.now) (g.met.F.Falling.lawful c.args.system.now) _ _
+    (f.system c.loop-school.system) now.same
+    _ _ _ _ _ _ now.choice now.so_far.1 c.in_err-_school.ensures.stopped)
+
+pub returns-clause-fallen : goal.returns-clause-fallen
+returns-clause-fallen g c =
+    let f = g.F.Falling in
+    let now = c.loop-school.invariant in
+    let settled = rw c.in_default.is at c.in_ok-_school.ensures.step in
+    let given = rw c.in_default.is at c.in_ok-_school.ensures.kept in
+    fallen_now (f.system c.args.system.now) (g.met.F.Falling.lawful c.args.system.now) _ _
+    (f.system c.loop-school.system) now.same
+    _ _ _ _ _ _ now.so_far.1 settled (given now.so_far.0 now.given)
+
+pub returns-in_err-_school-clause-always : goal.returns-in_err-_school-clause-always
+returns-in_err-_school-clause-always g c =
+    let f = g.F.Falling in
+    λ lent none. absurd (answered f.system f.bars g.met.F.Falling.lawful c.args.system.now c.loop-school.system
+    c.loop-school.invariant.idle f.lends c.in_err-_school.ensures.always lent none)
