@@ -1,5 +1,5 @@
 //! The call orders of ranking groups.
-ghost use Rattle.std.specs.Prelude.{◌≡◌, ◌<◌, All, IfOk};
+ghost use Rattle.std.specs.Prelude.{◌≡◌, ◌<◌, length, All, IfOk, OnErr};
 ghost use Rattle.admit_core.specs.CallOrder.{AreCallOrders, IsCallOrder};
 ghost use Rattle.admit_core.specs.CallOrderLaws.{KeepsOrderLaws};
 ghost use Rattle.admit_core.specs.Validity.{IsRanking};
@@ -21,7 +21,8 @@ fn counted<L: Ledger>(
     requires name { blank.name ≡ L.name }
     requires parts { blank.parts ≡ L.parts }
     requires shared { 0 < L.parts }
-    ensures { IfOk result (IsCallOrder group.now) }
+    ensures order { IfOk result (IsCallOrder group.now) }
+    ensures memory { OnErr result (0 < length group.now.list) }
 {
     let mut steps: Steps<L> = Steps::new(blank);
     let mut queues = Queues::build(alloc, group.list.as_slice())?;
@@ -39,6 +40,7 @@ pub fn call_order(alloc: Global, group: &RankGroup) -> Result<CallOrder, OutOfMe
     requires { IsRanking group.now }
     ensures order { IfOk result (IsCallOrder group.now) }
     ensures laws { IfOk result (KeepsOrderLaws group.now) }
+    ensures memory { OnErr result (0 < length group.now.list) }
 {
     counted::<Brand>(alloc, Blank::new(1), group)
 }
@@ -46,7 +48,8 @@ pub fn call_order(alloc: Global, group: &RankGroup) -> Result<CallOrder, OutOfMe
 /// The call order of each group, in the order of the groups.
 pub fn call_orders(alloc: Global, groups: &[RankGroup]) -> Result<CallOrders, OutOfMemory>
     requires { All IsRanking groups.now }
-    ensures { IfOk result (λ called. AreCallOrders groups.now called.orders) }
+    ensures orders { IfOk result (λ called. AreCallOrders groups.now called.orders) }
+    ensures memory { OnErr result (0 < length groups.now) }
 {
     let mut orders = Vec::new(alloc);
     for group in groups {

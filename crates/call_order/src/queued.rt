@@ -1,5 +1,5 @@
 //! Call orders by four queues: each call is chosen by the heads of the queues alone.
-ghost use Rattle.std.specs.Prelude.{◌≡◌, ◌+◌, ◌++◌, ◌<◌, ◌≤◌, ◌^◌, ◌&&◌, [], length, map, find, nat_eq, option_map, IfOk, IfErr};
+ghost use Rattle.std.specs.Prelude.{◌≡◌, ◌+◌, ◌++◌, ◌<◌, ◌≤◌, ◌^◌, ◌&&◌, [], length, map, find, nat_eq, option_map, IfOk, IfErr, OnErr};
 ghost use Rattle.std.specs.List.{list_any, IsDistinct};
 ghost use Rattle.std.specs.List.Sorted.{IsStrictlyIncreasing};
 ghost use Rattle.admit_core.specs.CallOrder.{may_be_called, IsCallOrder};
@@ -158,6 +158,7 @@ pub fn call_order_queued<L: Ledger>(
     ensures steps { IfOk result (λ order. steps.new ≡ steps.old + length queues.old.remaining) }
     ensures unchanged { IfErr result (λ want. queues.new ≡ queues.old) }
     ensures no_step { IfErr result (λ want. steps.new ≡ steps.old) }
+    ensures memory { OnErr result (0 < length queues.old.remaining) }
 {
     let count = queues.remaining();
     let mut list = Vec::with_capacity(alloc, count)?;

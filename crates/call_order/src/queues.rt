@@ -1,5 +1,5 @@
 //! The queues of the candidates who remain.
-ghost use Rattle.std.specs.Prelude.{◌≡◌, ◌+◌, ◌++◌, [], length, map, option_map, is_some, IfOk, IfNone, if◌then◌else◌};
+ghost use Rattle.std.specs.Prelude.{◌≡◌, ◌+◌, ◌++◌, [], length, map, option_map, is_some, IfOk, IfNone, OnErr, ◌<◌, if◌then◌else◌};
 ghost use Rattle.std.specs.Option.{option_to_list};
 ghost use Rattle.std.specs.List.Sorted.{IsStrictlyIncreasing};
 ghost use Rattle.call_order.specs.Kinds.{head_of, without_head};
@@ -35,16 +35,28 @@ impl Model for Queues {
         (vec_capacity q.taken) };
 }
 
+/// The same candidates again. It lacks memory only where there is one.
+fn copied(alloc: Global, list: &[Ranked]) -> Result<Vec<Ranked>, OutOfMemory>
+    ensures same { IfOk result (λ v. v.items ≡ list.now) }
+    ensures memory { OnErr result (0 < length list.now) }
+{
+    if list.is_empty() {
+        return Ok(Vec::new(alloc));
+    }
+    Ok(Vec::from_slice(alloc, list)?)
+}
+
 impl Queues {
     /// The queues of a ranking. All the room that the other calls need is made here.
     pub fn build(alloc: Global, list: &[Ranked]) -> Result<Queues, OutOfMemory>
         requires { IsStrictlyIncreasing (map (λ r. r.rank) list.now) }
         ensures remaining { IfOk result (λ queues. queues.remaining ≡ list.now) }
         ensures taken { IfOk result (λ queues. queues.taken ≡ []) }
+        ensures memory { OnErr result (0 < length list.now) }
     {
         let heads = first_heads(list);
         let taken = Vec::with_capacity(alloc, list.len())?;
-        let list = Vec::from_slice(alloc, list)?;
+        let list = copied(alloc, list)?;
         Ok(Queues { list, heads, taken })
     }
 

@@ -8,4 +8,4 @@ pub returns-clause-laws : goal.returns-clause-laws
 returns-clause-laws c =
     let group = c.args.group.now in
     IfOk-weaker c.counted.result (IsCallOrder group) (KeepsOrderLaws group)
-    (λ order is. laws_kept group order c.requires is) c.counted.ensures
+    (λ order is. laws_kept group order c.requires is) c.counted.ensures.order

@@ -14,8 +14,8 @@ loop-group-preserved c =
     (AllZip-push IsCallOrder (take k groups) c.loop-group.orders.items c.group-item.result order c.loop-group.invariant
     c.in_ok-call_order.ensures.order)
 
-pub returns : goal.returns
-returns c =
+pub returns-clause-orders : goal.returns-clause-orders
+returns-clause-orders c =
     let groups = c.args.groups.now in
     let k = c.loop-group.group-index in
     rw (c.from_vec.ensures, ← take_all k groups (omega arith)) c.loop-group.invariant
