@@ -8,7 +8,7 @@ ghost use Rattle.report.specs.Words.{further};
 
 use crate::date::push_date;
 use crate::ids::{push_line, push_numbers, school_id, wish_id};
-use crate::piece::{Piece, push_after, push_all, push_text};
+use crate::piece::{Piece, push_all, push_ascii, push_spaced};
 use admit_core::{
     Change, DayRecord, Dossier, Fall, Lapse, OutOfMemory, PassEnd, PassRecord, Terms,
 };
@@ -22,9 +22,9 @@ fn push_wishes(text: &mut String, dossier: &Dossier, wishes: &[u32]) -> Result<(
         (further 32 (map (λ w. decimal (wish_id dossier.now w)) wishes.now)) }
 {
     for wish in wishes {
-        push_after(text, " ", wish_id(dossier, *wish))?;
+        push_spaced(text, wish_id(dossier, *wish))?;
     }
-    push_text(text, "\n")
+    push_ascii(text, '\n')
 }
 
 /// Adds the line of a fall.
@@ -35,9 +35,9 @@ fn push_fall(text: &mut String, dossier: &Dossier, fall: &Fall) -> Result<(), Al
     let pieces = [
         Piece::Text("fall "),
         Piece::Number(school_id(dossier, fall.school)),
-        Piece::Text(" "),
+        Piece::Space,
         Piece::Number(fall.from),
-        Piece::Text(" "),
+        Piece::Space,
         Piece::Number(fall.to),
     ];
     push_all(text, &pieces)?;
@@ -62,7 +62,7 @@ fn push_offer(text: &mut String, dossier: &Dossier, wish: u32) -> Result<(), All
     ensures { Pushes result text.old text.new (offer_line dossier.now wish) }
 {
     let id = Piece::Number(wish_id(dossier, wish));
-    push_all(text, &[Piece::Text("offer "), id, Piece::Text("\n")])
+    push_all(text, &[Piece::Text("offer "), id, Piece::End])
 }
 
 /// Adds the lines of the offers of wishes.
@@ -84,9 +84,9 @@ fn push_auto(text: &mut String, dossier: &Dossier, change: Change) -> Result<(),
     let pieces = [
         Piece::Text("auto "),
         Piece::Number(wish_id(dossier, change.wish)),
-        Piece::Text(" "),
+        Piece::Space,
         Piece::Word(change.status),
-        Piece::Text("\n"),
+        Piece::End,
     ];
     push_all(text, &pieces)
 }
@@ -135,7 +135,7 @@ fn push_numbered(text: &mut String, before: &str, number: usize) -> Result<(), A
     ensures { Pushes result text.old text.new (before.now ++ decimal number ++ 10 ∷ []) }
 {
     let number = Piece::Count(number as u64);
-    push_all(text, &[Piece::Text(before), number, Piece::Text("\n")])
+    push_all(text, &[Piece::Text(before), number, Piece::End])
 }
 
 /// Adds the lines of a pass with its number.
@@ -217,9 +217,9 @@ fn push_lapse(
     ensures { Pushes result text.old text.new (lapse_line dossier.now start term lapse) }
 {
     let id = Piece::Number(wish_id(dossier, lapse.wish));
-    push_all(text, &[Piece::Text("lapse "), id, Piece::Text(" ")])?;
+    push_all(text, &[Piece::Text("lapse "), id, Piece::Space])?;
     push_date(text, deadline(on_day(start, lapse.offered), term))?;
-    push_text(text, "\n")
+    push_ascii(text, '\n')
 }
 
 /// Adds the lines of lapsed offers, each with the deadline that has passed.

@@ -7,7 +7,7 @@ ghost use Rattle.report.specs.Pushes.{Pushes};
 ghost use Rattle.report.specs.Words.{further, line};
 
 use crate::ids::{school_id, wish_id};
-use crate::piece::Piece::{Number, Text, Word};
+use crate::piece::Piece::{End, Number, Space, Text, Word};
 use crate::piece::{push_all, push_text};
 use admit_core::{BarCause, Dossier, Explanation, OutOfMemory, Stamp, Status};
 use std::alloc::{AllocError, Global};
@@ -26,15 +26,15 @@ fn push_status(
     let pieces = [
         Text("wish "),
         Number(wish),
-        Text(" "),
+        Space,
         Text(word),
-        Text(" "),
+        Space,
         Word(status),
         Text(" day "),
         Number(stamp.day),
         Text(" pass "),
         Number(stamp.pass),
-        Text("\n"),
+        End,
     ];
     push_all(text, &pieces)
 }
@@ -45,7 +45,7 @@ fn push_cause(text: &mut String, cause: BarCause) -> Result<(), AllocError>
 {
     match cause {
         BarCause::Ceiling => push_text(text, " ceiling\n"),
-        BarCause::Full { beds } => push_all(text, &[Text(" full "), Number(beds), Text("\n")]),
+        BarCause::Full { beds } => push_all(text, &[Text(" full "), Number(beds), End]),
     }
 }
 
@@ -61,7 +61,7 @@ fn push_limit(text: &mut String, position: u32, limit: u32) -> Result<(), AllocE
         Number(position),
         Text(" limit "),
         Number(limit),
-        Text("\n"),
+        End,
     ];
     push_all(text, &pieces)
 }

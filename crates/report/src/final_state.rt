@@ -10,7 +10,7 @@ ghost use Rattle.calendar.specs.Dates.{IsCivil};
 ghost use Rattle.calendar.specs.Texts.{date_text};
 
 use crate::date::push_date;
-use crate::piece::{push_both, push_text};
+use crate::piece::{push_ascii, push_both, push_text};
 use admit_core::{OutOfMemory, Status, Terms, Wish};
 use calendar::{Civil, on_day};
 use day_state::DayState;
@@ -106,7 +106,7 @@ fn push_offered_row(text: &mut String, id: u32, since: Civil) -> Result<(), Allo
 {
     push_both(text, Buffer::new().format(id), ",offered,")?;
     push_date(text, since)?;
-    push_text(text, "\n")
+    push_ascii(text, '\n')
 }
 
 /// Adds the row of a wish at its place, with its status, and the date of its offer where it is

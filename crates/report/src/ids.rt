@@ -61,11 +61,11 @@ pub(crate) fn push_line(
 {
     let pieces = [
         Piece::Text(word),
-        Piece::Text(" "),
+        Piece::Space,
         Piece::Number(id),
-        Piece::Text(" "),
+        Piece::Space,
         Piece::Number(number),
-        Piece::Text("\n"),
+        Piece::End,
     ];
     push_all(text, &pieces)
 }

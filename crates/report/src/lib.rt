@@ -22,7 +22,7 @@ pub use day::{dated_day_text, day_text, push_dated_day, push_day, push_falls};
 pub use explanation::explain_text;
 pub use final_state::{final_dated_text, final_text, push_dated_final, push_final};
 pub use order::{order_text, push_order};
-pub use piece::{Piece, push_after, push_all, push_text};
+pub use piece::{Piece, push_after, push_all, push_ascii, push_spaced, push_text};
 pub use refusal::refusal_text;
 pub use sample::sample_text;
 pub use worked::worked_texts;

@@ -92,7 +92,7 @@ fn push_summary(text: &mut String, day: &DayRecord) -> Result<(), AllocError>
         Piece::Text(fall_digits.format(falls)),
         Piece::Text(" offers "),
         Piece::Text(offer_digits.format(offers)),
-        Piece::Text("\n"),
+        Piece::End,
     ];
     push_all(text, &pieces)
 }
@@ -123,7 +123,7 @@ fn push_counts(text: &mut String, state: &DayState<'_>) -> Result<(), AllocError
         Piece::Count(waiting as u64),
         Piece::Text(" gone "),
         Piece::Count(gone as u64),
-        Piece::Text("\n"),
+        Piece::End,
     ];
     push_all(text, &pieces)
 }
@@ -143,7 +143,7 @@ fn push_sample(
         Piece::Number(number),
         Piece::Text(" wishes "),
         Piece::Number(wishes),
-        Piece::Text("\n"),
+        Piece::End,
     ];
     push_all(text, &pieces)?;
     push_summaries(text, days)?;
