@@ -1,5 +1,5 @@
 //! A list with a gap before it.
-ghost use Rattle.std.specs.Prelude.{◌≡◌, ◌<◌, ◌≤◌, ◌+◌, drop, length, vec_capacity, vec_len};
+ghost use Rattle.std.specs.Prelude.{◌≡◌, ◌<◌, ◌≤◌, ◌+◌, ◌∷◌, true, false, drop, length, vec_capacity, vec_len};
 ghost use Rattle.std.specs.List.{insert, remove};
 
 use std::marker::Model;
@@ -7,8 +7,8 @@ use std::marker::Model;
 /// Places in an order that the caller keeps, with room for so many. It takes no memory once it is
 /// made.
 ///
-/// Taking out the first or the last one moves no other; taking out another one, or putting one in
-/// before others, moves those behind it.
+/// Taking out the first or the last one moves no other, and putting one in before all moves them so
+/// rarely that it costs a step or two. Elsewhere either moves those behind it.
 pub struct PlaceQueue {
     items: Vec<u32>,
     /// How many of the items are taken out already.
@@ -58,6 +58,19 @@ fn make_room(items: &mut Vec<u32>, start: usize) -> usize
     0
 }
 
+/// Makes a gap before the items, half as long as the room behind them, and answers how long it is.
+fn make_gap(items: &mut Vec<u32>) -> usize
+    ensures same { drop result items.new.items ≡ items.old.items }
+    ensures within { result ≤ length items.new.items }
+    ensures capacity { vec_capacity items.old ≤ vec_capacity items.new }
+{
+    let (count, room) = (items.len(), items.capacity() - items.len());
+    let gap = room / 2;
+    items.resize(count + gap, 0).unwrap();
+    items.rotate_left(count);
+    gap
+}
+
 impl PlaceQueue {
     /// These places, with room for so many. With twice the room in the list, what stands behind the
     /// gap is moved so rarely that it costs a step or two each time.
@@ -79,19 +92,51 @@ impl PlaceQueue {
         &self.items[self.start..]
     }
 
+    /// Sees to a gap before the first place, if there is room for one.
+    fn open_gap(&mut self)
+        ensures { self.new ≡ self.old }
+    {
+        if self.start == 0 && !self.items.is_empty() {
+            self.start = make_gap(&mut self.items);
+        }
+    }
+
+    /// Puts a place before the first one, where there is a gap; says whether there is.
+    fn put_first(&mut self, place: u32) -> bool
+        ensures put { result ≡ true → self.new ≡ record self.old
+            { items = place ∷ self.old.items } }
+        ensures full { result ≡ false → self.new ≡ self.old }
+    {
+        self.open_gap();
+        if self.start == 0 {
+            return false;
+        }
+        self.start -= 1;
+        self.items[self.start] = place;
+        true
+    }
+
+    /// Puts a place behind so many, and moves those that follow.
+    fn put_behind(&mut self, at: usize, place: u32)
+        requires at { at ≤ length self.old.items }
+        requires room { length self.old.items < self.old.room }
+        ensures { self.new ≡ record self.old { items = insert self.old.items at place } }
+    {
+        self.start = make_room(&mut self.items, self.start);
+        self.items.insert(self.start + at, place).unwrap();
+    }
+
     /// Puts a place before the one that has this number, counted from 0, or behind all.
     pub fn insert(&mut self, at: usize, place: u32)
         requires at { at ≤ length self.old.items }
         requires room { length self.old.items < self.old.room }
         ensures { self.new ≡ record self.old { items = insert self.old.items at place } }
     {
-        if at == 0 && self.start > 0 {
-            self.start -= 1;
-            self.items[self.start] = place;
-            return;
+        if at > 0 {
+            self.put_behind(at, place);
+        } else if !self.put_first(place) {
+            self.put_behind(0, place);
         }
-        self.start = make_room(&mut self.items, self.start);
-        self.items.insert(self.start + at, place).unwrap();
     }
 
     /// Takes out the place that has this number, counted from 0.

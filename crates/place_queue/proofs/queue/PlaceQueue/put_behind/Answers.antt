@@ -1,6 +1,6 @@
 use Rattle.std.proofs.Common.{◌∙◌, refl}
 use Rattle.place_queue.proofs.Dropping.{put_in}
-use Rattle.place_queue.proofs.queue.PlaceQueue.insert.Goals as goal
+use Rattle.place_queue.proofs.queue.PlaceQueue.put_behind.Goals as goal
 
 pub returns : goal.returns
 returns c =
