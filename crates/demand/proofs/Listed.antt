@@ -1,6 +1,6 @@
 -- What the calls list.
 use Rattle.std.proofs.Common.{ℕ, ◌+◌, ◌≤◌, ◌<◌, ◌≡◌, Bool, List, [], ◌∷◌, map, length, inl, inr, refl, sym, ◌∙◌, ap}
-use Rattle.std.proofs.Common.{arith, filter, zero-add}
+use Rattle.std.proofs.Common.{arith, cond, filter, suc, true, zero, zero-add}
 use Rattle.std.specs.Prelude.{slice_get, slice_index, All}
 use Rattle.std.specs.List.{enumerate_from, range_with_len}
 use Rattle.std.proofs.lemmas.Bool.{cases_Bool}
@@ -33,6 +33,28 @@ pub flagged_proposed : (s : State) (orders : List CallOrder) (bars : List ℕ) (
 flagged_proposed s orders bars flags is =
     ap (λ fs. map (λ (x : ℕ × Bool). x.0) (filter (λ (x : ℕ × Bool). x.1) (enumerate_from 0 fs))) is
     ∙ flagged_are (λ e. is_proposed s orders bars e.0 e.1) 0 (entries s)
+
+-- a list with one that passes makes something
+pub makes_some : {X : Type 0} (p : ℕ → Bool) (f : ℕ → X) (xs : List ℕ) (i : ℕ) → i < length xs
+    → p (slice_index xs i) ≡ true → map f (filter p xs) ≡ [] → ⊥
+makes_some p f [] i lt passes none = absurd (omega (arith, lt))
+makes_some p f (x ∷ xs) zero lt passes none =
+    let kept : f x ∷ map f (filter p xs) ≡ [] =
+    ap (λ b. map f (cond b (x ∷ filter p xs) (filter p xs))) (sym passes) ∙ none in
+    let long : suc (length (map f (filter p xs))) ≡ 0 = ap length kept in
+    absurd (omega arith)
+makes_some p f (x ∷ xs) (suc i) lt passes none =
+    elim (cases_Bool (p x)) [
+      | inl here ↦
+          let kept : f x ∷ map f (filter p xs) ≡ [] =
+          ap (λ b. map f (cond b (x ∷ filter p xs) (filter p xs))) (sym here) ∙ none in
+          let long : suc (length (map f (filter p xs))) ≡ 0 = ap length kept in
+          absurd (omega arith)
+      | inr fails ↦
+          let later : map f (filter p xs) ≡ [] =
+          ap (λ b. map f (cond b (x ∷ filter p xs) (filter p xs))) (sym fails) ∙ none in
+          makes_some p f xs i (omega arith) passes later
+    ]
 
 numbered : (p : Wish × Mark → Bool) (n count : ℕ) (es : List (Wish × Mark)) → n + length es ≤ count
     → All (λ k. k < count)

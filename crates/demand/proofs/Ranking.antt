@@ -12,9 +12,9 @@ use Rattle.std.proofs.lemmas.List.FromFn.{get_or-map-range_with_len}
 use Rattle.admit_core.specs.declared.dossier.Wish.{Wish}
 use Rattle.admit_core.specs.declared.state.Mark.{Mark}
 use Rattle.admit_core.specs.declared.ranking.CallOrder.{CallOrder}
-use Rattle.admit_core.specs.Lists.{is_among}
+use Rattle.admit_core.specs.Lists.{ascending, is_among}
 use Rattle.admit_core.specs.State.{State, entries, has_school, holds_bed}
-use Rattle.admit_core.specs.Proposals.{is_proposed, proposed, demands_bed, demanded_ranks}
+use Rattle.admit_core.specs.Proposals.{is_proposed, proposed, demands_bed}
 use Rattle.admit_core.specs.Boarding.{name_of}
 use Rattle.admit_core.proofs.Tests.{Ascends, same_members, ascends_ascending, among-ascending}
 use Rattle.admit_core.proofs.Plain.{nat_eq_sym}
@@ -23,7 +23,7 @@ use Rattle.proposals.specs.declared.demands.Demand.{Demand}
 use Rattle.day_state.specs.Kept.{wish_in}
 use Rattle.day_state.proofs.Places.{entry_in, entries_by_place}
 use Rattle.proposals.specs.Demands.{demands_of}
-use Rattle.demand.specs.Needs.{needs_bed, demand_in, same_rank}
+use Rattle.demand.specs.Needs.{needs_bed, demand_in, demands_in, first_wish, firsts_by_rank, same_rank}
 
 -- at this rank
 abbrev at_rank : ℕ → Demand → Bool
@@ -232,10 +232,10 @@ found_placed test r n (e ∷ es) =
       | inr fails ↦ rw fails later
     ]
 
-wish_found : (o : Option (ℕ × (Wish × Mark))) (y : Demand) → option_map demand_at o ≡ Some y
-    → unwrap_or (option_map (λ x. x.0) o) 0 ≡ y.wish
-wish_found None y e = absurd (cc)
-wish_found (Some x) y e = let is : demand_at x ≡ y = (cc) in ap (λ (d : Demand). d.wish) is
+wish_of : (o : Option (ℕ × (Wish × Mark)))
+    → unwrap_or (option_map (λ (x : Demand). x.wish) (option_map demand_at o)) 0 ≡ unwrap_or (option_map (λ x. x.0) o) 0
+wish_of None = refl
+wish_of (Some x) = refl
 
 -- a list whose wishes are the names of its ranks
 named : (name : ℕ → ℕ) (zs : List Demand) → AllByRecursion (λ y. name y.rank ≡ y.wish) zs
@@ -263,39 +263,47 @@ entry_wishes s long k d lt =
     ∙ sym (ap (λ (e : Wish × Mark). e.0) (ap (λ es. get_or es k d) (entries_by_place s long)
     ∙ get_or-map-range_with_len (entry_in s) 0 n k k d within (zero-add k)))
 
--- the firsts of what is put in order are the demanded ranks with their names
-pub demands_are : (s : State) (orders : List CallOrder) (bars : List ℕ) (h : ℕ) (places : List ℕ)
-    (by_place sorted firsts : List Demand)
-    → length s.marks ≡ length s.dossier.wishes → places ≡ proposed s orders bars
-    → by_place ≡ map (demand_in s.dossier.wishes) (filter (needs_bed s h) places)
-    → IsPermutation by_place sorted → IsNonDecreasingBy (λ x. x.rank) sorted
-    → IsStableByKey (λ x. x.rank) nat_cmp by_place sorted
-    → firsts ≡ dedup same_rank sorted → firsts ≡ demands_of s orders bars h
-demands_are s orders bars h places by_place sorted firsts long are placed_are moved rising stable firsts_are =
-    let es = entries s in
-    let test = λ (e : Wish × Mark). demands_bed s orders bars h e.0 e.1 in
-    let name = name_of s orders bars h in
+-- the firsts of what is put in order are the first of each rank
+pub firsts_are : (by_place sorted : List Demand) → IsPermutation by_place sorted
+    → IsNonDecreasingBy (λ x. x.rank) sorted → IsStableByKey (λ x. x.rank) nat_cmp by_place sorted
+    → dedup same_rank sorted ≡ firsts_by_rank by_place
+firsts_are by_place sorted moved rising stable =
+    let name = first_wish by_place in
     let rank = λ (x : Demand). x.rank in
     let zs = dedup same_rank sorted in
-    let is : by_place ≡ placed test 0 es =
-    placed_are ∙ ap (λ ks. map (demand_in s.dossier.wishes) (filter (needs_bed s h) ks)) are
-    ∙ from_places s h (λ e. is_proposed s orders bars e.0 e.1) 0 es (entry_wishes s long) in
     let rises = rises_from sorted rising in
-    let own : (r : ℕ) → filter (at_rank r) sorted ≡ filter (at_rank r) (placed test 0 es) = λ r.
-    stable_own rank by_place sorted moved stable r ∙ ap (filter (at_rank r)) is in
-    let find_same : (r : ℕ) → find (at_rank r) sorted ≡ find (at_rank r) (placed test 0 es) = λ r.
-    find_first (at_rank r) sorted ∙ ap first (own r) ∙ sym (find_first (at_rank r) (placed test 0 es)) in
+    let own : (r : ℕ) → filter (at_rank r) sorted ≡ filter (at_rank r) by_place = λ r.
+    stable_own rank by_place sorted moved stable r in
+    let find_same : (r : ℕ) → find (at_rank r) sorted ≡ find (at_rank r) by_place = λ r.
+    find_first (at_rank r) sorted ∙ ap first (own r) ∙ sym (find_first (at_rank r) by_place) in
     let named_so : (y : Demand) → find (at_rank y.rank) sorted ≡ Some y → name y.rank ≡ y.wish = λ y found.
-    wish_found (find (λ x. test x.1 && (x.1.0.board_rank == y.rank)) (enumerate_from 0 es)) y
-    (sym (found_placed test y.rank 0 es) ∙ sym (find_same y.rank) ∙ found) in
-    let members : (r : ℕ) → is_among r (map rank zs) ≡ is_among r (demanded_ranks s orders bars h) = λ r.
+    ap (λ (o : Option Demand). unwrap_or (option_map (λ (x : Demand). x.wish) o) 0)
+    (sym (find_same y.rank) ∙ found) in
+    let members : (r : ℕ) → is_among r (map rank zs) ≡ is_among r (ascending (map rank by_place)) = λ r.
     ranks_dedup r sorted ∙ any_turned r sorted
     ∙ any_first (at_rank r) sorted ∙ ap (λ ys. is_some (first ys)) (own r)
-    ∙ sym (any_first (at_rank r) (placed test 0 es))
-    ∙ sym (any_turned r (placed test 0 es)) ∙ ap (is_among r) (ranks_placed test 0 es)
-    ∙ sym (among-ascending r (map (λ e. e.0.board_rank) (filter test es))) in
-    firsts_are
-    ∙ named name zs (each_named name sorted zs named_so (first_of sorted rises))
+    ∙ sym (any_first (at_rank r) by_place)
+    ∙ sym (any_turned r by_place)
+    ∙ sym (among-ascending r (map rank by_place)) in
+    named name zs (each_named name sorted zs named_so (first_of sorted rises))
     ∙ ap (map (λ r. record { rank = r; wish = name r }))
-    (same_members (map rank zs) (demanded_ranks s orders bars h) (ascends_dedup sorted rises)
-    (ascends_ascending (map (λ e. e.0.board_rank) (filter test es))) members)
+    (same_members (map rank zs) (ascending (map rank by_place)) (ascends_dedup sorted rises)
+    (ascends_ascending (map rank by_place)) members)
+
+-- of the proposed wishes they are the demanded ranks with their names
+pub proposed_firsts : (s : State) (orders : List CallOrder) (bars : List ℕ) (h : ℕ) (places : List ℕ)
+    → length s.marks ≡ length s.dossier.wishes → places ≡ proposed s orders bars
+    → firsts_by_rank (demands_in s places h) ≡ demands_of s orders bars h
+proposed_firsts s orders bars h places long are =
+    let es = entries s in
+    let test = λ (e : Wish × Mark). demands_bed s orders bars h e.0 e.1 in
+    let is : demands_in s places h ≡ placed test 0 es =
+    ap (λ ks. demands_in s ks h) are
+    ∙ from_places s h (λ e. is_proposed s orders bars e.0 e.1) 0 es (entry_wishes s long) in
+    let same_name : (r : ℕ) → first_wish (placed test 0 es) r ≡ name_of s orders bars h r = λ r.
+    ap (λ (o : Option Demand). unwrap_or (option_map (λ (x : Demand). x.wish) o) 0) (found_placed test r 0 es)
+    ∙ wish_of (find (λ x. test x.1 && (x.1.0.board_rank == r)) (enumerate_from 0 es)) in
+    let demand = λ (name : ℕ → ℕ) (r : ℕ). let d : Demand = record { rank = r; wish = name r } in d in
+    ap firsts_by_rank is
+    ∙ ap (λ name. map (demand name) (ascending (map (λ x. x.rank) (placed test 0 es)))) (λ i r. same_name r i)
+    ∙ ap (λ ranks. map (demand (name_of s orders bars h)) (ascending ranks)) (ranks_placed test 0 es)

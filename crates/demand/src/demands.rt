@@ -1,10 +1,10 @@
 //! The demanded ranks of a school, with the wishes that demand them.
-ghost use Rattle.std.specs.Prelude.{◌≡◌, ℕ, ◌<◌, length, List, map, filter, All, IfOk};
+ghost use Rattle.std.specs.Prelude.{◌≡◌, ℕ, ◌<◌, [], length, List, All, IfOk, IsOk};
 ghost use Rattle.std.specs.List.{dedup};
 ghost use Rattle.admit_core.specs.declared.ranking.CallOrder.{CallOrder};
 ghost use Rattle.admit_core.specs.Proposals.{proposed};
 ghost use Rattle.proposals.specs.Demands.{demands_of};
-ghost use Rattle.demand.specs.Needs.{needs_bed, demand_in, same_rank};
+ghost use Rattle.demand.specs.Needs.{needs_bed, demand_in, demands_in, firsts_by_rank, same_rank};
 
 use admit_core::OutOfMemory;
 use day_state::DayState;
@@ -39,8 +39,8 @@ fn demands_by_place(
     school: u32,
 ) -> Result<Vec<Demand>, OutOfMemory>
     requires { All (λ k. k < length state.now.dossier.wishes) places.now }
-    ensures { IfOk result (λ v. v.items ≡ map (demand_in state.now.dossier.wishes)
-        (filter (needs_bed state.now school) places.now)) }
+    ensures demands { IfOk result (λ v. v.items ≡ demands_in state.now places.now school) }
+    ensures always { demands_in state.now places.now school ≡ [] → IsOk result }
 {
     let mut demands = Vec::new(alloc);
     for place in places {
@@ -58,8 +58,9 @@ fn keep_firsts(demands: &mut Vec<Demand>)
     demands.dedup_by_key(|demand| demand.rank);
 }
 
-/// The demanded ranks of a school with their names, from the least rank, where these are the places
-/// of the proposed wishes.
+/// The ranks that wishes among these demand of a school, from the least, each with the first place
+/// that demands it. Of the places of the proposed wishes these are the demanded ranks with their
+/// names.
 pub fn demands_of(
     alloc: Global,
     state: &DayState<'_>,
@@ -67,9 +68,12 @@ pub fn demands_of(
     school: u32,
 ) -> Result<Vec<Demand>, OutOfMemory>
     requires { All (λ k. k < length state.now.dossier.wishes) places.now }
-    ensures { IfOk result (λ v. (orders : List CallOrder) (bars : List ℕ)
+    ensures firsts { IfOk result (λ v.
+        v.items ≡ firsts_by_rank (demands_in state.now places.now school)) }
+    ensures proposed { IfOk result (λ v. (orders : List CallOrder) (bars : List ℕ)
         → places.now ≡ proposed state.now orders bars
         → v.items ≡ demands_of state.now orders bars school) }
+    ensures always { demands_in state.now places.now school ≡ [] → IsOk result }
 {
     let _ = state.marks(); // one for each wish
     let mut demands = demands_by_place(alloc, state, places, school)?;

@@ -2,6 +2,7 @@ use Rattle.std.proofs.Common.{List, [], ◌∷◌, ◌++◌, map, filter, take, 
 use Rattle.proposals.specs.declared.demands.Demand.{Demand}
 use Rattle.demand.specs.Needs.{needs_bed, demand_in}
 use Rattle.proposals.proofs.Picking.{picked, passed_over}
+use Rattle.demand.proofs.Listed.{makes_some}
 use Rattle.demand.proofs.demands.demands_by_place.Goals as goal
 use Rattle.demand.proofs.demands.demands_by_place.Goals.{then-needs_bed+in_ok-push, else-needs_bed}
 
@@ -23,3 +24,10 @@ loop-place-preserved c =
           rw w.demands-is (c.loop-place.invariant ∙ sym (passed_over needs (demand_in ws) places i (omega arith)
           (sym c.needs_bed.ensures ∙ w.if-needs_bed.false)))
     ]
+
+pub returns-in_err-push-clause-always : goal.returns-in_err-push-clause-always
+returns-in_err-push-clause-always c =
+    λ none.
+    absurd (makes_some (needs_bed c.args.state.now c.args.school) (demand_in c.args.state.now.dossier.wishes)
+    c.args.places.now c.loop-place.place-index c.loop-place-test.true
+    (sym c.needs_bed.ensures ∙ c.if-needs_bed.true) none)

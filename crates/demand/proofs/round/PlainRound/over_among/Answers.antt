@@ -12,5 +12,5 @@ returns c =
     let free = c.beds_left.result in
     c.rank_at.ensures
     ∙ ap (λ (xs : List Demand). slice_get (map (λ (x : Demand). x.rank) xs) free)
-    (c.deref.ensures.value ∙ c.in_ok-demands.ensures orders bars c.requires.places)
+    (c.deref.ensures.value ∙ c.in_ok-demands.ensures.proposed orders bars c.requires.places)
     ∙ over_is s orders c.args.self.now.ceilings.items bars c.args.school free c.requires.school c.beds_left.ensures

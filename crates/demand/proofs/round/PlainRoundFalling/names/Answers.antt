@@ -9,7 +9,7 @@ returns c =
     let s = c.args.self.now.state.now in
     let orders = c.args.self.now.orders.now.orders in
     let bars = c.args.self.now.bars.items in
-    let demands = c.deref-2.ensures.value ∙ c.in_ok-demands.ensures orders bars
+    let demands = c.deref-2.ensures.value ∙ c.in_ok-demands.ensures.proposed orders bars
     (c.deref.ensures.value ∙ c.in_ok-places.ensures.places) in
     let P : List ℕ → Type 0 = λ ks. IfOk c.names_up_to.result (λ names. names.items ≡ ks) in
     subst P
