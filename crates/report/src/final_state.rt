@@ -64,8 +64,8 @@ pub fn final_text(alloc: Global, state: &DayState<'_>) -> Result<Vec<u8>, OutOfM
     Ok(text.into_bytes())
 }
 
-/// The date of the offer of the wish at a place, which is offered.
-fn offer_date(state: &DayState<'_>, start: Civil, terms: &Terms, place: u32) -> Civil
+/// The date of the offer of the wish at a place, which is offered; `start` is the date of day 1.
+pub fn offer_date(state: &DayState<'_>, start: Civil, terms: &Terms, place: u32) -> Civil
     requires start { IsCivil start }
     requires place { place < length state.now.dossier.wishes }
     requires before { place < length terms.now.before }

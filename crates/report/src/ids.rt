@@ -34,7 +34,7 @@ impl HasId for School {
 }
 
 /// The id of the wish at a place.
-pub(crate) fn wish_id(dossier: &Dossier, place: u32) -> u32
+pub fn wish_id(dossier: &Dossier, place: u32) -> u32
     requires { place < length dossier.now.wishes }
     ensures { result ≡ wish_id dossier.now place }
 {

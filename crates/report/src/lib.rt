@@ -20,7 +20,8 @@ mod worked;
 
 pub use day::{dated_day_text, day_text, push_dated_day, push_day, push_falls};
 pub use explanation::explain_text;
-pub use final_state::{final_dated_text, final_text, push_dated_final, push_final};
+pub use final_state::{final_dated_text, final_text, offer_date, push_dated_final, push_final};
+pub use ids::wish_id;
 pub use order::{order_text, push_order};
 pub use piece::{Piece, push_after, push_all, push_ascii, push_spaced, push_text};
 pub use refusal::refusal_text;
