@@ -84,6 +84,20 @@ pub(crate) fn mode_of(word: &str, numbers: Numbers) -> Option<Mode>
     }
 }
 
+/// All slots in their order. Most modes read so many of the first.
+static ALL_SLOTS: [Slot; 10] = [
+    Slot::Groups,
+    Slot::Programmes,
+    Slot::Schools,
+    Slot::Rankings,
+    Slot::Boarding,
+    Slot::Wishes,
+    Slot::State,
+    Slot::Ceilings,
+    Slot::Answers,
+    Slot::Chain,
+];
+
 /// The slots that a mode reads, in this order.
 pub fn slots_of(mode: Mode) -> &'static [Slot]
     ensures slots { result.now ≡ Modes.slots_of mode }
@@ -92,37 +106,9 @@ pub fn slots_of(mode: Mode) -> &'static [Slot]
     match mode {
         Mode::Order => &[Slot::Groups, Slot::Rankings],
         Mode::Sample { .. } => &[],
-        Mode::Market => &[
-            Slot::Groups,
-            Slot::Programmes,
-            Slot::Schools,
-            Slot::Rankings,
-            Slot::Boarding,
-            Slot::Wishes,
-        ],
-        Mode::Check => &[
-            Slot::Groups,
-            Slot::Programmes,
-            Slot::Schools,
-            Slot::Rankings,
-            Slot::Boarding,
-            Slot::Wishes,
-            Slot::State,
-            Slot::Ceilings,
-            Slot::Answers,
-            Slot::Chain,
-        ],
-        _ => &[
-            Slot::Groups,
-            Slot::Programmes,
-            Slot::Schools,
-            Slot::Rankings,
-            Slot::Boarding,
-            Slot::Wishes,
-            Slot::State,
-            Slot::Ceilings,
-            Slot::Answers,
-        ],
+        Mode::Market => &ALL_SLOTS[..6],
+        Mode::Check => &ALL_SLOTS,
+        _ => &ALL_SLOTS[..9],
     }
 }
 
