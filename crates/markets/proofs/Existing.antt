@@ -5,11 +5,12 @@ use Rattle.std.specs.Prelude.{All, sum}
 use Rattle.std.specs.List.{range_with_len}
 use Rattle.std.proofs.lemmas.List.Elements.{filter_passes}
 use Rattle.admit_core.specs.declared.records.Fall.{Fall}
-use Rattle.admit_core.specs.Falls.{FallingSystem, IsLawful, IsGreatest, is_overfilled, fall_of, fallen}
+use Rattle.admit_core.specs.Falls.{FallingSystem, IsLawful, IsGreatest, is_overfilled, is_settled, fall_of, fallen}
 use Rattle.bar_fixpoint.specs.Overfilled.{all_overfilled}
 use Rattle.bar_fixpoint.specs.Chosen.{PickedFall}
 use Rattle.bar_fixpoint.proofs.OneFall.{settled_from_none, sum_falls}
-use Rattle.bar_fixpoint.proofs.SoFar.{SoFar, none_so_far, one_more, under_so_far, greatest_so_far}
+use Rattle.admit_core.proofs.FallsLaw.{run_is_greatest}
+use Rattle.bar_fixpoint.proofs.SoFar.{SoFar, none_so_far, one_more, run_so_far, under_so_far}
 
 -- the first place is chosen
 abbrev first : List ℕ → List ℕ → ℕ
@@ -35,13 +36,20 @@ module _ (sys : FallingSystem) (lawful : IsLawful sys) where
         told_of = refl;
       }
 
+  -- where no place is overfilled any more
+  settled_greatest : (falls : List Fall) (bars told : List ℕ) → SoFar sys first [] falls bars told
+      → is_settled sys bars ≡ true → IsGreatest sys bars
+  settled_greatest falls bars told so_far settled =
+      subst (IsGreatest sys) (sym so_far.bars_fell)
+      (run_is_greatest sys lawful falls (run_so_far sys lawful first [] falls bars told so_far settled))
+
   falls_on : (fuel : ℕ) (falls : List Fall) (bars told : List ℕ) → SoFar sys first [] falls bars told → sum bars ≤ fuel
       → (greatest : List ℕ) × IsGreatest sys greatest
   falls_on zero falls bars told so_far le =
       by_list (all_overfilled sys bars)
       (λ none. (
         bars,
-        greatest_so_far sys lawful first [] falls bars told so_far
+        settled_greatest falls bars told so_far
             (settled_from_none sys bars [] (sym none) refl),
       ))
       (λ i is list.
@@ -57,7 +65,7 @@ module _ (sys : FallingSystem) (lawful : IsLawful sys) where
       by_list (all_overfilled sys bars)
       (λ none. (
         bars,
-        greatest_so_far sys lawful first [] falls bars told so_far
+        settled_greatest falls bars told so_far
             (settled_from_none sys bars [] (sym none) refl),
       ))
       (λ i is list.

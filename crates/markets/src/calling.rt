@@ -139,16 +139,6 @@ impl Walk {
         })
     }
 
-    /// Whether the walk was along the call order of this group.
-    fn was_along(&self, group: u32) -> bool
-        ensures { result ≡ true → self.now.group ≡ Some group }
-    {
-        match self.group {
-            Some(last) => last == group,
-            None => false,
-        }
-    }
-
     /// Walks along the call order of a group, unless the last walk was along it.
     pub fn enter(
         &mut self,
@@ -163,7 +153,7 @@ impl Walk {
         ensures walk { OnOk result (IsWalk names.now.keys orders.now.orders self.new) }
         ensures entered { OnOk result (self.new.group ≡ Some group) }
     {
-        if self.was_along(group) {
+        if self.group == Some(group) {
             return Ok(());
         }
         let order = orders.orders.as_slice()[group as usize].list.as_slice();

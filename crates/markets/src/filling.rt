@@ -1,11 +1,11 @@
 //! How many candidates programmes have, with a list of those that have more than their seats.
-ghost use Rattle.std.specs.Prelude.{◌≡◌, ◌<◌, ◌≤◌, length, slice_index, slice_set, IfOk, IsOk, [], nat_lt, true, false, filter};
+ghost use Rattle.std.specs.Prelude.{◌≡◌, ◌<◌, ◌≤◌, length, slice_index, slice_set, IfOk, IsOk, [], filter};
 ghost use Rattle.std.specs.List.{range_with_len};
-ghost use Rattle.std.specs.List.Sorted.{IsNonDecreasing, IsPartitionPoint};
 ghost use Rattle.markets.specs.Fillings.{overfilled, is_over};
 
 use admit_core::OutOfMemory;
 use place_queue::PlaceQueue;
+use proposals::first_not_below;
 use std::alloc::Global;
 use std::marker::Model;
 
@@ -115,14 +115,4 @@ impl Filling {
         }
         self.counts[programme as usize] = count;
     }
-}
-
-/// The first place in a rising list whose number isn't below this one.
-fn first_not_below(numbers: &[u32], number: u32) -> usize
-    requires { IsNonDecreasing numbers.now }
-    ensures within { result ≤ length numbers.now }
-    ensures point { IsPartitionPoint (λ n. nat_lt n number ≡ true) (λ n. nat_lt n number ≡ false)
-        numbers.now result }
-{
-    numbers.partition_point(|other| *other < number)
 }

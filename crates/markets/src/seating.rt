@@ -121,8 +121,8 @@ fn step_down(market: &Ranked<'_>, bars: &mut Vec<u32>, seating: &mut Seating, pr
     }
 }
 
-/// Lowers a bar. It costs the positions that it passes, and the entries by which those who have a
-/// place there move on.
+/// Lowers a bar. It costs the positions that it passes, a step each, and the entries by which those
+/// who have a place there move on.
 pub fn lower_to<L: Ledger>(
     market: &Ranked<'_>,
     bars: &mut Vec<u32>,
@@ -138,6 +138,7 @@ pub fn lower_to<L: Ledger>(
     ensures round { IsRound market.now bars.new.items seating.new.stands.items
         seating.new.places.items seating.new.filling }
     ensures bars { bars.new.items ≡ slice_set bars.old.items programme to }
+    ensures steps { steps.new ≡ steps.old + (slice_index bars.old.items programme - to) }
 {
     let from = bars[programme as usize];
     for _passed in to..from {

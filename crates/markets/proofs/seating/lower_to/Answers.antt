@@ -1,4 +1,4 @@
-use Rattle.std.proofs.Common.{ℕ, List, ◌<◌, ◌≡◌, ◌+◌, ◌-◌, ◌∙◌, arith, length, ap, set, subst, sym}
+use Rattle.std.proofs.Common.{ℕ, List, ◌<◌, ◌≡◌, ◌+◌, ◌-◌, ◌∙◌, arith, length, ap, refl, set, subst, sym}
 use Rattle.std.specs.Prelude.{slice_index}
 use Rattle.std.proofs.lemmas.List.{get_or_default, set-get_or}
 use Rattle.markets.proofs.Rounds.{put_here, set_again}
@@ -15,6 +15,7 @@ loop-passed-preserved g c =
           p_lt
           c.loop-passed.invariant.0 c.step_down.ensures.bars (omega arith),
       c.step_down.ensures.round,
+      omega (arith, c.loop-passed.invariant.2, c.tick.ensures),
     )
 
 pub loop-passed-init : goal.loop-passed-init
@@ -22,7 +23,7 @@ loop-passed-init g c =
     let bars : List ℕ = c.args.bars.now.items in
     let p : ℕ = c.args.programme in
     let same : slice_index bars p ≡ slice_index bars p + c.args.to - c.args.to = omega arith in
-    (sym (set-get_or bars p 0) ∙ ap (set bars p) same, c.requires.round)
+    (sym (set-get_or bars p 0) ∙ ap (set bars p) same, c.requires.round, refl)
 
 pub step_down-requires-clause-above : goal.step_down-requires-clause-above
 step_down-requires-clause-above g c =
@@ -57,3 +58,19 @@ returns-clause-bars g c =
     ) in
     let P = λ (v : ℕ). c.loop-passed.bars.items ≡ set bars p v in
     subst P end c.loop-passed.invariant.0
+
+pub returns-clause-steps : goal.returns-clause-steps
+returns-clause-steps g c =
+    let bars : List ℕ = c.args.bars.now.items in
+    let p : ℕ = c.args.programme in
+    let p_lt : p < length bars = omega (arith, c.requires.programme, c.requires.round.seated.one_bar_each) in
+    let from : c.index-from.result.now ≡ slice_index bars p = c.index-from.ensures
+    ∙ get_or_default bars p c.index-from.result.now 0 p_lt in
+    omega (
+      arith,
+      from,
+      c.requires.lower,
+      c.loop-passed-test.false,
+      c.loop-passed.auto._passed-end (omega (arith, from, c.requires.lower)),
+      c.loop-passed.invariant.2,
+    )
