@@ -1,6 +1,7 @@
 -- Reading order. Each file says in its first line what it shows.
 -- Finding: Firsts, Places, Found, FirstRows, NotedKeys, KeyPlaces; ids that rise: Rising,
--- RisingIds; keys of hashes: MixedNumbers; numbers in order: SortedNumbers.
+-- RisingIds; keys of hashes: MixedNumbers; numbers in order: SortedNumbers; tags of rows in order:
+-- DealtTags, TaggedRows.
 -- Scans of a slot: Scans, LastRow, AcceptedRows, Outcomes.
 -- Faults shown to be none without a scan: Faultless, WishTests; ranks: DealtRows; wishes: Runs,
 -- InOrder, TwiceWished, TwicePreferred, WhoIsRanked.
@@ -13,6 +14,7 @@ pub mod AcceptedRows
 pub mod Buckets
 pub mod BuiltGroups
 pub mod DealtRows
+pub mod DealtTags
 pub mod FaultFree
 pub mod Faultless
 pub mod FirstRows
@@ -38,6 +40,7 @@ pub mod RowFacts
 pub mod Runs
 pub mod Scans
 pub mod SortedNumbers
+pub mod TaggedRows
 pub mod TwiceWished
 pub mod Undated
 pub mod Valid

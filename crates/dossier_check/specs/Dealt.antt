@@ -11,23 +11,18 @@ use Rattle.admit_core.specs.Standing.{group_of_row, place_of, ranked_in}
 use Rattle.dossier_check.specs.declared.ranks.Dealt.{Dealt}
 use Rattle.dossier_check.specs.declared.who_is_ranked.WhoIsRanked.{WhoIsRanked}
 
--- the candidates of a list, ascending
-abbrev pub ascending_candidates : List Ranked → List ℕ
-ascending_candidates list = sorted_by (λ n. n) (map (λ r. r.candidate) list)
-
 -- the candidates of a group, ascending
 abbrev pub candidates_in : List RankRow → ℕ → List ℕ
-candidates_in rankings group = ascending_candidates (ranked_in rankings group)
+candidates_in rankings group = sorted_by (λ n. n) (map (λ r. r.candidate) (ranked_in rankings group))
 
--- a group made of its row and of its candidates in file order
+-- the candidates of a group, by rank
+abbrev pub ranked_by : List RankRow → ℕ → List Ranked
+ranked_by rankings group = sorted_by (λ r. r.rank) (ranked_in rankings group)
+
+-- a group made of its row and of its candidates
 abbrev pub built : GroupRow → List Ranked → RankGroup
 built g list =
-    record {
-      id = g.id;
-      scholar_pct = g.scholar_pct;
-      resident_pct = g.resident_pct;
-      list = sorted_by (λ r. r.rank) list;
-    }
+    record { id = g.id; scholar_pct = g.scholar_pct; resident_pct = g.resident_pct; list = list }
 
 -- the places of the groups of rows; the number of groups where a row's group is none of them
 abbrev pub places_in : List ℕ → List RankRow → List ℕ

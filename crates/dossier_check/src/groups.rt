@@ -1,28 +1,20 @@
-//! The candidates of each group, sorted by rank.
-ghost use Rattle.std.specs.Prelude.{◌≡◌, ◌<◌, ◌++◌, ◌∷◌, [], OnOk, IfOk, List, map, slice_set, slice_index_or, length};
+//! The candidates of each group, in order by rank or by candidate.
+ghost use Rattle.std.specs.Prelude.{◌≡◌, ◌<◌, ◌^◌, ◌++◌, ◌∷◌, [], All, OnOk, IfOk, IfSome, List, map, slice_set, slice_index_or, length, true};
 ghost use Rattle.admit_core.specs.Standing.{ranked_in, group_of_row, place_of};
 ghost use Rattle.admit_core.specs.Lists.{sorted_by};
 ghost use Rattle.admit_core.specs.Relations.{group_ids};
-ghost use Rattle.dossier_check.specs.Dealt.{built, places_in};
+ghost use Rattle.dossier_check.specs.Dealt.{built, places_in, ranked_by};
 
+use crate::by_key::by_key;
+use crate::noted::Key;
+use crate::placed::places_in;
 use crate::row_ids::RowIds;
+use crate::rules::ItsRank;
 use admit_core::{GroupRow, OutOfMemory, RankGroup, RankRow, Ranked, Sequence, Tables};
 use std::alloc::Global;
 
-/// Puts candidates in order by rank.
-pub(crate) fn sort_by_rank(list: &mut Vec<Ranked>) -> Result<(), OutOfMemory>
-    ensures { OnOk result (list.new.items ≡ sorted_by (λ r. r.rank) list.old.items) }
-{
-    list.sort_by_key(|r| r.rank)?;
-    Ok(())
-}
-
 /// Adds an item to one of several lists.
-pub(crate) fn add(
-    lists: &mut Vec<Vec<Ranked>>,
-    place: usize,
-    item: Ranked,
-) -> Result<(), OutOfMemory>
+fn add(lists: &mut Vec<Vec<Ranked>>, place: usize, item: Ranked) -> Result<(), OutOfMemory>
     requires { place < length lists.old.items }
     ensures added { OnOk result (map (λ l. l.items) lists.new.items
         ≡ slice_set (map (λ l. l.items) lists.old.items) place
@@ -85,7 +77,7 @@ fn roomy_lists(
 }
 
 /// Adds a candidate to the list of their group, which stands at this place.
-pub(crate) fn lay_row(
+fn lay_row(
     lists: &mut Vec<Vec<Ranked>>,
     groups: &RowIds,
     row: &RankRow,
@@ -117,7 +109,7 @@ pub(crate) fn lay_row(
 }
 
 /// The candidates of each group, in file order.
-pub(crate) fn ranked_lists(
+fn ranked_lists(
     alloc: Global,
     rankings: &[RankRow],
     groups: &RowIds,
@@ -134,45 +126,107 @@ pub(crate) fn ranked_lists(
     Ok(lists)
 }
 
-/// A group with its candidates, who are given in file order, sorted by rank.
-fn rank_group(row: &GroupRow, mut list: Vec<Ranked>) -> Result<RankGroup, OutOfMemory>
-    ensures { IfOk result (λ group. group ≡ built row.now list.items) }
+/// The candidates of each group, in order by a key.
+pub(crate) fn lists_by<Q: Key<RankRow, u32>>(
+    alloc: Global,
+    rule: &Q,
+    rankings: &[RankRow],
+    groups: &RowIds,
+) -> Result<Vec<Vec<Ranked>>, OutOfMemory>
+    requires small { length rankings.now < 2 ^ 32 }
+    requires few { length groups.now.keys < 2 ^ 32 }
+    ensures { IfOk result (λ lists. map (λ l. l.items) lists.items
+        ≡ map (ranked_in (sorted_by Q.key rankings.now)) groups.now.keys) }
 {
-    sort_by_rank(&mut list)?;
-    Ok(RankGroup {
+    let ordered = by_key(alloc, rule, rankings)?;
+    let rows = ordered.as_slice();
+    let places = places_in(alloc, rows, groups)?;
+    ranked_lists(alloc, rows, groups, places.as_slice())
+}
+
+/// Whether no candidate has a lesser rank than the one before them.
+fn is_by_rank(list: &[Ranked]) -> bool
+    ensures { result ≡ true → list.now ≡ sorted_by (λ r. r.rank) list.now }
+{
+    list.is_sorted_by(|one, next| one.rank <= next.rank)
+}
+
+/// Whether each list is by rank.
+fn are_by_rank(lists: &[Vec<Ranked>]) -> bool
+    ensures { result ≡ true →
+        All (λ l. l.items ≡ sorted_by (λ r. r.rank) l.items) lists.now }
+{
+    for list in lists {
+        if !is_by_rank(list.as_slice()) {
+            return false;
+        }
+    }
+    true
+}
+
+/// The candidates of each group in file order, where they are by rank in it.
+fn lists_in_order(
+    alloc: Global,
+    rankings: &[RankRow],
+    groups: &RowIds,
+    places: &[u32],
+) -> Result<Option<Vec<Vec<Ranked>>>, OutOfMemory>
+    requires { places.now ≡ places_in groups.now.keys rankings.now }
+    ensures { IfOk result (λ found. IfSome found (λ lists.
+        map (λ l. l.items) lists.items ≡ map (ranked_by rankings.now) groups.now.keys)) }
+{
+    let lists = ranked_lists(alloc, rankings, groups, places)?;
+    if are_by_rank(lists.as_slice()) {
+        return Ok(Some(lists));
+    }
+    Ok(None)
+}
+
+/// The candidates of each group, by rank.
+pub(crate) fn lists_by_rank(
+    alloc: Global,
+    rankings: &[RankRow],
+    groups: &RowIds,
+    places: &[u32],
+) -> Result<Vec<Vec<Ranked>>, OutOfMemory>
+    requires places { places.now ≡ places_in groups.now.keys rankings.now }
+    requires small { length rankings.now < 2 ^ 32 }
+    requires few { length groups.now.keys < 2 ^ 32 }
+    ensures { IfOk result (λ lists.
+        map (λ l. l.items) lists.items ≡ map (ranked_by rankings.now) groups.now.keys) }
+{
+    match lists_in_order(alloc, rankings, groups, places)? {
+        Some(lists) => Ok(lists),
+        None => lists_by(alloc, &ItsRank, rankings, groups),
+    }
+}
+
+/// A group with its candidates.
+fn rank_group(row: &GroupRow, list: Vec<Ranked>) -> RankGroup
+    ensures { result ≡ built row.now list.items }
+{
+    RankGroup {
         id: row.id,
         scholar_pct: row.scholar_pct,
         resident_pct: row.resident_pct,
         list: Sequence::from_vec(list),
-    })
+    }
 }
 
-/// Adds a group with its candidates, who are given in file order, sorted by rank.
-fn push_group(
-    done: &mut Vec<RankGroup>,
-    row: &GroupRow,
-    list: Vec<Ranked>,
-) -> Result<(), OutOfMemory>
-    ensures { OnOk result (done.new.items ≡ done.old.items ++ built row.now list.items ∷ []) }
-{
-    done.push(rank_group(row, list)?)?;
-    Ok(())
-}
-
-/// The groups with their candidates, who are given in file order, sorted by rank.
+/// The groups with their candidates, who are given by rank.
 pub(crate) fn rank_groups(
     alloc: Global,
     tables: &Tables,
     lists: Vec<Vec<Ranked>>,
 ) -> Result<Vec<RankGroup>, OutOfMemory>
     requires { map (λ l. l.items) lists.items
-        ≡ map (ranked_in tables.now.rankings) (group_ids tables.now) }
+        ≡ map (ranked_by tables.now.rankings) (group_ids tables.now) }
     ensures { IfOk result (λ gs. gs.items ≡ map (group_of_row tables.now) tables.now.groups) }
 {
     let rows = tables.groups.as_slice();
     let mut done = Vec::with_capacity(alloc, rows.len())?;
     for (row, list) in rows.iter().zip(lists) {
-        push_group(&mut done, row, list)?;
+        done.push(rank_group(row, list))?;
     }
     Ok(done)
 }

@@ -6,7 +6,7 @@
 
 mod answers;
 mod apart;
-mod by_candidate;
+mod by_key;
 mod dates;
 mod day_falls;
 mod groups;
@@ -29,6 +29,7 @@ mod scan;
 mod slots;
 mod state;
 mod statuses;
+mod tags;
 mod who_is_ranked;
 mod wish_ranks;
 mod wished;

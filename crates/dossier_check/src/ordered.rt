@@ -9,11 +9,11 @@ ghost use Rattle.dossier_check.specs.Seen.{KnowsCandidates};
 ghost use Rattle.dossier_check.specs.WishTests.{id_repeats, other_tests};
 
 use crate::apart::shown_apart;
-use crate::by_candidate::by_candidate;
+use crate::by_key::by_key;
 use crate::known::Known;
 use crate::noted::FirstWish;
 use crate::row_ids::RowIds;
-use crate::rules::OwnId;
+use crate::rules::{ItsCandidate, OwnId};
 use crate::scan::scanned;
 use crate::slots::check_ids;
 use crate::wishes::{WishKeys, kept_in, other_tests};
@@ -62,7 +62,7 @@ fn candidates_in_order<'a>(
     ensures candidates { IfOk result (λ found. IfSome found (λ firsts.
         KnowsCandidates (get nat_eq firsts) tables.now.wishes)) }
 {
-    let ordered = by_candidate(alloc, tables.wishes.as_slice())?;
+    let ordered = by_key(alloc, &ItsCandidate, tables.wishes.as_slice())?;
     let rows = ordered.as_slice();
     let apart = shown_apart(alloc, rows)?;
     let tests = other_tests(alloc, apart, tables, known)?;

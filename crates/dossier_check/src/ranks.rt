@@ -3,16 +3,16 @@ ghost use Rattle.std.specs.Prelude.{◌≡◌, ◌<◌, ◌+◌, ◌^◌, ◌++�
 ghost use Rattle.std.specs.List.{IsDistinct};
 ghost use Rattle.admit_core.specs.declared.slot.Slot.TheVariants as slots;
 ghost use Rattle.admit_core.specs.Faults.{first_in};
-ghost use Rattle.admit_core.specs.Lists.{sorted_by};
 ghost use Rattle.admit_core.specs.Relations.{ranking_tests, group_ids};
-ghost use Rattle.dossier_check.specs.Dealt.{AreDealt, ascending_candidates, places_in};
+ghost use Rattle.dossier_check.specs.Dealt.{AreDealt, candidates_in, places_in};
 ghost use Rattle.dossier_check.specs.Outcome.{AnswersFault, MayLack};
 
-use crate::groups::{rank_groups, ranked_lists};
+use crate::groups::{lists_by, lists_by_rank, rank_groups};
 use crate::placed::{all_below, places_in};
 use crate::row_ids::RowIds;
+use crate::rules::ItsCandidate;
 use crate::slots::find_rank_fault;
-use admit_core::{InFault, OutOfMemory, RankGroup, Ranked, Tables};
+use admit_core::{InFault, OutOfMemory, RankGroup, RankRow, Ranked, Tables};
 use std::alloc::Global;
 
 /// The rankings by the places of their groups, and the ids of each one's candidates, ascending.
@@ -22,13 +22,6 @@ pub(crate) struct Dealt {
     pub(crate) candidates: Vec<Vec<u32>>,
 }
 
-/// Puts numbers in order.
-fn sort_numbers(numbers: &mut Vec<u32>)
-    ensures { numbers.new.items ≡ sorted_by (λ n. n) numbers.old.items }
-{
-    numbers.sort_unstable();
-}
-
 /// Whether each number is greater than the one before it.
 fn rises(numbers: &[u32]) -> bool
     ensures { result ≡ true → IsDistinct nat_eq numbers.now }
@@ -36,38 +29,51 @@ fn rises(numbers: &[u32]) -> bool
     numbers.is_sorted_by(|one, next| one < next)
 }
 
-/// The candidates of a group, ascending.
-fn ascending_candidates(alloc: Global, list: &[Ranked]) -> Result<Vec<u32>, OutOfMemory>
-    ensures { IfOk result (λ ids. ids.items ≡ ascending_candidates list.now) }
+/// The candidates of a group.
+fn candidates_of(alloc: Global, list: &[Ranked]) -> Result<Vec<u32>, OutOfMemory>
+    ensures { IfOk result (λ ids. ids.items ≡ map (λ r. r.candidate) list.now) }
 {
-    let mut ids = list.iter().map(|ranked| ranked.candidate).collect(alloc)?;
-    sort_numbers(&mut ids);
-    Ok(ids)
+    Ok(list.iter().map(|ranked| ranked.candidate).collect(alloc)?)
 }
 
-/// Adds the candidates of a group, ascending, to those of the groups before it.
-fn push_ascending(
+/// Adds the candidates of a group to those of the groups before it.
+fn push_candidates(
     alloc: Global,
     done: &mut Vec<Vec<u32>>,
     list: &[Ranked],
 ) -> Result<(), OutOfMemory>
     ensures { OnOk result (map (λ l. l.items) done.new.items
-        ≡ map (λ l. l.items) done.old.items ++ ascending_candidates list.now ∷ []) }
+        ≡ map (λ l. l.items) done.old.items ++ map (λ r. r.candidate) list.now ∷ []) }
 {
-    done.push(ascending_candidates(alloc, list)?)?;
+    done.push(candidates_of(alloc, list)?)?;
     Ok(())
 }
 
-/// The candidates of each group, ascending.
+/// The candidates of each group.
 fn candidate_lists(alloc: Global, lists: &[Vec<Ranked>]) -> Result<Vec<Vec<u32>>, OutOfMemory>
     ensures { IfOk result (λ done.
-        map (λ l. l.items) done.items ≡ map (λ l. ascending_candidates l.items) lists.now) }
+        map (λ l. l.items) done.items ≡ map (λ l. map (λ r. r.candidate) l.items) lists.now) }
 {
     let mut done = Vec::with_capacity(alloc, lists.len())?;
     for list in lists {
-        push_ascending(alloc, &mut done, list.as_slice())?;
+        push_candidates(alloc, &mut done, list.as_slice())?;
     }
     Ok(done)
+}
+
+/// The candidates of each group, ascending.
+fn ascending_lists(
+    alloc: Global,
+    rankings: &[RankRow],
+    groups: &RowIds,
+) -> Result<Vec<Vec<u32>>, OutOfMemory>
+    requires small { length rankings.now < 2 ^ 32 }
+    requires few { length groups.now.keys < 2 ^ 32 }
+    ensures { IfOk result (λ done.
+        map (λ l. l.items) done.items ≡ map (candidates_in rankings.now) groups.now.keys) }
+{
+    let lists = lists_by(alloc, &ItsCandidate, rankings, groups)?;
+    candidate_lists(alloc, lists.as_slice())
 }
 
 /// Whether each rank is greater than the one before it.
@@ -111,13 +117,15 @@ fn deal(
 ) -> Result<Dealt, OutOfMemory>
     requires groups { groups.now.keys ≡ group_ids tables.now }
     requires places { places.now ≡ places_in (group_ids tables.now) tables.now.rankings }
+    requires small { length tables.now.rankings < 2 ^ 32 }
+    requires few { length (group_ids tables.now) < 2 ^ 32 }
     ensures { IfOk result (AreDealt tables.now) }
 {
-    let lists = ranked_lists(alloc, tables.rankings.as_slice(), groups, places)?;
-    let candidates = candidate_lists(alloc, lists.as_slice())?;
-    let rankings = rank_groups(alloc, tables, lists)?;
+    let rows = tables.rankings.as_slice();
+    let candidates = ascending_lists(alloc, rows, groups)?;
+    let lists = lists_by_rank(alloc, rows, groups, places)?;
     Ok(Dealt {
-        rankings,
+        rankings: rank_groups(alloc, tables, lists)?,
         candidates,
     })
 }

@@ -140,6 +140,38 @@ impl Key<WishRow, (u32, u32)> for SchoolAndPreference {
     }
 }
 
+/// The candidate of a row.
+#[derive(Drop)]
+pub(crate) struct ItsCandidate;
+
+impl Key<WishRow, u32> for ItsCandidate {
+    ghost key = { λ r. r.candidate };
+
+    fn key_of(&self, row: &WishRow) -> u32 {
+        row.candidate
+    }
+}
+
+impl Key<RankRow, u32> for ItsCandidate {
+    ghost key = { λ r. r.candidate };
+
+    fn key_of(&self, row: &RankRow) -> u32 {
+        row.candidate
+    }
+}
+
+/// The rank of a candidate in a group.
+#[derive(Drop)]
+pub(crate) struct ItsRank;
+
+impl Key<RankRow, u32> for ItsRank {
+    ghost key = { λ r. r.rank };
+
+    fn key_of(&self, row: &RankRow) -> u32 {
+        row.rank
+    }
+}
+
 /// The wish of a status.
 #[derive(Drop)]
 pub(crate) struct ItsWish;

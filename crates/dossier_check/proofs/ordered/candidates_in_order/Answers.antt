@@ -1,11 +1,20 @@
-use Rattle.std.proofs.Common.{◌≡◌, ◌∙◌, nat_eq, Ok, subst, sym}
+use Rattle.std.proofs.Common.{◌≡◌, ◌∙◌, nat_eq, Ok, ap, arith, length, subst, sym}
 use Rattle.std.specs.List.Sorted.{IsPermutation}
 use Rattle.indexmap.specs.IndexMap.{get}
+use Rattle.admit_core.proofs.SortedLists.{IsPermutation-sorted_by, length-sorted_by}
 use Rattle.dossier_check.specs.Seen.{AreFirstWishes}
 use Rattle.dossier_check.proofs.FirstRows.{kept_candidates}
 use Rattle.dossier_check.proofs.Reordered.{candidates_moved, no_fault_moved}
 use Rattle.dossier_check.proofs.WishTests.{found_others}
 use Rattle.dossier_check.proofs.ordered.candidates_in_order.Goals as goal
+
+pub scanned-requires-clause-small : goal.scanned-requires-clause-small
+scanned-requires-clause-small c =
+    let rows = c.as_slice-rows.result.now in
+    let same : length rows ≡ length c.args.tables.now.wishes =
+    ap length (c.as_slice-rows.ensures.value ∙ c.in_ok-ordered.ensures) ∙ length-sorted_by _ _
+    ∙ ap length c.as_slice.ensures in
+    omega (arith, c.requires.small, same)
 
 pub returns-clause-fault : goal.returns-clause-fault
 returns-clause-fault c there =
@@ -14,7 +23,7 @@ returns-clause-fault c there =
     let h = c.in_ok-apart in
     let moved : IsPermutation t.wishes rows =
     subst (λ xs. IsPermutation xs rows) c.as_slice.ensures
-    (subst (IsPermutation c.as_slice.result.now) (sym c.as_slice-rows.ensures.value) c.in_ok-ordered.ensures.moved) in
+    (subst (IsPermutation c.as_slice.result.now) (sym c.as_slice-rows.ensures.value) (subst (IsPermutation _) (sym c.in_ok-ordered.ensures) (IsPermutation-sorted_by _ _))) in
     let ok : c.scanned.result ≡ Ok c.in-Some.tests = rw c.in-Some.is at c.in_ok-tests-2.ensures in
     no_fault_moved t t.wishes rows moved
     (sym (found_others t rows h.apart.wishes h.apart.preferences _ h.ensures.wishes h.ensures.preferences
@@ -27,7 +36,7 @@ returns-clause-candidates c =
     let rows = c.as_slice-rows.result.now in
     let moved : IsPermutation t.wishes rows =
     subst (λ xs. IsPermutation xs rows) c.as_slice.ensures
-    (subst (IsPermutation c.as_slice.result.now) (sym c.as_slice-rows.ensures.value) c.in_ok-ordered.ensures.moved) in
+    (subst (IsPermutation c.as_slice.result.now) (sym c.as_slice-rows.ensures.value) (subst (IsPermutation _) (sym c.in_ok-ordered.ensures) (IsPermutation-sorted_by _ _))) in
     let ok : c.scanned.result ≡ Ok c.in-Some.tests = rw c.in-Some.is at c.in_ok-tests-2.ensures in
     let seen = rw ok at c.scanned.ensures.seen in
     let firsts : AreFirstWishes (get nat_eq c.kept_in-firsts.result.0) rows =

@@ -1,6 +1,5 @@
-use Rattle.std.proofs.Common.{[], ◌∷◌, take, sym, ◌∙◌}
+use Rattle.std.proofs.Common.{[], ◌∷◌, map, take, sym, ◌∙◌}
 use Rattle.std.proofs.lemmas.List.{take_more, map-append}
-use Rattle.dossier_check.specs.Dealt.{ascending_candidates}
 use Rattle.dossier_check.proofs.ranks.candidate_lists.Goals as goal
 
 pub loop-list-preserved : goal.loop-list-preserved
@@ -8,6 +7,6 @@ loop-list-preserved c =
     let ls = c.args.lists.now in
     let i = c.loop-list.list-index in
     let list = c.list-item.result in
-    c.in_ok-push_ascending.ensures
+    c.in_ok-push_candidates.ensures
     ∙ rw (c.loop-list.invariant, c.as_slice.ensures.value, take_more ls i list c.loop-list-test.true, ← c.list-item.is)
-    (sym (map-append (λ v. ascending_candidates v.items) (take i ls) (list ∷ [])))
+    (sym (map-append (λ v. map (λ r. r.candidate) v.items) (take i ls) (list ∷ [])))

@@ -1,0 +1,12 @@
+use Rattle.std.proofs.Common.{◌≡◌, All, subst}
+use Rattle.admit_core.specs.Lists.{sorted_by}
+use Rattle.dossier_check.proofs.BuiltGroups.{by_rank_already}
+use Rattle.dossier_check.proofs.groups.lists_in_order.Goals as goal
+
+pub returns-then-are_by_rank : goal.returns-then-are_by_rank
+returns-then-are_by_rank c =
+    let lists = c.in_ok-lists.lists.items in
+    by_rank_already (λ l. l.items) c.args.rankings.now c.args.groups.now.keys lists
+    (subst (All (λ l. l.items ≡ sorted_by (λ r. r.rank) l.items)) c.as_slice.ensures.value
+    (c.are_by_rank.ensures c.if-are_by_rank.true))
+    c.in_ok-lists.ensures
