@@ -1,5 +1,6 @@
 //! The statuses of the wishes.
-ghost use Rattle.std.specs.Prelude.{◌≡◌, ◌<◌, ◌∷◌, List, map, length, slice_set, IfOk};
+ghost use Rattle.std.specs.Prelude.{◌≡◌, ◌<◌, ◌∷◌, List, map, length, replicate, slice_set, IfOk, OnErr};
+ghost use Rattle.admit_core.specs.declared.state.Status.TheVariants.{Waiting};
 ghost use Rattle.admit_core.specs.declared.tables.StateRow.{StateRow};
 ghost use Rattle.admit_core.specs.declared.tables.WishRow.{WishRow};
 ghost use Rattle.admit_core.specs.Standing.{status_of_row};
@@ -32,19 +33,31 @@ fn put_status(statuses: &mut Vec<Status>, wishes: &RowIds, row: &StateRow)
     }
 }
 
+/// Statuses of a number of wishes, all of which wait. It lacks memory only where there is a wish.
+fn all_waiting(alloc: Global, wishes: usize) -> Result<Vec<Status>, OutOfMemory>
+    ensures waiting { IfOk result (λ statuses. statuses.items ≡ replicate wishes Waiting) }
+    ensures memory { OnErr result (0 < wishes) }
+{
+    if wishes == 0 {
+        return Ok(Vec::new(alloc));
+    }
+    Ok(vec![in alloc; Status::Waiting; wishes]?)
+}
+
 /// The statuses of the wishes; one that no row names waits. Where two rows name a wish, the first
-/// counts, so the last row is put first.
+/// counts, so the last row is put first. It lacks memory only where there is a wish.
 pub(crate) fn statuses_of(
     alloc: Global,
     tables: &Tables,
     wishes: &RowIds,
 ) -> Result<Vec<Status>, OutOfMemory>
     requires { wishes.now.keys ≡ map (λ w. w.id) tables.now.wishes }
-    ensures { IfOk result (λ statuses.
+    ensures statuses { IfOk result (λ statuses.
         statuses.items ≡ map (status_of_row tables.now) tables.now.wishes) }
+    ensures memory { OnErr result (0 < length tables.now.wishes) }
 {
     let rows = tables.state.as_slice();
-    let mut statuses = vec![in alloc; Status::Waiting; tables.wishes.len()]?;
+    let mut statuses = all_waiting(alloc, tables.wishes.len())?;
     for after in 0..rows.len() {
         put_status(&mut statuses, wishes, &rows[rows.len() - 1 - after]);
     }

@@ -9,7 +9,7 @@ pub loop-after-init : goal.loop-after-init
 loop-after-init c =
     let t = c.args.tables.now in
     let put : c.in_ok-statuses.statuses.items ≡ map (status_in (drop (length t.state - 0) t.state)) t.wishes =
-    c.in_ok-statuses.ensures.items_if_clones_equal (λ y e. e) ∙ ap (λ n. replicate n Waiting) c.len.ensures
+    c.in_ok-statuses.ensures.waiting ∙ ap (λ n. replicate n Waiting) c.len.ensures
     ∙ none_put t.state t.wishes in
     record {
       put = put;
@@ -32,8 +32,8 @@ loop-after-preserved c =
       len = c.put_status.ensures.len ∙ c.loop-after.invariant.len;
     }
 
-pub returns : goal.returns
-returns c =
+pub returns-clause-statuses : goal.returns-clause-statuses
+returns-clause-statuses c =
     let t = c.args.tables.now in
     let after = c.loop-after.after in
     let le : length t.state ≤ after = subst (λ rows. length rows ≤ after) c.as_slice-rows.ensures
