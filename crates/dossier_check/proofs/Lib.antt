@@ -4,7 +4,7 @@
 -- DealtTags, TaggedRows.
 -- Scans of a slot: Scans, LastRow, AcceptedRows, Outcomes.
 -- Faults shown to be none without a scan: Faultless, WishTests; ranks: DealtRows; wishes: Runs,
--- InOrder, TwiceWished, TwicePreferred, WhoIsRanked.
+-- InOrder, TwiceWished, TwicePreferred, WhoIsRanked, MayNotWish.
 -- What tables without a fault are: FaultFree, NoFault, RowFacts, Pairs; wishes in another order:
 -- Reordered, which stands on WishesApart.
 -- What is made of them: MadeItems, Buckets, BuiltGroups, PutStatuses, Undated.
@@ -24,6 +24,7 @@ pub mod InOrder
 pub mod KeyPlaces
 pub mod LastRow
 pub mod MadeItems
+pub mod MayNotWish
 pub mod MixedNumbers
 pub mod NoFault
 pub mod NotedKeys

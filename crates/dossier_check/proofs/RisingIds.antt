@@ -14,13 +14,14 @@ use Rattle.std.proofs.lemmas.List.Sorted.{searched}
 use Rattle.std.proofs.lemmas.List.Sums.{position_or_len_is}
 use Rattle.std.proofs.lemmas.Map.Keys.{IsDistinct-from_apart, apart_from_distinct}
 use Rattle.std.proofs.lemmas.Option.{get_or_from_slice_get, slice_get_within}
+use Rattle.admit_core.proofs.Plain.{nat_eq_sym}
 use Rattle.indexmap.specs.IndexSet.{insert_key}
 use Rattle.dossier_check.specs.RowIds.{Rises}
 use Rattle.dossier_check.proofs.Firsts.{position-none}
 use Rattle.dossier_check.proofs.Places.{nat_eq_same, position-any}
 use Rattle.dossier_check.proofs.Rising.{differs}
 
-differs_above : (m n : ℕ) → m < n → nat_eq n m ≡ false
+pub differs_above : (m n : ℕ) → m < n → nat_eq n m ≡ false
 differs_above m n lt = grind (arith, nat_tests)
 
 pub apart_rising : (ids : List ℕ) → Rises ids → IsDistinct nat_eq ids
@@ -100,18 +101,22 @@ found_by_place ids id = by (list_any (nat_eq id) ids) refl
     by true e = rw (position-any (nat_eq id) ids e, e) refl
     by false e = rw (position-none (nat_eq id) ids e, e) refl
 
-unlike : (m n : ℕ) → nat_eq m n ≡ false → nat_eq n m ≡ false
-unlike m n apart = grind (arith, nat_tests)
+-- a key that is read at a place is found there where each is once
+pub stands_once : {K : Type 0} (eq : K → K → Bool) → ((a b : K) → eq a b ≡ eq b a) → (keys : List K) (key : K) (i : ℕ)
+    → eq key key ≡ true → IsDistinct eq keys → slice_get keys i ≡ Some key → position (eq key) keys ≡ Some i
+stands_once eq flips keys key i self once read =
+    let lt : i < length keys = slice_get_within keys i key read in
+    let here : get_or keys i key ≡ key = get_or_from_slice_get keys i key key read in
+    let at : position_or_len (eq key) keys ≡ i =
+    position_or_len_is (eq key) keys i key (omega arith)
+    (λ k before.
+    flips key (get_or keys k key) ∙ rw here at (apart_from_distinct eq keys k i key once before lt))
+    (λ within. ap (eq key) here ∙ self) in
+    let within : nat_lt i (length keys) ≡ true = grind arith in
+    rw (at, within) refl
 
--- an id that is read at a place is found there where each is once
+-- the same of an id
 pub place_once : (ids : List ℕ) (id i there : ℕ) → IsDistinct nat_eq ids → slice_get ids i ≡ Some there → there ≡ id
     → position (nat_eq id) ids ≡ Some i
 place_once ids id i there once read same =
-    let lt : i < length ids = slice_get_within ids i there read in
-    let here : get_or ids i 0 ≡ id = get_or_from_slice_get ids i there 0 read ∙ same in
-    let at : position_or_len (nat_eq id) ids ≡ i =
-    position_or_len_is (nat_eq id) ids i 0 (omega arith)
-    (λ k before. unlike (get_or ids k 0) id (rw here at (apart_from_distinct nat_eq ids k i 0 once before lt)))
-    (λ within. nat_eq_same id (get_or ids i 0) (sym here)) in
-    let within : nat_lt i (length ids) ≡ true = grind arith in
-    rw (at, within) refl
+    stands_once nat_eq nat_eq_sym ids id i (nat_eq_same id id refl) once (read ∙ ap Some same)

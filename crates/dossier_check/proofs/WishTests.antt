@@ -1,19 +1,29 @@
 -- What wishes are refused for without the tests that are known to stand at no row.
-use Rattle.std.proofs.Common.{◌≡◌, ℕ, ◌<◌, Bool, true, false, ◌&&◌, nat_eq, List, [], ◌∷◌, AllPairs, length}
-use Rattle.std.proofs.Common.{get_or, take, ap, ◌∙◌}
+use Rattle.std.proofs.Common.{◌≡◌, ℕ, ◌<◌, Bool, true, false, ◌&&◌, nat_eq, List, AllPairs, length}
+use Rattle.std.proofs.Common.{get_or, take, refl, ap, ◌∙◌, Option, Some, None}
 use Rattle.std.specs.Option.{option_map_or, option_or}
 use Rattle.admit_core.proofs.NoFaults.{Passes, differ, differ_when}
 use Rattle.admit_core.specs.declared.refusal.Reason.TheVariants.{Repeat, PreferenceTaken}
 use Rattle.admit_core.specs.declared.slot.Slot.TheVariants as slots
 use Rattle.admit_core.specs.declared.tables.Tables.{Tables}
 use Rattle.admit_core.specs.declared.tables.WishRow.{WishRow}
-use Rattle.admit_core.specs.Faults.{Test, first_in, first_of, first_reason, repeats, names_unknown}
+use Rattle.admit_core.specs.Faults.{Test, first_in, first_reason, repeats, names_unknown}
 use Rattle.admit_core.specs.Lists.{is_among}
 use Rattle.admit_core.specs.Relations.{same_wish, wish_tests, programme_ids, school_ids, unranked, no_boarding_rank}
 use Rattle.admit_core.specs.Relations.{preference_mixed, preference_taken}
 use Rattle.dossier_check.specs.Wished.{has_preference}
-use Rattle.dossier_check.specs.WishTests.{id_repeats, other_tests, others_unless, tests_unless}
+use Rattle.dossier_check.specs.WishTests.{id_repeats, may_not_wish, other_tests, others_unless, tests_unless}
 use Rattle.dossier_check.proofs.Faultless.{left_out, same_in}
+
+-- four tests as one, and one by one
+one_by_one : {X : Type 0} (a b c d rest : Option X)
+    → option_or (option_or a (option_or b (option_or c (option_or d None)))) rest
+    ≡ option_or a (option_or b (option_or c (option_or d rest)))
+one_by_one (Some x) b c d rest = refl
+one_by_one None (Some x) c d rest = refl
+one_by_one None None (Some x) d rest = refl
+one_by_one None None None (Some x) rest = refl
+one_by_one None None None None rest = refl
 
 -- where those two are known to stand at no row, each row has the same reason
 module _ (t : Tables) (rows : List WishRow) (apart distinct : Bool)
@@ -22,19 +32,19 @@ module _ (t : Tables) (rows : List WishRow) (apart distinct : Bool)
   same_reason : (k : ℕ) (d : WishRow) → k < length rows
       → first_reason (others_unless apart distinct t) (take k rows) (get_or rows k d)
       ≡ first_reason (other_tests t) (take k rows) (get_or rows k d)
-  same_reason k d lt = λ i.
+  same_reason k d lt =
       let before : List WishRow = take k rows in
       let row : WishRow = get_or rows k d in
-      first_of (
-      left_out (repeats same_wish) rows apart once k d lt i
-      ∷ names_unknown 3 (λ w. is_among w.programme (programme_ids t)) before row
-      ∷ names_unknown 4 (λ w. option_map_or (λ h. is_among h (school_ids t)) w.school true) before row
-      ∷ unranked t before row
-      ∷ no_boarding_rank t before row
-      ∷ preference_mixed before row
-      ∷ left_out preference_taken rows distinct other k d lt i
-      ∷ []
-      )
+      (λ i.
+      option_or (left_out (repeats same_wish) rows apart once k d lt i)
+      (option_or (may_not_wish t before row)
+      (option_or (preference_mixed before row)
+      (option_or (left_out preference_taken rows distinct other k d lt i) None))))
+      ∙ ap (option_or (repeats same_wish before row))
+      (one_by_one (names_unknown 3 (λ w. is_among w.programme (programme_ids t)) before row)
+      (names_unknown 4 (λ w. option_map_or (λ h. is_among h (school_ids t)) w.school true) before row)
+      (unranked t before row) (no_boarding_rank t before row)
+      (option_or (preference_mixed before row) (option_or (preference_taken before row) None)))
 
   -- so the fault is the same
   same_others : first_in slots.Wishes (others_unless apart distinct t) rows ≡ first_in slots.Wishes (other_tests t) rows

@@ -139,7 +139,7 @@ pub(crate) fn lists_by<Q: Key<RankRow, u32>>(
         ≡ map (ranked_in (sorted_by Q.key rankings.now)) groups.now.keys) }
 {
     let ordered = by_key(alloc, rule, rankings)?;
-    let rows = ordered.as_slice();
+    let rows = ordered.rows.as_slice();
     let places = places_in(alloc, rows, groups)?;
     ranked_lists(alloc, rows, groups, places.as_slice())
 }

@@ -8,7 +8,8 @@ ghost use Rattle.dossier_check.specs.Keys.{AreKeysOf};
 
 use crate::index::Index;
 use crate::made::{Makes, made_of};
-use crate::noted::{row_of, row_with};
+use crate::near::NamedPlaces;
+use crate::noted::{row_near, row_of};
 use crate::placed::place_near;
 use crate::row_ids::RowIds;
 use admit_core::{
@@ -27,8 +28,8 @@ pub(crate) struct Keys {
     pub(crate) boarding: IndexSet<(u32, u32), Keyed>,
     pub(crate) wishes: RowIds,
     pub(crate) state: RowIds,
-    /// For each wish where its programme is looked for first, if its tests kept the place.
-    pub(crate) near: Vec<u32>,
+    /// Where what the wishes name is looked for first, by the wishes' places.
+    pub(crate) near: Vec<NamedPlaces>,
 }
 
 // Not derived: so keys are dropped in one step where they are held, and not by each list.
@@ -83,25 +84,36 @@ fn place_in(ids: &RowIds, id: u32) -> u32
     ids.get_index_of(id).unwrap_or(ids.len()) as u32
 }
 
+/// The same, looked for at a place first.
+fn place_from(ids: &RowIds, id: u32, near: u32) -> u32
+    requires { length ids.now.keys < 2 ^ 32 }
+    ensures { result ≡ place_of ids.now.keys id }
+{
+    let mut near = near as usize;
+    place_near(ids, id, &mut near)
+}
+
 /// The same for an id that may be missing.
-fn place_in_any(ids: &RowIds, id: Option<u32>) -> Option<u32>
+fn place_from_any(ids: &RowIds, id: Option<u32>, near: u32) -> Option<u32>
     requires { length ids.now.keys < 2 ^ 32 }
     ensures { result ≡ option_map (place_of ids.now.keys) id }
 {
     match id {
-        Some(id) => Some(place_in(ids, id)),
+        Some(id) => Some(place_from(ids, id, near)),
         None => None,
     }
 }
 
-/// A candidate's rank in a school; 0 without a school.
-fn board_rank_of(tables: &Tables, keys: &Keys, candidate: u32, school: Option<u32>) -> u32
+/// The rank of a wish's candidate in its school; 0 without a school. Its row is looked for at a
+/// place first.
+fn board_rank_of(tables: &Tables, keys: &Keys, wish: &WishRow, near: u32) -> u32
     requires { AreKeysOf tables.now keys.now }
-    ensures { result ≡ board_rank_of tables.now candidate school }
+    ensures { result ≡ board_rank_of tables.now wish.now.candidate wish.now.school }
 {
-    let Some(school) = school else { return 0 };
+    let Some(school) = wish.school else { return 0 };
     let rows = tables.boarding.as_slice();
-    match row_with(&keys.boarding, rows, (school, candidate)) {
+    let pair = (school, wish.candidate);
+    match row_near(&keys.boarding, rows, pair, near as usize) {
         Some(row) => row.rank,
         None => 0,
     }
@@ -170,13 +182,13 @@ impl<'a> Makes<WishRow, Wish> for Places<'a> {
     ghost made = { λ c. wish_of_row c.tables.now };
 
     fn make(&self, row: &WishRow, number: usize) -> Wish {
-        let mut near = self.keys.near.get(number).copied().unwrap_or(0) as usize;
+        let near = NamedPlaces::at(self.keys.near.as_slice(), number);
         Wish {
             id: row.id,
             candidate: row.candidate,
-            programme: place_near(&self.keys.programmes, row.programme, &mut near),
-            school: place_in_any(&self.keys.schools, row.school),
-            board_rank: board_rank_of(self.tables, self.keys, row.candidate, row.school),
+            programme: place_from(&self.keys.programmes, row.programme, near.programme),
+            school: place_from_any(&self.keys.schools, row.school, near.school),
+            board_rank: board_rank_of(self.tables, self.keys, row, near.rank),
             preference: row.preference,
         }
     }

@@ -15,6 +15,7 @@ mod index;
 mod items;
 mod known;
 mod made;
+mod near;
 mod noted;
 mod ordered;
 mod placed;

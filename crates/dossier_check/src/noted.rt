@@ -1,7 +1,8 @@
 //! What is kept of the rows so far: their keys by place, or the first row of each key.
-ghost use Rattle.std.specs.Prelude.{◌≡◌, ℕ, Bool, List, [], ◌∷◌, ◌++◌, map, find, nat_eq, position, option_map, Some, None, IfOk, IsSome, if◌then◌else◌};
+ghost use Rattle.std.specs.Prelude.{◌≡◌, ℕ, Bool, List, [], ◌∷◌, ◌++◌, map, find, nat_eq, position, Some, None, true, IfOk, IsSome, if◌then◌else◌};
 ghost use Rattle.indexmap.specs.IndexMap.{get};
 ghost use Rattle.admit_core.specs.Faults.{first_row};
+ghost use Rattle.dossier_check.specs.Pairs.{pair_eq};
 
 use crate::row_ids::RowIds;
 use admit_core::OutOfMemory;
@@ -38,7 +39,7 @@ pub(crate) fn note<R, K: Hash + Eq + Copy + Drop, Q: Key<R, K>>(
 }
 
 /// The row at the place of the first one that passes a test.
-fn row_at<R: Copy>(rows: &[R], place: Option<usize>) -> Option<R>
+pub(crate) fn row_at<R: Copy>(rows: &[R], place: Option<usize>) -> Option<R>
     ensures { (passes : R → Bool) → place ≡ position passes rows.now → result
         ≡ find passes rows.now }
 {
@@ -46,18 +47,6 @@ fn row_at<R: Copy>(rows: &[R], place: Option<usize>) -> Option<R>
         Some(place) => rows.get(place).copied(),
         None => None,
     }
-}
-
-/// The row of a key, where the keys are those of the rows by place.
-pub(crate) fn row_with<R: Copy, K: Hash + Eq + Copy + Drop>(
-    keys: &IndexSet<K, Keyed>,
-    rows: &[R],
-    key: K,
-) -> Option<R>
-    ensures { (own : R → K) → keys.now.keys ≡ map own rows.now → result
-        ≡ find (λ r. K.eq key (own r)) rows.now }
-{
-    row_at(rows, keys.get_index_of(&key))
 }
 
 /// The row of an id, where the ids are those of the rows by place.
@@ -68,16 +57,39 @@ pub(crate) fn row_of<R: Copy>(ids: &RowIds, rows: &[R], id: u32) -> Option<R>
     row_at(rows, ids.get_index_of(id))
 }
 
-/// The place and the row of an id, where the ids are those of the rows by place.
-pub(crate) fn placed_row_of<R: Copy>(ids: &RowIds, rows: &[R], id: u32) -> Option<(usize, R)>
-    ensures { (own : R → ℕ) → ids.now.keys ≡ map own rows.now →
-        option_map (λ found. found.1) result ≡ find (λ r. nat_eq id (own r)) rows.now }
+/// Whether two pairs are the same.
+fn same_pair(one: (u32, u32), other: (u32, u32)) -> bool
+    ensures { result ≡ pair_eq one other }
 {
-    let place = ids.get_index_of(id);
-    match row_at(rows, place) {
-        Some(row) => Some((place.unwrap_or(0), row)),
-        None => None,
+    one.0 == other.0 && one.1 == other.1
+}
+
+/// Whether a pair stands at a place.
+fn stands_at(keys: &IndexSet<(u32, u32), Keyed>, pair: (u32, u32), place: usize) -> bool
+    ensures { result ≡ true → position (pair_eq pair) keys.now.keys ≡ Some place }
+{
+    let _ = keys.len();
+    match keys.get_index(place) {
+        Some(there) => same_pair(pair, *there),
+        None => false,
     }
+}
+
+/// The row of a pair, where the pairs are those of the rows by place. It's looked for first where
+/// `near` says.
+pub(crate) fn row_near<R: Copy>(
+    keys: &IndexSet<(u32, u32), Keyed>,
+    rows: &[R],
+    pair: (u32, u32),
+    near: usize,
+) -> Option<R>
+    ensures { (own : R → ℕ × ℕ) → keys.now.keys ≡ map own rows.now → result
+        ≡ find (λ r. pair_eq pair (own r)) rows.now }
+{
+    if stands_at(keys, pair, near) {
+        return row_at(rows, Some(near));
+    }
+    row_at(rows, keys.get_index_of(&pair))
 }
 
 /// What is kept of a candidate's first wish: the row's number, and the preference.

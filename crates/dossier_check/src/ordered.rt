@@ -11,14 +11,12 @@ ghost use Rattle.dossier_check.specs.WishTests.{id_repeats, other_tests};
 use crate::apart::shown_apart;
 use crate::by_key::by_key;
 use crate::known::Known;
-use crate::noted::FirstWish;
 use crate::row_ids::RowIds;
 use crate::rules::{ItsCandidate, OwnId};
 use crate::scan::scanned;
 use crate::slots::check_ids;
-use crate::wishes::{WishKeys, kept_in, other_tests};
+use crate::wishes::{Kept, WishKeys, kept_in, other_tests};
 use admit_core::{InFault, OutOfMemory, Slot, Tables, WishRow};
-use indexmap::IndexMap;
 use keyed_hash::Keyed;
 use std::alloc::Global;
 
@@ -48,29 +46,29 @@ fn ids_apart(alloc: Global, keyed: Keyed, tables: &Tables) -> Result<Option<RowI
     unless_refused(check_ids(alloc, keyed, Slot::Wishes, OwnId, &tables.wishes))
 }
 
-/// Who has a wish, where the tests but that of ids stand at no wish. They are tried in order by
+/// What the tests but that of ids keep, where they stand at no wish. They are tried in order by
 /// candidate, in which each looks near where the one before found something.
-fn candidates_in_order<'a>(
+fn kept_in_order<'a>(
     alloc: Global,
     tables: &'a Tables,
     known: Known<'a>,
-) -> Result<Option<IndexMap<u32, FirstWish, Keyed>>, OutOfMemory>
+) -> Result<Option<Kept>, OutOfMemory>
     requires known { IsKnown tables.now known }
     requires small { length tables.now.wishes < 2 ^ 32 }
     ensures fault { IfOk result (λ found. IsSome found →
         first_in slots.Wishes (other_tests tables.now) tables.now.wishes ≡ None) }
-    ensures candidates { IfOk result (λ found. IfSome found (λ firsts.
-        KnowsCandidates (get nat_eq firsts) tables.now.wishes)) }
+    ensures candidates { IfOk result (λ found. IfSome found (λ kept.
+        KnowsCandidates (get nat_eq kept.firsts) tables.now.wishes)) }
 {
     let ordered = by_key(alloc, &ItsCandidate, tables.wishes.as_slice())?;
-    let rows = ordered.as_slice();
+    let rows = ordered.rows.as_slice();
     let apart = shown_apart(alloc, rows)?;
     let tests = other_tests(alloc, apart, tables, known)?;
     let Some(tests) = unless_refused(scanned(Slot::Wishes, tests, rows))? else {
         return Ok(None);
     };
-    let (firsts, _) = kept_in(tests);
-    Ok(Some(firsts))
+    let kept = kept_in(tests);
+    Ok(Some(kept.by_file(alloc, ordered.tags.as_slice())?))
 }
 
 /// What the wishes are found by, where their order by candidate shows that they have no fault.
@@ -88,15 +86,11 @@ pub(crate) fn shown_in_order<'a>(
     ensures candidates { IfOk result (λ found. IfSome found (λ keys.
         KnowsCandidates (get nat_eq keys.firsts) tables.now.wishes)) }
 {
-    let Some(firsts) = candidates_in_order(alloc, tables, known)? else {
+    let Some(kept) = kept_in_order(alloc, tables, known)? else {
         return Ok(None);
     };
     let Some(ids) = ids_apart(alloc, known.keyed, tables)? else {
         return Ok(None);
     };
-    Ok(Some(WishKeys {
-        ids,
-        firsts,
-        programmes: Vec::new(alloc),
-    }))
+    Ok(Some(kept.into_keys(ids)))
 }

@@ -101,7 +101,7 @@ impl Named {
           boarding = boarding;
           wishes = wishes.ids;
           state = state;
-          near = wishes.programmes;
+          near = wishes.places;
         } }
     {
         let Named {

@@ -228,31 +228,11 @@ impl Names<BoardRow> for ItsSchool {
     }
 }
 
-impl Names<WishRow> for ItsSchool {
-    ghost named = { λ r. r.school };
-
-    fn named_by(&self, row: &WishRow) -> Option<u32> {
-        row.school
-    }
-}
-
 impl Names<CeilingRow> for ItsSchool {
     ghost named = { λ r. Some r.school };
 
     fn named_by(&self, row: &CeilingRow) -> Option<u32> {
         Some(row.school)
-    }
-}
-
-/// The programme of a wish.
-#[derive(Drop)]
-pub(crate) struct ItsProgramme;
-
-impl Names<WishRow> for ItsProgramme {
-    ghost named = { λ r. Some r.programme };
-
-    fn named_by(&self, row: &WishRow) -> Option<u32> {
-        Some(row.programme)
     }
 }
 

@@ -3,6 +3,7 @@ ghost use Rattle.std.specs.Prelude.{◌≡◌, is_some, nat_eq, position, true, 
 ghost use Rattle.std.specs.List.{list_any};
 ghost use Rattle.std.specs.List.Sorted.{IsNonDecreasing};
 
+use crate::near::Near;
 use crate::row_ids::RowIds;
 
 /// Whether a number stands at a place.
@@ -72,17 +73,6 @@ fn group_near(groups: &RowIds, group: u32, near: &mut [usize], programme: usize)
         Some(near) => groups.find_near(group, near),
         None => groups.get_index_of(group),
     }
-}
-
-/// Where to look first. Nothing depends on it but how long a look-up takes.
-#[derive(Drop)]
-pub(crate) struct Near {
-    /// The place of each programme's group, by the programmes' places.
-    pub(crate) groups: Vec<usize>,
-    /// For each group the place after the candidate found last, by the groups' places.
-    pub(crate) candidates: Vec<usize>,
-    /// The place of each wish's programme, by the wishes' places.
-    pub(crate) programmes: Vec<u32>,
 }
 
 /// Who is ranked in each group, by the groups' places.

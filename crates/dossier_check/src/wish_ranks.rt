@@ -1,80 +1,125 @@
-//! The tests of whether the candidate of a wish may wish for its programme and its school.
-ghost use Rattle.std.specs.Prelude.{◌≡◌};
+//! The test of whether the candidate of a wish may wish for what it names.
+ghost use Rattle.std.specs.Prelude.{◌≡◌, Some, is_some, nat_eq, position, true};
+ghost use Rattle.std.specs.Option.{option_map_or};
+ghost use Rattle.admit_core.specs.declared.tables.Tables.{Tables};
+ghost use Rattle.admit_core.specs.Lists.{is_among};
+ghost use Rattle.admit_core.specs.Relations.{is_boarded, is_ranked};
+ghost use Rattle.dossier_check.specs.Dealt.{SaysWhoIsRanked};
+ghost use Rattle.dossier_check.specs.Seen.{boarded_pairs};
 
-use crate::noted::placed_row_of;
+use crate::known::Known;
+use crate::near::{NamedPlaces, Near};
+use crate::noted::row_at;
 use crate::row_ids::RowIds;
 use crate::row_tests::RowTest;
-use crate::who_is_ranked::{Near, WhoIsRanked};
+use crate::who_is_ranked::WhoIsRanked;
 use admit_core::{OutOfMemory, Reason, Tables, WishRow};
 use indexmap::IndexSet;
 use keyed_hash::Keyed;
 
-/// The candidate isn't ranked in the group of the programme.
-#[derive(Drop)]
-pub(crate) struct Unranked<'a> {
-    pub(crate) tables: &'a Tables,
-    pub(crate) programmes: &'a RowIds,
-    pub(crate) ranked: WhoIsRanked<'a>,
-    pub(crate) near: Near,
+/// The place of a wish's school, or 0 without one.
+fn school_place(schools: &RowIds, school: Option<u32>) -> Option<usize>
+    ensures { is_some result ≡ option_map_or (λ h. is_among h schools.now.keys) school true }
+{
+    match school {
+        Some(school) => schools.get_index_of(school),
+        None => Some(0),
+    }
 }
 
-impl<'a> RowTest<WishRow> for Unranked<'a> {
-    ghost use Rattle.admit_core.specs.Relations.{unranked, programme_ids};
-    ghost use Rattle.dossier_check.specs.Dealt.{SaysWhoIsRanked};
+/// Whether a candidate is ranked in the group of the programme at a place.
+fn is_ranked(
+    tables: &Tables,
+    ranked: WhoIsRanked<'_>,
+    near: &mut Near,
+    row: &WishRow,
+    place: usize,
+) -> bool
+    ensures { SaysWhoIsRanked tables.now ranked.entry →
+        Some place ≡ position (λ p. nat_eq row.now.programme p.id) tables.now.programmes →
+        result ≡ is_ranked tables.now row.now.programme row.now.candidate }
+{
+    match row_at(tables.programmes.as_slice(), Some(place)) {
+        Some(programme) => ranked.has(programme.group, row.candidate, near, place),
+        None => false,
+    }
+}
 
-    ghost test = { λ c. unranked c.tables.now };
+/// The place of a candidate's rank in a school, or 0 without one.
+fn rank_place(
+    boarded: &IndexSet<(u32, u32), Keyed>,
+    candidate: u32,
+    school: Option<u32>,
+) -> Option<usize>
+    ensures { (t : Tables) → boarded.now.keys ≡ boarded_pairs t →
+        is_some result ≡ option_map_or (λ h. is_boarded t h candidate) school true }
+{
+    match school {
+        Some(school) => boarded.get_index_of(&(school, candidate)),
+        None => Some(0),
+    }
+}
 
-    ghost has_seen = { λ c before. (c.programmes.now.keys ≡ programme_ids c.tables.now)
-        × SaysWhoIsRanked c.tables.now c.ranked };
+/// The candidate may not wish for what the wish names, or it isn't there.
+pub(crate) struct MayNotWish<'a> {
+    pub(crate) tables: &'a Tables,
+    pub(crate) known: Known<'a>,
+    pub(crate) near: Near,
+    /// Where the wishes so far have what they name.
+    pub(crate) places: Vec<NamedPlaces>,
+}
+
+// Not derived: so it is dropped in one step where it is held, and not by each list.
+impl<'a> Drop for MayNotWish<'a> {
+    fn drop(self) {
+        let MayNotWish {
+            tables: _,
+            known: _,
+            near: _,
+            places: _,
+        } = self;
+    }
+}
+
+impl<'a> MayNotWish<'a> {
+    /// Where the wishes have what they name.
+    pub(crate) fn into_places(self) -> Vec<NamedPlaces> {
+        let MayNotWish {
+            tables: _,
+            known: _,
+            near: _,
+            places,
+        } = self;
+        places
+    }
+}
+
+impl<'a> RowTest<WishRow> for MayNotWish<'a> {
+    ghost use Rattle.dossier_check.specs.Known.{IsKnown};
+    ghost use Rattle.dossier_check.specs.WishTests.{may_not_wish};
+
+    ghost test = { λ c. may_not_wish c.tables.now };
+
+    ghost has_seen = { λ c before. IsKnown c.tables.now c.known };
 
     ghost takes_memory = { Unit {0} };
 
     #[inline(always)]
     fn stands(&mut self, row: &WishRow, _number: u64) -> Result<Option<Reason>, OutOfMemory> {
-        let programmes = self.tables.programmes.as_slice();
-        if let Some((place, programme)) = placed_row_of(
-            self.programmes,
-            programmes,
-            row.programme,
-        ) {
-            if self
-                .ranked
-                .has(programme.group, row.candidate, &mut self.near, place)
-            {
-                self.near
-                    .programmes
-                    .push(u32::try_from(place).unwrap_or(0))?;
-                return Ok(None);
-            }
+        let known = self.known;
+        let Some(programme) = known.programmes.get_index_of(row.programme) else {
+            return Ok(Some(Reason::Unknown(3)));
+        };
+        let Some(school) = school_place(known.schools, row.school) else {
+            return Ok(Some(Reason::Unknown(4)));
+        };
+        if !is_ranked(self.tables, known.ranked, &mut self.near, row, programme) {
+            return Ok(Some(Reason::Unranked));
         }
-        Ok(Some(Reason::Unranked))
-    }
-}
-
-/// The candidate has no rank in the school.
-#[derive(Drop)]
-pub(crate) struct NoBoardingRank<'a> {
-    pub(crate) tables: &'a Tables,
-    pub(crate) boarded: &'a IndexSet<(u32, u32), Keyed>,
-}
-
-impl<'a> RowTest<WishRow> for NoBoardingRank<'a> {
-    ghost use Rattle.admit_core.specs.Relations.{no_boarding_rank};
-    ghost use Rattle.dossier_check.specs.Seen.{boarded_pairs};
-
-    ghost test = { λ c. no_boarding_rank c.tables.now };
-
-    ghost has_seen = { λ c before. c.boarded.now.keys ≡ boarded_pairs c.tables.now };
-
-    ghost takes_memory = { ⊥ };
-
-    #[inline(always)]
-    fn stands(&mut self, row: &WishRow, _number: u64) -> Result<Option<Reason>, OutOfMemory> {
-        if let Some(school) = row.school {
-            if !self.boarded.contains(&(school, row.candidate)) {
-                return Ok(Some(Reason::NoBoardingRank));
-            }
-        }
+        let Some(rank) = rank_place(known.boarded, row.candidate, row.school) else {
+            return Ok(Some(Reason::NoBoardingRank));
+        };
+        self.places.push(NamedPlaces::of(programme, school, rank))?;
         Ok(None)
     }
 }

@@ -4,26 +4,25 @@ ghost use Rattle.indexmap.specs.IndexMap.{get};
 ghost use Rattle.admit_core.specs.declared.slot.Slot.TheVariants as slots;
 ghost use Rattle.admit_core.specs.Faults.{first_in};
 ghost use Rattle.admit_core.specs.Relations.{wish_tests, wish_ids};
-ghost use Rattle.dossier_check.specs.Chained.{past_two};
 ghost use Rattle.dossier_check.specs.Hashing.{numbers_of_wishes};
 ghost use Rattle.dossier_check.specs.Known.{IsKnown};
 ghost use Rattle.dossier_check.specs.Outcome.{AnswersFault, MayLack};
-ghost use Rattle.dossier_check.specs.WishTests.{others_unless, rank_tests_unless, tests_unless};
+ghost use Rattle.dossier_check.specs.WishTests.{others_unless, tests_unless};
 ghost use Rattle.dossier_check.specs.Seen.{AreFirstWishes, KnowsCandidates};
 ghost use Rattle.keyed_hash.specs.Keys.{keyed_by};
 
 use crate::apart::{Apart, shown_apart};
 use crate::hashing::hashing_of_wishes;
 use crate::known::Known;
+use crate::near::{NamedPlaces, Near, in_file_order};
 use crate::noted::FirstWish;
 use crate::ordered::{candidates_rise, shown_in_order};
 use crate::preferences::{PreferenceTests, firsts_in, preference_tests};
 use crate::row_ids::RowIds;
-use crate::row_tests::{NamesUnknown, Repeats, RepeatsId, Shared, Then, Unless};
-use crate::rules::{ItsProgramme, ItsSchool, OwnId, WhatIsWished};
+use crate::row_tests::{Repeats, RepeatsId, Shared, Then, Unless};
+use crate::rules::{OwnId, WhatIsWished};
 use crate::scan::{RowChecks, scanned};
-use crate::who_is_ranked::Near;
-use crate::wish_ranks::{NoBoardingRank, Unranked};
+use crate::wish_ranks::MayNotWish;
 use admit_core::{InFault, OutOfMemory, Slot, Tables, WishRow};
 use indexmap::{IndexMap, IndexSet};
 use keyed_hash::Keyed;
@@ -34,8 +33,8 @@ pub(crate) struct WishKeys {
     pub(crate) ids: RowIds,
     /// What is kept of the first wish that was tested of each candidate.
     pub(crate) firsts: IndexMap<u32, FirstWish, Keyed>,
-    /// The places of the wishes' programmes, or none. Only how long a look takes depends on it.
-    pub(crate) programmes: Vec<u32>,
+    /// Where the tests found what the wishes name, by the wishes' places.
+    pub(crate) places: Vec<NamedPlaces>,
 }
 
 // Not derived, as above.
@@ -44,23 +43,23 @@ impl Drop for WishKeys {
         let WishKeys {
             ids: _,
             firsts: _,
-            programmes: _,
+            places: _,
         } = self;
     }
 }
 
 impl WishKeys {
-    /// The ids, and the places of the programmes.
-    pub(crate) fn into_parts(self) -> (RowIds, Vec<u32>)
+    /// The ids, and where what the wishes name was found.
+    pub(crate) fn into_parts(self) -> (RowIds, Vec<NamedPlaces>)
         ensures ids { result.0 ≡ self.ids }
-        ensures programmes { result.1 ≡ self.programmes }
+        ensures places { result.1 ≡ self.places }
     {
         let WishKeys {
             ids,
             firsts: _,
-            programmes,
+            places,
         } = self;
-        (ids, programmes)
+        (ids, places)
     }
 }
 
@@ -70,25 +69,8 @@ type WishTests<'a> = Then<RepeatsId<OwnId>, OtherTests<'a>>;
 /// The tests of wishes but that of ids.
 pub(crate) type OtherTests<'a> = Then<
     Unless<Repeats<(u32, u32, Option<u32>), WhatIsWished>>,
-    Then<NamesUnknown<'a, ItsProgramme>, Then<NamesUnknown<'a, ItsSchool>, RankTests<'a>>>,
+    Then<MayNotWish<'a>, PreferenceTests>,
 >;
-
-/// The tests of whether candidates are ranked, and of preferences.
-type RankTests<'a> = Then<Unranked<'a>, Then<NoBoardingRank<'a>, PreferenceTests>>;
-
-/// For each programme and each group where to look first, with room for a place of each wish.
-fn near_places(
-    alloc: Global,
-    wishes: usize,
-    programmes: usize,
-    groups: usize,
-) -> Result<Near, OutOfMemory> {
-    Ok(Near {
-        groups: vec![in alloc; 0; programmes]?,
-        candidates: vec![in alloc; 0; groups]?,
-        programmes: Vec::with_capacity(alloc, wishes)?,
-    })
-}
 
 /// The hashing of what wishes are of and of the preferences, which has a key of its own where order
 /// does not show that both are apart.
@@ -102,77 +84,92 @@ fn hashing_by(keyed: Keyed, apart: Apart, rows: &[WishRow]) -> Keyed
     hashing_of_wishes(rows)
 }
 
-/// What the tests but that of ids keep: of the candidates, and the places of the programmes.
-pub(crate) fn kept_in(tests: OtherTests<'_>) -> (IndexMap<u32, FirstWish, Keyed>, Vec<u32>)
-    ensures { result.0 ≡ (past_two (past_two tests.entry)).rest.first.firsts }
+/// What the tests but that of ids keep: the candidates' first wishes, and where what the wishes
+/// name was found.
+pub(crate) struct Kept {
+    pub(crate) firsts: IndexMap<u32, FirstWish, Keyed>,
+    pub(crate) places: Vec<NamedPlaces>,
+}
+
+// Not derived, as above.
+impl Drop for Kept {
+    fn drop(self) {
+        let Kept {
+            firsts: _,
+            places: _,
+        } = self;
+    }
+}
+
+/// What the tests but that of ids keep.
+pub(crate) fn kept_in(tests: OtherTests<'_>) -> Kept
+    ensures { result.firsts ≡ tests.entry.rest.rest.first.firsts }
 {
     let Then { first: _, rest } = tests;
-    let Then { first: _, rest } = rest;
-    let Then { first: _, rest } = rest;
     let Then {
-        first: unranked,
-        rest,
-    } = rest;
-    let Then {
-        first: _,
+        first: named,
         rest: preferences,
     } = rest;
-    (firsts_in(preferences), unranked.near.programmes)
+    Kept {
+        firsts: firsts_in(preferences),
+        places: named.into_places(),
+    }
+}
+
+impl Kept {
+    /// The same of wishes that were tested in another order, which their tags tell.
+    pub(crate) fn by_file(self, alloc: Global, tags: &[u64]) -> Result<Kept, OutOfMemory>
+        ensures { IfOk result (λ kept. kept.firsts ≡ self.firsts) }
+    {
+        let Kept { firsts, places } = self;
+        Ok(Kept {
+            firsts,
+            places: in_file_order(alloc, tags, places.as_slice())?,
+        })
+    }
+
+    /// What the wishes with these ids are found by.
+    pub(crate) fn into_keys(self, ids: RowIds) -> WishKeys
+        ensures ids { result.ids ≡ ids }
+        ensures firsts { result.firsts ≡ self.firsts }
+    {
+        let Kept { firsts, places } = self;
+        WishKeys {
+            ids,
+            firsts,
+            places,
+        }
+    }
 }
 
 /// What the tests of wishes keep.
 fn keys_in(tests: WishTests<'_>) -> WishKeys
     ensures ids { result.ids ≡ tests.entry.first.ids }
-    ensures firsts { result.firsts ≡ (past_two (past_two tests.entry.rest)).rest.first.firsts }
+    ensures firsts { result.firsts ≡ tests.entry.rest.rest.rest.first.firsts }
 {
     let Then { first: own, rest } = tests;
-    let (firsts, programmes) = kept_in(rest);
-    WishKeys {
-        ids: own.ids,
-        firsts,
-        programmes,
-    }
+    kept_in(rest).into_keys(own.ids)
 }
 
-/// The tests of whether candidates are ranked, and of preferences, before the first row.
-fn rank_tests<'a>(
+/// The test of what wishes name, before the first row.
+fn name_test<'a>(
     alloc: Global,
-    apart: Apart,
     tables: &'a Tables,
     known: Known<'a>,
-    by_wish: Keyed,
-) -> Result<RankTests<'a>, OutOfMemory>
+) -> Result<MayNotWish<'a>, OutOfMemory>
     requires { IsKnown tables.now known }
-    ensures fresh { IfOk result (λ tests.
-        ⟦<RankTests<'a> as RowChecks<WishRow>>⟧.has_seen tests []) }
-    ensures tests { IfOk result (λ tests.
-        ⟦<RankTests<'a> as RowChecks<WishRow>>⟧.tests tests
-        ≡ rank_tests_unless apart.preferences tables.now) }
+    ensures known { IfOk result (λ test. IsKnown test.tables.now test.known) }
+    ensures tables { IfOk result (λ test. test.tables.now ≡ tables.now) }
 {
-    let Known {
-        keyed,
-        programmes,
-        schools: _,
-        ranked,
-        boarded,
-    } = known;
-    let near = near_places(
-        alloc,
-        tables.wishes.len(),
-        tables.programmes.len(),
-        ranked.candidates.len(),
-    )?;
-    Ok(Then {
-        first: Unranked {
-            tables,
-            programmes,
-            ranked,
-            near,
-        },
-        rest: Then {
-            first: NoBoardingRank { tables, boarded },
-            rest: preference_tests(alloc, keyed, by_wish, apart),
-        },
+    Ok(MayNotWish {
+        tables,
+        known,
+        near: Near::new(
+            alloc,
+            tables.programmes.len(),
+            known.ranked.candidates.len(),
+        )?,
+        places: Vec::with_capacity(alloc, tables.wishes.len())?,
     })
 }
 
@@ -191,7 +188,6 @@ pub(crate) fn other_tests<'a>(
         ≡ others_unless apart.wishes apart.preferences tables.now) }
 {
     let by_wish = hashing_by(known.keyed, apart, tables.wishes.as_slice());
-    let ranks = rank_tests(alloc, apart, tables, known, by_wish)?;
     Ok(Then {
         first: Unless {
             is_known: apart.wishes,
@@ -202,19 +198,8 @@ pub(crate) fn other_tests<'a>(
             },
         },
         rest: Then {
-            first: NamesUnknown {
-                field: 3,
-                ids: known.programmes,
-                rule: ItsProgramme,
-            },
-            rest: Then {
-                first: NamesUnknown {
-                    field: 4,
-                    ids: known.schools,
-                    rule: ItsSchool,
-                },
-                rest: ranks,
-            },
+            first: name_test(alloc, tables, known)?,
+            rest: preference_tests(alloc, known.keyed, by_wish, apart),
         },
     })
 }
@@ -269,7 +254,7 @@ fn no_keys(alloc: Global, keyed: Keyed) -> WishKeys
     WishKeys {
         ids: RowIds::new(alloc),
         firsts: IndexMap::with_hasher(alloc, keyed),
-        programmes: Vec::new(alloc),
+        places: Vec::new(alloc),
     }
 }
 

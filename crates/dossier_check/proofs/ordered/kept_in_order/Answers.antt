@@ -6,7 +6,7 @@ use Rattle.dossier_check.specs.Seen.{AreFirstWishes}
 use Rattle.dossier_check.proofs.FirstRows.{kept_candidates}
 use Rattle.dossier_check.proofs.Reordered.{candidates_moved, no_fault_moved}
 use Rattle.dossier_check.proofs.WishTests.{found_others}
-use Rattle.dossier_check.proofs.ordered.candidates_in_order.Goals as goal
+use Rattle.dossier_check.proofs.ordered.kept_in_order.Goals as goal
 
 pub scanned-requires-clause-small : goal.scanned-requires-clause-small
 scanned-requires-clause-small c =
@@ -39,7 +39,7 @@ returns-clause-candidates c =
     (subst (IsPermutation c.as_slice.result.now) (sym c.as_slice-rows.ensures.value) (subst (IsPermutation _) (sym c.in_ok-ordered.ensures) (IsPermutation-sorted_by _ _))) in
     let ok : c.scanned.result ≡ Ok c.in-Some.tests = rw c.in-Some.is at c.in_ok-tests-2.ensures in
     let seen = rw ok at c.scanned.ensures.seen in
-    let firsts : AreFirstWishes (get nat_eq c.kept_in-firsts.result.0) rows =
-    subst (λ m. AreFirstWishes (get nat_eq m) rows) (sym c.kept_in-firsts.ensures) seen.1.1.1.1.1.0.0 in
-    candidates_moved (get nat_eq c.kept_in-firsts.result.0) t.wishes rows moved
-    (kept_candidates (get nat_eq c.kept_in-firsts.result.0) rows firsts)
+    let firsts : AreFirstWishes (get nat_eq c.in_ok-by_file.field-0.firsts) rows =
+    subst (λ m. AreFirstWishes (get nat_eq m) rows) (sym (c.in_ok-by_file.ensures ∙ c.kept_in-kept.ensures)) seen.1.1.0.0 in
+    candidates_moved (get nat_eq c.in_ok-by_file.field-0.firsts) t.wishes rows moved
+    (kept_candidates (get nat_eq c.in_ok-by_file.field-0.firsts) rows firsts)

@@ -1,0 +1,85 @@
+//! Where to look first. Nothing depends on it but how long a look-up takes.
+
+use admit_core::OutOfMemory;
+use std::alloc::Global;
+
+/// Where the tests of wishes look first.
+#[derive(Drop)]
+pub(crate) struct Near {
+    /// The place of each programme's group, by the programmes' places.
+    pub(crate) groups: Vec<usize>,
+    /// For each group the place after the candidate found last, by the groups' places.
+    pub(crate) candidates: Vec<usize>,
+}
+
+impl Near {
+    /// The first places, for each of a number of programmes and of groups.
+    pub(crate) fn new(
+        alloc: Global,
+        programmes: usize,
+        groups: usize,
+    ) -> Result<Near, OutOfMemory> {
+        Ok(Near {
+            groups: vec![in alloc; 0; programmes]?,
+            candidates: vec![in alloc; 0; groups]?,
+        })
+    }
+}
+
+/// Where the tests found what a wish names. It is looked for there first once more.
+#[derive(Clone, Copy)]
+pub(crate) struct NamedPlaces {
+    pub(crate) programme: u32,
+    /// 0 without a school.
+    pub(crate) school: u32,
+    /// The place of the candidate's rank in the school; 0 without a school.
+    pub(crate) rank: u32,
+}
+
+/// The first places.
+const FIRST: NamedPlaces = NamedPlaces {
+    programme: 0,
+    school: 0,
+    rank: 0,
+};
+
+/// A place as a number of 32 bits, and 0 for what is none.
+fn small(place: usize) -> u32 {
+    u32::try_from(place).unwrap_or(0)
+}
+
+impl NamedPlaces {
+    /// These places.
+    pub(crate) fn of(programme: usize, school: usize, rank: usize) -> NamedPlaces {
+        NamedPlaces {
+            programme: small(programme),
+            school: small(school),
+            rank: small(rank),
+        }
+    }
+
+    /// Those of a wish by its place in the file; the first ones where none were kept.
+    pub(crate) fn at(kept: &[NamedPlaces], wish: usize) -> NamedPlaces {
+        kept.get(wish).copied().unwrap_or(FIRST)
+    }
+}
+
+/// Puts places at that of their wish, which is the low half of its tag.
+fn put_back(kept: &mut [NamedPlaces], tag: u64, places: NamedPlaces) {
+    if let Some(there) = kept.get_mut((tag % 4_294_967_296) as usize) {
+        *there = places;
+    }
+}
+
+/// What is kept of wishes in another order, in that of the file, which their tags tell.
+pub(crate) fn in_file_order(
+    alloc: Global,
+    tags: &[u64],
+    found: &[NamedPlaces],
+) -> Result<Vec<NamedPlaces>, OutOfMemory> {
+    let mut kept = vec![in alloc; FIRST; found.len()]?;
+    for (tag, places) in tags.iter().zip(found) {
+        put_back(kept.as_mut_slice(), *tag, *places);
+    }
+    Ok(kept)
+}
