@@ -87,6 +87,27 @@ def check_faults(tally: Tally) -> None:
         tally.check("a full disk", ended.status in (1, 3, 4) and "Traceback" not in ended.complaint, ended)
 
 
+def check_broken_slots(tally: Tally) -> None:
+    """A dossier that the program does not take is told with its slot and row, and left as it is."""
+    tally.begin("take_in, slots that are not as the program takes them")
+    for name, data, row in (
+        ("wishes.csv", b"wish,candidate,programme,school,preference\nV1,1,1,,0\n", 2),
+        ("wishes.csv", b"wish,candidate,programme,school\n1,1,1,\n", 1), ("wishes.csv", b"", 1),
+        ("answers.csv", b"day,kind,target\n1,accept\n", 2), ("answers.csv", b"day,kind,target\n1,accept\xe9,1\n", 1),
+        ("answers.csv", "day,kind,target\n".encode("utf-16"), 1), ("answers.csv", b"jour,type,cible\n", 1),
+        ("answers.csv", b"day,kind,target\n1,accept,4\n1,accept,x\n", 3),
+        ("answers.csv", b"day,kind,target\n1,accept," + b"1" * 200_000, 1),
+    ):
+        with scratch() as place:
+            folder = made(place)
+            (folder / name).write_bytes(data)
+            before = contents(folder)
+            ended = take_in(folder, "cible;réponse\nV10;accepter\n")
+            told = ended.status == 3 and f"{name}, row {row}" in ended.complaint and "Traceback" not in ended.complaint
+            tally.check(f"{name}: {data[:60]!r}", told and not ended.output, ended)
+            tally.equal(f"{name}: nothing is changed", contents(folder), before)
+
+
 def check_random(tally: Tally, program: str) -> None:
     """What is told as unfit is what must be taken out for the program to make the day, and no more."""
     tally.begin(f"take_in, random answers of {CAMPAIGNS} random dossiers")

@@ -140,14 +140,15 @@ def check_broken_dossiers(tally: Tally) -> None:
     tally.begin("next_day, dossiers that are not as the tool left them")
     for name, text in (("campaign.csv", "day,date,term\nsoon,,\n"), ("campaign.csv", ""),
                        ("campaign.csv", "day,date,term\n2,2026-06-02,\n"), ("state.csv", "wish;status\n"),
-                       ("groups.csv", ""), ("answers.csv", "day,kind,target\n1,accept\n")):
+                       ("groups.csv", ""), ("answers.csv", "day,kind,target\n1,accept\n"),
+                       ("groups.csv", f"group,scholar_pct,resident_pct\n1,20,{'0' * 200_000}\n")):
         with scratch() as place:
             folder = place / "dossier"
             shutil.copytree(BLANK, folder)
             (folder / name).write_text(text)
             before = contents(folder)
             ended = run(TOOLS / "next_day", folder)
-            tally.check(f"{name}: {text!r}", ended.status in (1, 3) and "Traceback" not in ended.complaint, ended)
+            tally.check(f"{name}: {text[:60]!r}", ended.status in (1, 3) and "Traceback" not in ended.complaint, ended)
             tally.equal(f"{name}: nothing has changed", contents(folder), before)
     with scratch() as place:
         folder = place / "dossier"

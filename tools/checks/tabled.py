@@ -69,6 +69,36 @@ def check_refusals(tally: Tally, folder: Path, place: Path) -> None:
     tally.check("a full disk", is_told and not (place / "new").exists(), ended)
 
 
+def check_names(tally: Tally) -> None:
+    """A number in a sheet of names is nobody's whose id it is not, whatever number the dossier gave to that id."""
+    tally.begin("tables, names of somebody else")
+    with scratch() as place:
+        folder = made(place, ())
+        (place / "names.csv").write_text("candidate,name\n3,Somebody Else\nE03,Ada\n")
+        ended = tables(folder, place / "out", "--dialect", "plain", "--names", place / "names.csv")
+        rows = table_in(place / "out", "wishes.csv", "plain")
+        names = {row["Candidate"]: row["Name of the candidate"] for row in rows}
+        tally.check("the name is that of the id", names["E03"] == "Ada" and set(names.values()) == {"", "Ada"}, ended)
+
+
+def check_other_wishes(tally: Tally) -> None:
+    """Whose an offer was is not told by wishes that have changed since."""
+    tally.begin("tables, wishes that changed hands between two days")
+    with scratch() as place:
+        folder = made(place, ())
+        wishes = folder / "wishes.csv"
+        wishes.write_text(wishes.read_text().replace("\n2,1,1,,0\n", "\n2,2,1,,0\n").replace("\n3,2,1,,0\n", "\n"))
+        state = folder / "state.csv"
+        state.write_text("".join(line for line in state.read_text().splitlines(True) if not line.startswith("3,")))
+        run(TOOLS / "next_day", folder)
+        ended = tables(folder, place / "out", "--dialect", "plain")
+        first, second = (table_in(place / "out", f"offers-of-day-00{day}.csv", "plain") for day in (1, 2))
+        is_told = b"of the offers of day 1 the tables name the wish alone" in ended.output
+        tally.check("of the day before, the wish alone",
+                    is_told and first and all(row["Wish"] and not row["Candidate"] for row in first), ended)
+        tally.check("of the day after, whose it is", all(row["Candidate"] for row in second), second)
+
+
 def check_queues(tally: Tally, program: str) -> None:
     """A place in the waiting list never gets worse, and statuses are those of the state."""
     tally.begin(f"tables after each of {DAYS} days, {CAMPAIGNS} random campaigns")

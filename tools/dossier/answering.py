@@ -1,6 +1,5 @@
 """The answers of a sheet: read, held against the dossier, and tried by the program on the coming day."""
 
-import csv
 import re
 import tempfile
 from collections.abc import Iterable, Iterator
@@ -17,15 +16,14 @@ from .messages import (CORRECT_WISH, DONE, FAR_DAY, NAME_TARGET, NAME_WISH, NO_C
                        NO_WISH, NO_WISH_NAMED, NO_WISH_OF, NUMBER_DAY, OTHER_CANDIDATE, PAST_DAY, QUIT_CANDIDATE,
                        REFUSE_IT, TAKE_OUT, TAKE_OUT_WAITING, UNFIT, WITHDRAW_IT)
 from .naming import Names
-from .records import Wish
-from .slots import GREATEST_DAY, SLOTS, Thing
+from .records import Wish, records_of
+from .slots import ANSWERS, GREATEST_DAY, SLOTS, Thing
 from .tables import Table
 from .texts import Text
 from .values import ANSWER_WORDS, NOTHING, QUIT, Spellings
 from .writing import csv_bytes
 
-ANSWERS = "answers.csv"
-HEADER = ("day", "kind", "target")
+HEADER = tuple(column.name for column in ANSWERS.columns)
 UNFIT_LINE = re.compile(rb"refused answers row ([0-9]+) reason 18 UnfitAnswer ([a-z_]+)\n?")
 
 
@@ -46,17 +44,16 @@ class SlotSheet:
     """The answers that the dossier has already, as a sheet whose rows a fault may show."""
 
     label: str
-    rows: list[list[str]]
+    rows: dict[int, list[str]]
 
     def cells_of(self, numbers: Iterable[int]) -> dict[int, list[str]]:
-        return {number: self.rows[number - 1] for number in numbers}
+        return {number: self.rows[number] for number in numbers}
 
 
 def answers_in(dossier: Path) -> tuple[SlotSheet, list[Answer]]:
     """The answers that are there already."""
-    with open(dossier / ANSWERS, newline="", encoding="utf-8-sig") as file:
-        rows = [cells for cells in csv.reader(file) if cells]
-    return SlotSheet(ANSWERS, rows), [answer_of(dossier, number, cells) for number, cells in enumerate(rows[1:], 2)]
+    rows = list(records_of(dossier, ANSWERS))
+    return SlotSheet(ANSWERS.file, dict(rows)), [answer_of(dossier, number, cells) for number, cells in rows]
 
 
 def answer_of(dossier: Path, number: int, cells: list[str]) -> Answer:
@@ -65,7 +62,7 @@ def answer_of(dossier: Path, number: int, cells: list[str]) -> Answer:
         day, kind, target = cells
         return Answer(int(day), kind, int(target))
     except ValueError:
-        raise Stopped(program.READ_FAULT, f"{dossier / ANSWERS}, row {number}: {shown(','.join(cells))} is no row of "
+        raise Stopped(program.READ_FAULT, f"{dossier / ANSWERS.file}, row {number}: {shown(','.join(cells))} is no row of "
                                           "answers; correct it (docs/FORMATS.md), or take it out.") from None
 
 
@@ -170,9 +167,9 @@ def first_unfit(dossier: Path, answers: list[Answer], calendar: Calendar) -> tup
     """The place of the first answer that does not fit on the coming day, and the status that the program found."""
     with tempfile.TemporaryDirectory(prefix="take_in.") as place:
         for slot in SLOTS:
-            if slot.file != ANSWERS:
+            if slot is not ANSWERS:
                 (Path(place) / slot.file).symlink_to((dossier / slot.file).resolve())
-        (Path(place) / ANSWERS).write_bytes(csv_bytes(HEADER, (answer.cells() for answer in answers)))
+        (Path(place) / ANSWERS.file).write_bytes(csv_bytes(HEADER, (answer.cells() for answer in answers)))
         with tempfile.TemporaryFile() as output:
             status = program.run(["envy", "--days", "1", *calendar.words()], Path(place), output)
             output.seek(0)

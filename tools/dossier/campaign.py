@@ -15,7 +15,7 @@ import os
 import re
 import shutil
 from collections.abc import Iterator
-from contextlib import contextmanager
+from contextlib import contextmanager, suppress
 from dataclasses import dataclass
 from pathlib import Path
 
@@ -127,12 +127,11 @@ def alone(folder: Path) -> Iterator[None]:
 
 
 def row_of(slot: Path, number: int) -> str:
-    """A row of a slot, counted as refusals count them."""
+    """A row of a slot, counted as refusals count them; nothing where a cell is too long to be read."""
     with open(slot, newline="", encoding="utf-8-sig", errors="replace") as file:
         records = (cells for cells in csv.reader(file) if cells)
-        for place, cells in enumerate(records, start=1):
-            if place == number:
-                return shown(",".join(cells))
+        with suppress(csv.Error):
+            return next((shown(",".join(cells)) for place, cells in enumerate(records, start=1) if place == number), "")
     return ""
 
 

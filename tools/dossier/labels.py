@@ -71,10 +71,11 @@ def read_labels(path: Path, names: Names) -> Labels:
 
 
 def number_of(text: str, thing: Thing, names: Names) -> int | None:
-    """The number of the id in a cell; none where it is no id."""
+    """The number of the id in a cell; none where it is no id of the dossier, as a number that stands for another."""
     try:
         identifier = read_id(text.strip())
     except Unclear:
         return None
-    number = names.by_id[thing].get(identifier.spelled)
-    return identifier.number if number is None else number
+    if identifier.spelled in names.by_id[thing]:
+        return names.by_id[thing][identifier.spelled]
+    return None if identifier.number in names.by_number[thing] else identifier.number

@@ -31,7 +31,8 @@ class Names:
         return self.by_number[thing].get(number, str(number))
 
     def number(self, thing: Thing, word: str) -> int | None:
-        """The number of an id, or of the one id that differs from the word in capitals and accents alone."""
+        """The number of an id, or of the one id that differs from the word in capitals, accents, hyphens and blanks
+        alone."""
         if word in self.by_id[thing]:
             return self.by_id[thing][word]
         if word.isascii() and word.isdigit() and len(word) <= 10:

@@ -10,13 +10,12 @@ from typing import NamedTuple
 from .cells import IN_ENGLISH, IN_FRENCH
 from .labels import Labels
 from .naming import Names
-from .records import WAITING, Held, KeptDay, Wish
+from .records import WAITING, WAITS, Held, KeptDay, Wish
 from .slots import Thing
 from .texts import Language, Text
 
 OFFERED = "offered"
 FORMULAS = ("=", "+", "-", "@", "\t", "\r")
-WAITS = Held(WAITING)
 Row = list[object]
 
 WISH = Text("Wish", "Vœu")
@@ -192,14 +191,14 @@ class Tables:
                    row.preference, *campaign.status_cells(row.wish), *self.place_cells(row)]
 
     def offers(self, day: KeptDay) -> Iterator[Row]:
-        """The offers of a day, and how each stood in that day's evening."""
+        """The offers of a day, and how each stood in that day's evening. Whose they were is told where the wishes are
+        as they were then."""
         campaign = self.campaign
-        by_wish = {row.wish: row for row in campaign.wishes}
+        by_wish = {row.wish: row for row in campaign.wishes} if day.had_wishes_of(campaign.last) else {}
         today, term = day.calendar.today, day.calendar.term
         by = today + timedelta(days=term) if today and term is not None else ""
         yield campaign.titles(PASS, WISH, CANDIDATE, PROGRAMME, SCHOOL, STATUS, ANSWER_BY)
         for number, wish in day.offers:
-            # A wish that was taken out of the dossier since has no row.
             row = by_wish.get(wish)
             candidate, programme, school = (row.candidate, row.programme, row.school) if row else (None, None, None)
             held = day.after[wish]

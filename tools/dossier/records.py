@@ -2,6 +2,7 @@
 
 import csv
 import io
+import re
 from collections.abc import Iterator
 from dataclasses import dataclass
 from datetime import timedelta
@@ -9,11 +10,14 @@ from functools import cached_property
 from pathlib import Path
 from typing import NamedTuple
 
-from .campaign import CALENDAR, CHANGING, CHECKSUMS, LASTING, STAGING, Stopped, checksums, slots_changed, unread
+from .campaign import CALENDAR, CHANGING, CHECKSUMS, LASTING, Stopped, checksums, slots_changed, unread
 from .dating import Calendar
+from .faults import shown
 from .program import READ_FAULT
+from .slots import WISHES, Slot
 
 WAITING = "waiting"
+A_DAY = re.compile("day-[0-9]{3,}")
 
 
 class Wish(NamedTuple):
@@ -26,18 +30,39 @@ class Wish(NamedTuple):
     preference: int
 
 
-def rows_of(dossier: Path, slot: str) -> Iterator[list[int]]:
-    """The rows of a slot of numbers that the program has accepted; an empty cell is 0."""
-    with open(dossier / f"{slot}.csv", newline="", encoding="utf-8-sig") as file:
-        records = (cells for cells in csv.reader(file) if cells)
-        next(records)
-        for cells in records:
+def records_of(dossier: Path, slot: Slot) -> Iterator[tuple[int, list[str]]]:
+    """The rows of a slot below its header, with their numbers; raises Stopped where it is not as the program takes
+    it."""
+    names = [column.name for column in slot.columns]
+    row, path = 1, dossier / slot.file
+    try:
+        with open(path, newline="", encoding="utf-8-sig") as file:
+            records = (cells for cells in csv.reader(file) if cells)
+            header = next(records, [])
+            if header not in (names, names[:-1] if slot.columns[-1].is_optional else names):
+                raise ValueError("another header")
+            for row, cells in enumerate(records, start=2):
+                if len(cells) != len(header):
+                    raise ValueError("another number of cells")
+                yield row, cells
+    except (ValueError, csv.Error):
+        raise Stopped(READ_FAULT, f"{path}, row {row} or one after it: the program does not take it as it is; correct "
+                                  "it (docs/FORMATS.md), and call again.") from None
+
+
+def rows_of(dossier: Path, slot: Slot) -> Iterator[list[int]]:
+    """The rows of a slot of numbers; an empty cell is 0."""
+    for row, cells in records_of(dossier, slot):
+        try:
             yield [int(cell or 0) for cell in cells]
+        except ValueError:
+            raise Stopped(READ_FAULT, f"{dossier / slot.file}, row {row}: {shown(','.join(cells))} is no row of "
+                                      "numbers; correct it (docs/FORMATS.md), and call again.") from None
 
 
 def wishes_in(dossier: Path) -> list[Wish]:
     return [Wish(wish, candidate, programme, school or None, preference)
-            for wish, candidate, programme, school, preference in rows_of(dossier, "wishes")]
+            for wish, candidate, programme, school, preference in rows_of(dossier, WISHES)]
 
 
 class Held(NamedTuple):
@@ -47,11 +72,17 @@ class Held(NamedTuple):
     since: str = ""
 
 
-def state_of(slot: bytes) -> dict[int, Held]:
-    """The wishes of a state slot that have a row; the others wait."""
-    records = csv.reader(io.StringIO(slot.decode("utf-8-sig"), newline=""))
-    _, *rows = [cells for cells in records if cells]
-    return {int(wish): Held(status, *since) for wish, status, *since in rows}
+WAITS = Held(WAITING)
+
+
+def state_of(slot: bytes, path: Path) -> dict[int, Held]:
+    """The wishes of a state slot that have a row, as this file of a record has it; the others wait."""
+    try:
+        records = csv.reader(io.StringIO(slot.decode("utf-8-sig"), newline=""))
+        _, *rows = [cells for cells in records if cells]
+        return {int(wish): Held(status, *since) for wish, status, *since in rows}
+    except (ValueError, TypeError, csv.Error):
+        raise Stopped(READ_FAULT, f"{path} is not as next_day wrote it; put it back as it was.") from None
 
 
 @dataclass(frozen=True)
@@ -67,12 +98,13 @@ class KeptDay:
 
     @cached_property
     def before(self) -> dict[int, Held]:
-        return state_of((self.folder / "before/state.csv").read_bytes())
+        path = self.folder / "before/state.csv"
+        return state_of(path.read_bytes(), path)
 
     @cached_property
     def after(self) -> dict[int, Held]:
         """How each wish stood in the evening, as the program wrote it."""
-        return state_of(self.report.partition(b"\nfinal\n")[2])
+        return state_of(self.report.partition(b"\nfinal\n")[2], self.folder / "report.txt")
 
     @cached_property
     def last_passes(self) -> dict[int, int]:
@@ -83,6 +115,15 @@ class KeptDay:
     @property
     def number(self) -> int:
         return self.calendar.day
+
+    @cached_property
+    def checksums(self) -> bytes:
+        """The checksums of the slots that do not change from day to day, as they were for this one."""
+        return (self.folder / CHECKSUMS).read_bytes()
+
+    def had_wishes_of(self, other: "KeptDay") -> bool:
+        """Whether the wishes were the same on the other day: a number of a wish may have changed hands meanwhile."""
+        return WISHES.file not in slots_changed(self.checksums, other.checksums)
 
     @cached_property
     def offers(self) -> list[tuple[int, int]]:
@@ -112,7 +153,7 @@ class KeptDay:
 
     def test_slots(self, dossier: Path) -> None:
         """The slots that do not change from day to day must be as they were for this one."""
-        changed = slots_changed(checksums(dossier), (self.folder / CHECKSUMS).read_bytes())
+        changed = slots_changed(checksums(dossier), self.checksums)
         if changed:
             raise Stopped(READ_FAULT, f"{', '.join(changed)} changed since day {self.number} was made, so what the "
                                       "program said of that day cannot be told; put it back as it was, or make the "
@@ -139,10 +180,9 @@ def kept_day(folder: Path) -> KeptDay:
 
 
 def kept_days(dossier: Path) -> list[KeptDay]:
-    """The days that have records, in order."""
+    """The days that have records, in order; whatever else lies beside these is passed over."""
     try:
-        folders = sorted((dossier / "days").iterdir())
-        found = [kept_day(folder) for folder in folders if not folder.name.startswith(STAGING)]
+        found = [kept_day(folder) for folder in (dossier / "days").iterdir() if A_DAY.fullmatch(folder.name)]
         return sorted(found, key=lambda day: day.number)
     except FileNotFoundError as error:
         if Path(error.filename) == dossier / "days":

@@ -13,12 +13,16 @@ def start(tool, module):
         sys.stderr.write("%s: it needs Python %d.%d or later, and this is %d.%d; install a later one.\n"
                          % ((tool,) + OLDEST + tuple(sys.version_info[:2])))
         sys.exit(TOO_OLD)
-    main = importlib.import_module(module).main
-    if sys.argv[1:] == ["--version"]:
-        from dossier.program import version
-        sys.stdout.write("%s, %s\n" % (tool, version()))
-        sys.exit(0)
-    sys.exit(main(sys.argv[1:]))
+    try:
+        main = importlib.import_module(module).main
+        if sys.argv[1:] == ["--version"]:
+            from dossier.program import version
+            sys.stdout.write("%s, %s\n" % (tool, version()))
+            sys.exit(0)
+        sys.exit(main(sys.argv[1:]))
+    except KeyboardInterrupt as stop:
+        sys.stderr.write("%s: stopped.\n" % tool)
+        sys.exit(getattr(stop, "status", 130))
 
 
 if __name__ == "__main__":

@@ -13,7 +13,7 @@ from .labels import Labels, read_labels
 from .naming import Names, NotIds, names_in
 from .outputs import DIALECTS, Campaign, Dialect, Ranked, Row, Tables
 from .records import Wish, made_days, rows_of, wishes_in
-from .slots import Thing
+from .slots import BOARDING, PROGRAMMES, RANKINGS, SCHOOLS, Thing
 from .texts import Language, Text
 from .wording import Words, language_here
 from .writing import Told, is_folder, named_folder, say, stop_cleanly, write_folder
@@ -26,6 +26,8 @@ PROGRAMME = Text("programme", "formation")
 SCHOOL = Text("boarding school", "internat")
 OFFERS = Text("offers of day", "propositions du jour")
 BARS = Text("bars", "barres")
+CHANGED = Text("The wishes have changed since: of the offers of day {days} the tables name the wish alone.",
+               "Les vœux ont changé depuis : des propositions du jour {days}, les tableaux ne nomment que le vœu.")
 WRITTEN = Text("{count} tables of the evening of day {day} are in {folder}.",
                "{count} tableaux du soir du jour {day} sont dans {folder}.")
 
@@ -51,12 +53,12 @@ def words() -> Words:
 def campaign_of(dossier: Path, names: Names, labels: Labels, language: Language) -> Campaign:
     days = made_days(dossier)
     days[-1].test_slots(dossier)
-    boarding: dict[int, dict[int, int]] = {row[0]: {} for row in rows_of(dossier, "schools")}
-    for school, candidate, rank in rows_of(dossier, "boarding"):
+    boarding: dict[int, dict[int, int]] = {row[0]: {} for row in rows_of(dossier, SCHOOLS)}
+    for school, candidate, rank in rows_of(dossier, BOARDING):
         boarding[school][candidate] = rank
-    return Campaign(days, wishes_in(dossier), {row[0]: row[1] for row in rows_of(dossier, "programmes")},
+    return Campaign(days, wishes_in(dossier), {row[0]: row[1] for row in rows_of(dossier, PROGRAMMES)},
                     {(group, candidate): Ranked(rank, scholar, resident)
-                     for group, candidate, rank, scholar, resident in rows_of(dossier, "rankings")},
+                     for group, candidate, rank, scholar, resident in rows_of(dossier, RANKINGS)},
                     boarding, names, labels, language)
 
 
@@ -114,7 +116,10 @@ def tabulate(folder: Path, out: Path, paths: list[Path], dialect: Dialect, langu
     campaign = campaign_of(folder, names, labels_in(paths, names), language)
     files = files_of(campaign, dialect)
     write_folder(out, files, is_kept=False)
-    say("tables", WRITTEN.of(count=len(files), day=campaign.last.number, folder=out).said(language))
+    lines = [WRITTEN.of(count=len(files), day=campaign.last.number, folder=out)]
+    if changed := [str(day.number) for day in campaign.days if not day.had_wishes_of(campaign.last)]:
+        lines.append(CHANGED.of(days=", ".join(changed)))
+    say("tables", "\n".join(line.said(language) for line in lines))
     return DONE
 
 

@@ -5,7 +5,7 @@ import sys
 from pathlib import Path
 
 from . import program
-from .answering import ANSWERS, HEADER, Answer, SheetOfAnswers, answers_in, coming_day, tell_unfit
+from .answering import HEADER, Answer, SheetOfAnswers, answers_in, coming_day, tell_unfit
 from .campaign import Stopped, alone, unread
 from .cells import DateOrder
 from .dating import Calendar
@@ -16,7 +16,7 @@ from .going_on import start_date, term_of_days
 from .naming import NotIds, names_in
 from .preparing import LEFT_OUT, chosen_column
 from .records import wishes_in
-from .slots import ANSWER_SHEET
+from .slots import ANSWER_SHEET, ANSWERS
 from .tables import Choices, Table
 from .texts import Language, Text
 from .values import things
@@ -95,7 +95,7 @@ def take_in(folder: Path, sheet: Path, choices: Choices, calendar: Calendar, is_
     if faults.found:
         print(faults.told([slot.label, table.sheet.label], language), file=sys.stderr)
         return FAULTY
-    replace_file(folder / ANSWERS, csv_bytes(HEADER, (answer.cells() for _, answer in both)))
+    replace_file(folder / ANSWERS.file, csv_bytes(HEADER, (answer.cells() for _, answer in both)))
     say("take_in", summary(table, old, new, both, calendar, language))
     return DONE
 
@@ -123,7 +123,7 @@ def main(arguments: list[str]) -> int:
         print(f"take_in: {error}", file=sys.stderr)
         return program.READ_FAULT
     except OSError as error:
-        is_written = os.path.basename(str(error.filename)) == f".{ANSWERS}.new" or not error.filename
+        is_written = os.path.basename(str(error.filename)) == f".{ANSWERS.file}.new" or not error.filename
         told = f"{error.filename or given.folder}: {error.strerror}; the answers are as they were."
         print(f"take_in: {told if is_written else unread(error)}", file=sys.stderr)
         return program.WRITE_FAULT if is_written else program.READ_FAULT
