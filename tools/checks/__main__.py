@@ -56,9 +56,12 @@ def topics(program: str) -> dict[str, list[Checks]]:
                     partial(cutting.check_finds, program=program), partial(cutting.check_written, program=program)],
         "installing": [installing.check_installed, installing.check_version],
         "workbooks": [workbooks.check_workbooks],
-        "answered": [answered.check_taken, answered.check_faults, partial(answered.check_random, program=program)],
-        "tabled": [tabled.check_lycee, partial(tabled.check_queues, program=program), tabled.check_ids_stay],
-        "whys": [whys.check_lycee, whys.check_by_hand, partial(whys.check_campaigns, program=program)],
+        "answered": [answered.check_taken, answered.check_faults, answered.check_broken_slots,
+                     partial(answered.check_random, program=program)],
+        "tabled": [tabled.check_lycee, tabled.check_names, tabled.check_other_wishes,
+                   partial(tabled.check_queues, program=program), tabled.check_ids_stay],
+        "whys": [whys.check_lycee, whys.check_by_hand, whys.check_lost_record, whys.check_answerer, whys.check_stopped,
+                 partial(whys.check_campaigns, program=program)],
     }
 
 

@@ -1,6 +1,7 @@
 """Why wishes stand as they do: what `why` says of the last of several days is what one run of all days explains."""
 
 import shutil
+import signal
 from datetime import timedelta
 from pathlib import Path
 from random import Random
@@ -14,7 +15,7 @@ from dossier.telling import LANGUAGES, sentences
 
 from .days import DAYS, grown
 from .dossiers import FIRST_DAY
-from .harness import DATA, EXAMPLES, TOOLS, Ended, Tally, run, scratch
+from .harness import DATA, EXAMPLES, TOOLS, Ended, Tally, executable, run, scratch, stopped_once_begun
 
 CAMPAIGNS = 6
 SEED = 99
@@ -59,6 +60,15 @@ def check_refusals(tally: Tally, folder: Path) -> None:
         ended = why(folder, *words)
         tally.check(f"{words}", ended.status == status and sentence in ended.complaint and not ended.output, ended)
     tally.check("a folder without days", "no day has been made" in why(LYCEE, "V01").complaint)
+    (folder / "days/.DS_Store").write_bytes(b"\0")
+    (folder / "days/day-003 (copy)").mkdir()
+    tally.equal("what else lies beside the records", why(folder, "V01").status, 0)
+    report = folder / "days/day-003/report.txt"
+    whole = report.read_bytes()
+    report.write_text("garbage\n")
+    ended = why(folder, "V14")
+    tally.check("a broken record", ended.status == 3 and "is not as next_day wrote it" in ended.complaint, ended)
+    report.write_bytes(whole)
     (folder / "programmes.csv").write_text((folder / "programmes.csv").read_text() + "\n")
     ended = why(folder, "V01")
     tally.check("a slot that changed", ended.status == 3 and "programmes.csv changed" in ended.complaint, ended)
@@ -80,7 +90,48 @@ def check_by_hand(tally: Tally) -> None:
         tally.check("before the day", b"It was accepted before 3 June." in ended.output, ended)
 
 
-def expected(found: Explanation, calendar: Calendar, since: str) -> dict[str, str]:
+def check_lost_record(tally: Tally) -> None:
+    """Where the record of a day is gone, what changed on it is told as from before the next record's."""
+    tally.begin("why, a record that is gone")
+    with scratch() as place:
+        folder = made(place, DATED, (), ())
+        shutil.rmtree(folder / "days/day-002")
+        ended = why(folder, "V04", "V03", "V06")
+        for told in (b"It was accepted before 4 June.", b"lapsed before 4 June.", b"accepted it for you on 2 June."):
+            tally.check(f"{told.decode()}", told in ended.output, ended)
+
+
+def check_answerer(tally: Tally) -> None:
+    """Who ranks their wishes and accepted one in person is told what the automatic answerer does for them."""
+    tally.begin("why, accepted in person by somebody who ranks their wishes")
+    with scratch() as place:
+        folder = made(place)
+        (folder / "state.csv").write_text("wish,status\n6,accepted\n")
+        run(TOOLS / "next_day", folder)
+        for language, told in (
+                ("en", "It was accepted before day 1. There is nothing to do: of the wishes that you prefer"),
+                ("fr", "Il a été accepté avant le jour 1. Il n'y a rien à faire\u00a0: parmi les vœux")):
+            ended = why(folder, "V06", language)
+            tally.check(language, told in ended.output.decode(), ended)
+
+
+def check_stopped(tally: Tally) -> None:
+    """Told to stop while the program runs, or before anything else, it says so and nothing else."""
+    tally.begin("why, told to stop")
+    with scratch() as place:
+        folder = made(place, ())
+        slow = executable(place / "slow", "#!/bin/sh\nexec sleep 60\n")
+        for number in (signal.SIGTERM, signal.SIGINT):
+            begun = place / "temporary"
+            begun.mkdir()
+            ended = stopped_once_begun(number, 0.5, begun, "why", str(folder), "V01", PARCOURS=slow)
+            tally.equal(number.name, (ended.status, ended.output, ended.complaint),
+                        (128 + number, b"", "why: stopped.\n"))
+            tally.equal(f"{number.name}: what is left", list(begun.iterdir()), [])
+            begun.rmdir()
+
+
+def expected(found: Explanation, calendar: Calendar, since: str, preference: int) -> dict[str, str]:
     """The sentences of what one run of all days explains, with its days as those of the campaign."""
     def day_of(number: int) -> object:
         return calendar.today - timedelta(days=calendar.day - number) if calendar.today else number
@@ -90,7 +141,7 @@ def expected(found: Explanation, calendar: Calendar, since: str) -> dict[str, st
         limit = calendar.today.fromisoformat(since) + timedelta(days=calendar.term)
         deadline = Deadline(limit, limit <= calendar.today)
     setting = Setting(moment=lambda stamp: Moment(day_of(max(stamp.day, 1)), is_before=stamp.day == 0),
-                      deadline=deadline, may_lapse=calendar.today is not None)
+                      deadline=deadline, may_lapse=calendar.today is not None, has_answerer=preference > 0)
     return {language: " ".join(sentences(found, setting, language)) for language in LANGUAGES}
 
 
@@ -108,14 +159,15 @@ def check_campaigns(tally: Tally, program: str) -> None:
                 next_day(place / "dossier", Calendar(1, FIRST_DAY, term) if is_dated else Calendar())
             last = kept_days(place / "dossier")[-1]
             dated = [] if term is None else ["--start", str(FIRST_DAY), "--term", str(term)]
-            wishes = [str(wish) for wish, *_ in dossier.rows["wishes"]]
-            told = {language: why(place / "dossier", *wishes, language).output.decode().split("\n\n")[1:]
+            preferences = {str(wish): preference for wish, *_, preference in dossier.rows["wishes"]}
+            told = {language: why(place / "dossier", *preferences, language).output.decode().split("\n\n")[1:]
                     for language in ("en", "fr")}
-            for place_of, wish in enumerate(wishes):
+            for place_of, (wish, preference) in enumerate(preferences.items()):
                 line = run(program, "explain", "--wish", wish, "--days", str(DAYS), *dated, folder=place / "whole")
                 found = explanation_of(line.output.decode().rstrip("\n"))
                 kinds.add(type(found).__name__)
-                for language, sentences in expected(found, last.calendar, last.after[int(wish)].since).items():
+                since = last.after[int(wish)].since
+                for language, sentences in expected(found, last.calendar, since, int(preference)).items():
                     seen = told[language][place_of].rstrip("\n").partition("\n")[2]
                     tally.equal(f"campaign {number}, wish {wish}, {language}", seen, sentences)
     tally.check("each kind of explanation is among them", len(kinds) == 5, kinds)

@@ -16,7 +16,7 @@ from .campaign import Stopped, unread
 from .explanation import AcceptedWish, Explanation, GoneWish, OfferedWish, Stamp, explanation_of
 from .faults import shown
 from .naming import Names, NotIds, names_in
-from .records import WAITING, Held, KeptDay, Wish, made_days, wishes_in
+from .records import WAITS, KeptDay, Wish, made_days, wishes_in
 from .setting import Day, Deadline, Moment, Setting
 from .slots import Thing
 from .telling import LANGUAGES, sentences
@@ -66,11 +66,12 @@ class Evening:
         """When the wish came to stand as it does, and in which pass. The program's stamp has the last day as day 1."""
         if stamp.day > 0:
             return Moment(self.day(self.last.number)), stamp.turn
-        held = self.last.before.get(wish, Held(WAITING))
-        for day in reversed(self.days[:-1]):
-            if day.after.get(wish, Held(WAITING)).status != held.status:
-                return Moment(self.day(day.number + 1), is_before=True), 0
-            if day.before.get(wish, Held(WAITING)).status != held.status:
+        held = self.last.before.get(wish, WAITS)
+        for day, later in zip(self.days[-2::-1], self.days[:0:-1]):
+            # What changed between two records, by hand or on a day whose record is gone, is told as before the later.
+            if day.after.get(wish, WAITS).status != held.status:
+                return Moment(self.day(later.number), is_before=True), 0
+            if day.before.get(wish, WAITS).status != held.status:
                 return Moment(self.day(day.number)), day.last_passes.get(wish, 0)
         return Moment(self.day(self.days[0].number), is_before=True), 0
 
@@ -83,8 +84,8 @@ class Evening:
         limit = date.fromisoformat(since) + timedelta(days=calendar.term)
         return Deadline(limit, is_over=limit <= calendar.today)
 
-    def told(self, found: Explanation, language: Language) -> list[str]:
-        """The sentences of an explanation, with the ids of the exports and the days of the campaign."""
+    def told(self, wish: Wish, found: Explanation, language: Language) -> list[str]:
+        """The sentences of a wish's explanation, with the ids of the exports and the days of the campaign."""
         moment = Moment(self.day(self.last.number))
         if isinstance(found, AcceptedWish | GoneWish | OfferedWish):
             moment, turn = self.changed(found.wish, found.stamp)
@@ -92,7 +93,7 @@ class Evening:
         setting = Setting(
             lambda wish: self.names.spelled(Thing.WISH, wish), lambda school: self.names.spelled(Thing.SCHOOL, school),
             lambda _: moment, self.deadline(found.wish) if isinstance(found, OfferedWish) else None,
-            self.last.calendar.today is not None)
+            self.last.calendar.today is not None, wish.preference > 0)
         return sentences(found, setting, language)
 
 
@@ -121,7 +122,7 @@ def paragraphs(asked: list[Wish], evening: Evening, dossier: Path, language: Lan
             heading = words_of.heading(spelled(Thing.WISH, wish.wish), spelled(Thing.CANDIDATE, wish.candidate),
                                        spelled(Thing.PROGRAMME, wish.programme),
                                        spelled(Thing.SCHOOL, wish.school) if wish.school else None)
-            told.append(spaced(heading, language) + "\n" + " ".join(evening.told(found, language)))
+            told.append(spaced(heading, language) + "\n" + " ".join(evening.told(wish, found, language)))
     return told
 
 

@@ -32,14 +32,15 @@ def moment_of_run(stamp: Stamp) -> Moment:
 
 @dataclass(frozen=True)
 class Setting:
-    """How wishes and schools are called, when a stamp was, by when an offer is to be answered, where that is known, and
-    whether it may lapse at all."""
+    """How wishes and schools are called, when a stamp was, by when an offer is to be answered, where that is known,
+    whether it may lapse at all, and whether the candidate uses the automatic answerer, where that is known."""
 
     wish: Callable[[int], str] = str
     school: Callable[[int], str] = str
     moment: Callable[[Stamp], Moment] = moment_of_run
     deadline: Deadline | None = None
     may_lapse: bool = True
+    has_answerer: bool | None = None
 
 
 OF_A_RUN = Setting()

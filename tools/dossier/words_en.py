@@ -15,12 +15,20 @@ ENDED = {
     Gone.AUTO_WITHDRAWN: "The automatic answerer withdrew it {when}, because you had an offer that you prefer.",
     Gone.LAPSED: "Its offer had no answer in time, and lapsed {when}.",
 }
-OVER = "It cannot come back, and there is nothing to do about it; your other wishes go on as they are."
-OVER_WITH_ALL = "All the wishes that you still had ended with it, and there is nothing left to do."
+OVER = "It cannot come back, and there is nothing to do about it. This says nothing of your other wishes."
+OVER_WITH_ALL = "Who leaves gives up all wishes that are still open, and this one cannot come back."
 WAIT_OR_WITHDRAW = "You can leave it waiting, or withdraw it."
+NOTHING_TO_DO = {  # by whether the candidate uses the automatic answerer, where that is known
+    True: "There is nothing to do: of the wishes that you prefer, those that wait go on waiting, and an offer for one "
+          "of them would take the place of this one.",
+    False: "There is nothing to do: your waiting wishes go on waiting, and if you accept another offer, you give this "
+           "place up.",
+    None: "There is nothing to do: your waiting wishes go on waiting. If another offer is accepted, by you or by the "
+          "automatic answerer, you give this place up."}
 STILL_REFUSE = "You can still refuse this place, but a wish that is refused never comes back."
 ANEW = "Each pass looks at your wish again."
-A_BED_AND_A_SEAT = "a bed for you, and a seat of the programme if you have none there yet"
+A_BED_AND_A_SEAT = ("a bed for you and, if you need one, a seat left in the programme. Who has a seat there already, "
+                    "or is within its call limit, needs none")
 
 
 def of_day(day: Day) -> str:
@@ -65,22 +73,19 @@ def offered(found: OfferedWish, setting: Setting) -> list[str]:
 
 
 def accepted(found: AcceptedWish, setting: Setting) -> list[str]:
-    wish, moment = setting.wish(found.wish), when(setting.moment(found.stamp))
-    if found.is_by_answerer:
-        return [f"Wish {wish} is accepted: the place is yours.",
-                f"The automatic answerer accepted it for you {moment}.",
-                "There is nothing to do: of the wishes that you prefer, those that wait go on waiting, and an offer "
-                "for one of them would take the place of this one.", STILL_REFUSE]
-    return [f"Wish {wish} is accepted: the place is yours.", f"It was accepted {moment}.",
-            "There is nothing to do: your waiting wishes go on waiting, and if you accept another offer, you give "
-            "this place up.", STILL_REFUSE]
+    moment = when(setting.moment(found.stamp))
+    by_whom = f"The automatic answerer accepted it for you {moment}." if found.is_by_answerer else \
+        f"It was accepted {moment}."
+    return [f"Wish {setting.wish(found.wish)} is accepted: the place is yours.", by_whom,
+            NOTHING_TO_DO[True if found.is_by_answerer else setting.has_answerer], STILL_REFUSE]
 
 
 def barred(found: BarredWish, setting: Setting) -> list[str]:
     told = [f"Wish {setting.wish(found.wish)} is waiting: there is no offer."]
     school = f"Boarding school {setting.school(found.school)}"
     if found.beds is None:
-        reach = "takes nobody else on this day" if found.bar == 0 else f"takes ranks up to {found.bar} on this day"
+        reach = "takes nobody else on this day" if found.bar == 0 else \
+            f"takes nobody ranked after {found.bar} on this day"
         return [*told, f"{school} {reach}, by its ceiling, and your rank there is {found.rank}.",
                 f"{ANEW} For an offer it takes a ceiling that reaches your rank, {A_BED_AND_A_SEAT}.", WAIT_OR_WITHDRAW]
     return [*told, f"{school} {fullness(found.beds)}. {reach_of(found)}, and your rank there is {found.rank}.",
@@ -94,10 +99,10 @@ def fullness(beds: int) -> str:
 
 
 def reach_of(found: BarredWish) -> str:
-    """How far the bar let in. It is 0 only where no bed was free."""
-    if found.bar == 0:
+    """Whom the bar stopped. Whoever it did not stop may have found no bed either; at 0 none was free."""
+    if found.bar == 0 or found.beds == 0:
         return "In the last pass no bed was free"
-    return f"In the last pass it took a rank of {found.bar} or better to get a bed there"
+    return f"In the last pass nobody ranked after {found.bar} could get a bed there"
 
 
 def seatless(found: SeatlessWish, setting: Setting) -> list[str]:

@@ -17,12 +17,20 @@ ENDED = {
                          "car vous aviez une proposition que vous préférez.",
     Gone.LAPSED: "Sa proposition est restée sans réponse à l'échéance : elle est devenue caduque {when}.",
 }
-OVER = "Il ne peut plus revenir, et vous n'avez rien à faire ; vos autres vœux suivent leur cours."
-OVER_WITH_ALL = "Tous les vœux qui vous restaient ont pris fin en même temps, et il n'y a plus rien à faire."
+OVER = "Il ne peut plus revenir, et vous n'avez rien à faire. Cela ne dit rien de vos autres vœux."
+OVER_WITH_ALL = "Une démission met fin à tous les vœux encore ouverts, et celui-ci ne peut plus revenir."
 WAIT_OR_WITHDRAW = "Vous pouvez le laisser en attente ou le retirer."
+NOTHING_TO_DO = {  # selon que la personne candidate a le répondeur automatique, ou qu'on ne le sait pas
+    True: "Il n'y a rien à faire : parmi les vœux que vous préférez, ceux qui attendent restent en attente, et une "
+          "proposition pour l'un d'eux remplacerait cette place.",
+    False: "Il n'y a rien à faire : vos vœux en attente le restent, et si vous acceptez une autre proposition, vous "
+           "perdez cette place.",
+    None: "Il n'y a rien à faire : vos vœux en attente le restent. Si une autre proposition est acceptée, par vous ou "
+          "par le répondeur automatique, vous perdez cette place."}
 STILL_REFUSE = "Vous pouvez encore refuser cette place, mais un vœu refusé ne revient jamais."
 ANEW = "Chaque passage réexamine votre vœu."
-A_BED_AND_A_SEAT = "un lit pour vous, et une place dans la formation si vous n'en avez pas déjà une"
+A_BED_AND_A_SEAT = ("un lit pour vous et, s'il vous en faut une, une place restante dans la formation. Qui y a déjà "
+                    "une place, ou ne dépasse pas son rang limite, n'en a pas besoin")
 
 
 def of_day(day: Day) -> str:
@@ -70,15 +78,11 @@ def offered(found: OfferedWish, setting: Setting) -> list[str]:
 
 
 def accepted(found: AcceptedWish, setting: Setting) -> list[str]:
-    wish, moment = setting.wish(found.wish), when(setting.moment(found.stamp))
-    if found.is_by_answerer:
-        return [f"Le vœu {wish} est accepté : la place est à vous.",
-                f"Le répondeur automatique l'a accepté pour vous {moment}.",
-                "Il n'y a rien à faire : parmi les vœux que vous préférez, ceux qui attendent restent en attente, et "
-                "une proposition pour l'un d'eux remplacerait cette place.", STILL_REFUSE]
-    return [f"Le vœu {wish} est accepté : la place est à vous.", f"Il a été accepté {moment}.",
-            "Il n'y a rien à faire : vos vœux en attente le restent, et si vous acceptez une autre proposition, "
-            "vous perdez cette place.", STILL_REFUSE]
+    moment = when(setting.moment(found.stamp))
+    by_whom = f"Le répondeur automatique l'a accepté pour vous {moment}." if found.is_by_answerer else \
+        f"Il a été accepté {moment}."
+    return [f"Le vœu {setting.wish(found.wish)} est accepté : la place est à vous.", by_whom,
+            NOTHING_TO_DO[True if found.is_by_answerer else setting.has_answerer], STILL_REFUSE]
 
 
 def barred(found: BarredWish, setting: Setting) -> list[str]:
@@ -86,7 +90,7 @@ def barred(found: BarredWish, setting: Setting) -> list[str]:
     school = f"L'internat {setting.school(found.school)}"
     if found.beds is None:
         reach = "ne prend plus personne ce jour-là" if found.bar == 0 else \
-            f"prend ce jour-là jusqu'au rang {found.bar}"
+            f"ne prend ce jour-là personne au-delà du rang {found.bar}"
         return [*told, f"{school} {reach} : c'est son plafond, et votre rang y est {found.rank}.",
                 f"{ANEW} Pour une proposition, il faut un plafond qui aille jusqu'à votre rang, {A_BED_AND_A_SEAT}.",
                 WAIT_OR_WITHDRAW]
@@ -101,10 +105,10 @@ def fullness(beds: int) -> str:
 
 
 def reach_of(found: BarredWish) -> str:
-    """Jusqu'où la barre laissait entrer. Elle n'est à 0 que si aucun lit n'était libre."""
-    if found.bar == 0:
+    """Qui la barre arrêtait. Qui ne l'était pas a pu ne pas trouver de lit non plus ; à 0, aucun n'était libre."""
+    if found.bar == 0 or found.beds == 0:
         return "Au dernier passage, aucun lit n'était libre"
-    return f"Au dernier passage, il fallait un rang de {found.bar} ou mieux pour y avoir un lit"
+    return f"Au dernier passage, personne au-delà du rang {found.bar} ne pouvait y avoir de lit"
 
 
 def seatless(found: SeatlessWish, setting: Setting) -> list[str]:
