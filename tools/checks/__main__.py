@@ -58,7 +58,7 @@ def topics(program: str) -> dict[str, list[Checks]]:
         "workbooks": [workbooks.check_workbooks],
         "answered": [answered.check_taken, answered.check_faults, answered.check_broken_slots,
                      partial(answered.check_random, program=program)],
-        "tabled": [tabled.check_lycee, tabled.check_names, tabled.check_other_wishes,
+        "tabled": [tabled.check_lycee, tabled.check_names, tabled.check_other_wishes, tabled.check_long_ids,
                    partial(tabled.check_queues, program=program), tabled.check_ids_stay],
         "whys": [whys.check_lycee, whys.check_by_hand, whys.check_lost_record, whys.check_answerer, whys.check_stopped,
                  partial(whys.check_campaigns, program=program)],

@@ -64,6 +64,9 @@ def check_refusals(tally: Tally, folder: Path, place: Path) -> None:
         is_told = ended.status == status and sentence in ended.complaint
         tally.check(f"{[str(word) for word in words[1:]]}", is_told, ended)
         tally.check("nothing is written", not (place / "new").exists())
+    ended = run(TOOLS / "tables", folder, place / ("x" * 300))
+    is_told = ended.status == 4 and "nothing is written" in ended.complaint
+    tally.check("a name that is too long", is_told, ended)
     ended = run(TOOLS / "tables", folder, place / "new", greatest_file=100)
     is_told = ended.status == 4 and "Traceback" not in ended.complaint
     tally.check("a full disk", is_told and not (place / "new").exists(), ended)
@@ -97,6 +100,19 @@ def check_other_wishes(tally: Tally) -> None:
         tally.check("of the day before, the wish alone",
                     is_told and first and all(row["Wish"] and not row["Candidate"] for row in first), ended)
         tally.check("of the day after, whose it is", all(row["Candidate"] for row in second), second)
+
+
+def check_long_ids(tally: Tally) -> None:
+    """Ids of any length, and of letters that take four bytes each, make names of files."""
+    tally.begin("tables, long ids")
+    with scratch() as place:
+        folder = made(place, ())
+        ids = folder / "ids.csv"
+        ids.write_text(ids.read_text().replace("MPSI", "\U0001d49c" * 90).replace("Nord", "n" * 300))
+        ended = tables(folder, place / "out", "--lang", "en")
+        names = sorted(path.name for path in (place / "out").iterdir()) if ended.status == 0 else []
+        is_there = {name[:11] for name in names} >= {"boarding-sc", "programme-\U0001d49c"}
+        tally.check("their files", is_there and all(len(name.encode()) < 250 for name in names), (ended, names))
 
 
 def check_queues(tally: Tally, program: str) -> None:

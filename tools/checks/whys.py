@@ -60,6 +60,9 @@ def check_refusals(tally: Tally, folder: Path) -> None:
         ended = why(folder, *words)
         tally.check(f"{words}", ended.status == status and sentence in ended.complaint and not ended.output, ended)
     tally.check("a folder without days", "no day has been made" in why(LYCEE, "V01").complaint)
+    ended = run(TOOLS / "why", folder, "V01", greatest_file=10)
+    is_told = ended.status == 4 and "a temporary file cannot be written" in ended.complaint
+    tally.check("a full disk", is_told and not ended.output, ended)
     (folder / "days/.DS_Store").write_bytes(b"\0")
     (folder / "days/day-003 (copy)").mkdir()
     tally.equal("what else lies beside the records", why(folder, "V01").status, 0)

@@ -66,6 +66,10 @@ def read_files(folder: Path) -> Files:
 
 
 def unread(error: OSError) -> Stopped:
+    """What to say of a file that cannot be read; an error without a name is one of a file that is being written."""
+    if error.filename is None:
+        return Stopped(program.WRITE_FAULT, f"a temporary file cannot be written: {error.strerror}; make room for it, "
+                                            "and call again.")
     return Stopped(program.READ_FAULT, f"{error.filename}: {error.strerror}; see that it is there and may be read, and "
                                        "call again.")
 

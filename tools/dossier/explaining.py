@@ -15,7 +15,7 @@ from . import program
 from .campaign import Stopped, unread
 from .explanation import AcceptedWish, Explanation, GoneWish, OfferedWish, Stamp, explanation_of
 from .faults import shown
-from .naming import Names, NotIds, names_in
+from .naming import Names, names_in
 from .records import WAITS, KeptDay, Wish, made_days, wishes_in
 from .setting import Day, Deadline, Moment, Setting
 from .slots import Thing
@@ -158,12 +158,10 @@ def main(arguments: list[str]) -> int:
     except Stopped as stop:
         print(f"why: {stop}", file=sys.stderr)
         return stop.status
-    except NotIds as error:
-        print(f"why: {error}", file=sys.stderr)
-        return program.READ_FAULT
     except OSError as error:
-        print(f"why: {unread(error)}", file=sys.stderr)
-        return program.READ_FAULT
+        stop = unread(error)
+        print(f"why: {stop}", file=sys.stderr)
+        return stop.status
 
 
 def tell(folder: Path, wishes: list[str], candidates: list[str], language: Language) -> int:

@@ -5,7 +5,9 @@ from collections.abc import Iterable
 from dataclasses import dataclass
 from pathlib import Path
 
+from .campaign import Stopped
 from .headers import fold
+from .program import READ_FAULT
 from .slots import Thing
 
 IDS = "ids.csv"
@@ -13,10 +15,6 @@ NUMBER = "number"
 KINDS = tuple(Thing)
 HEADER = (NUMBER, *(thing.value for thing in KINDS))
 EARLIER_HEADER = ("thing", NUMBER, "id")
-
-
-class NotIds(Exception):
-    """A file that is no table of ids."""
 
 
 @dataclass(frozen=True)
@@ -51,13 +49,13 @@ def names_of(entries: Iterable[tuple[Thing, int, str]]) -> Names:
 
 
 def read_names(path: Path) -> Names:
-    """Reads a table of ids; raises NotIds where the file is none, and OSError where it cannot be read."""
+    """Reads a table of ids; raises Stopped where the file is none, and OSError where it cannot be read."""
     with open(path, newline="", encoding="utf-8-sig") as file:
         try:
             header, *rows = csv.reader(file)
             return names_of(list(_entries(tuple(header), rows)))
         except (ValueError, csv.Error):
-            raise NotIds(f"{path} is no table of ids as prepare writes it.") from None
+            raise Stopped(READ_FAULT, f"{path} is no table of ids as prepare writes it.") from None
 
 
 def _entries(header: tuple[str, ...], rows: list[list[str]]) -> Iterable[tuple[Thing, int, str]]:

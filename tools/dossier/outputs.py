@@ -56,6 +56,10 @@ class Dialect:
         csv.writer(text, delimiter=self.separator, lineterminator=self.line_end).writerows(rows)
         return self.mark + text.getvalue().encode(self.codec)
 
+    def written(self, rows: Iterable[Row]) -> Iterator[bytes]:
+        """The bytes of the rows, which are made when they are asked for."""
+        yield self.bytes_of(rows)
+
 
 DIALECTS = {
     "semicolons": Dialect(";", "utf-8", b"\xef\xbb\xbf", "\r\n"),

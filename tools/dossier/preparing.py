@@ -9,18 +9,19 @@ from datetime import date
 from itertools import islice
 from pathlib import Path
 
+from .campaign import Stopped
 from .cells import DateOrder, Rates
 from .faults import Faults, shown
 from .folders import Exports, read_folder
 from .headers import fold
 from .messages import NUMBERS_OF_CAMPAIGN, PLURALS
-from .naming import IDS, Names, NotIds, names_of, read_names, table_of
+from .naming import IDS, Names, names_of, read_names, table_of
 from .numbering import Numbers, number_ids, translated
 from .relations import Relations
 from .slots import SLOTS, Column, Content, Thing
 from .sources import SEPARATORS, TextSheet
 from .tables import PROGRESS, Choices, Table
-from .texts import Counted, Language, Text, said
+from .texts import Counted, Filled, Language, Text, said
 from .values import ANSWER_WORDS, NOTHING, QUIT, STATUS_WORDS
 from .wording import Words
 from .writing import Told, csv_bytes, is_folder, named_folder, say, stop_cleanly, write_folder
@@ -116,6 +117,12 @@ def slot_files(exports: Exports, numbers: Numbers) -> dict[str, bytes | Iterator
     return files
 
 
+def columns_left_out(table: Table) -> list[Filled]:
+    """A line on the columns of a sheet that are not read, where there are some."""
+    names = ", ".join(shown(table.header.titles[place].strip()) for place in sorted(table.header.left_out))
+    return [LEFT_OUT.of(file=shown(table.sheet.label), names=names)] if names else []
+
+
 def summary(exports: Exports, numbers: Numbers, folder: Path, language: Language) -> str:
     """What was read and written, a line for each slot."""
     lines, left_out = [], []
@@ -125,9 +132,7 @@ def summary(exports: Exports, numbers: Numbers, folder: Path, language: Language
         how = f" ({sheet.coding.name}, {said(SEPARATORS[sheet.separator], language)})" \
             if isinstance(sheet, TextSheet) else ""
         lines.append(READ.of(slot=slot.file, rows=Counted(len(table), ROW, ROWS), file=shown(sheet.label), how=how))
-        if table.header.left_out:
-            names = ", ".join(shown(table.header.titles[place].strip()) for place in sorted(table.header.left_out))
-            left_out.append(LEFT_OUT.of(file=shown(sheet.label), names=names))
+        left_out += columns_left_out(table)
     for thing, by_code in numbers.by_code.items():
         if by_code:
             lines.append(NUMBERED.of(ids=IDS, count=len(by_code), things=PLURALS[thing.value],
@@ -187,9 +192,9 @@ def main(arguments: list[str]) -> int:
         columns = {fold(title): "" for title in given.leave_out} | dict(given.column)
         return prepare(given.exports, given.folder, Choices(given.dates, given.rates, columns),
                        earlier_names(given.ids, given.exports), given.lang)
-    except NotIds as error:
-        print(f"prepare: {error}", file=sys.stderr)
-        return NOT_WRITTEN
+    except Stopped as stop:
+        print(f"prepare: {stop}", file=sys.stderr)
+        return stop.status
     except OSError as error:
         print(f"prepare: {error.filename or given.folder}: {error.strerror}; {left(given.folder)}", file=sys.stderr)
         return NOT_WRITTEN

@@ -10,7 +10,7 @@ from . import program
 from .campaign import Stopped, unread
 from .decoding import Unreadable
 from .labels import Labels, read_labels
-from .naming import Names, NotIds, names_in
+from .naming import Names, names_in
 from .outputs import DIALECTS, Campaign, Dialect, Ranked, Row, Tables
 from .records import Wish, made_days, rows_of, wishes_in
 from .slots import BOARDING, PROGRAMMES, RANKINGS, SCHOOLS, Thing
@@ -19,7 +19,7 @@ from .wording import Words, language_here
 from .writing import Told, is_folder, named_folder, say, stop_cleanly, write_folder
 
 DONE, FAULTY = 0, 1
-LONGEST_NAME = 80
+LONGEST_NAME, MOST_BYTES = 80, 200
 
 WISHES = Text("wishes", "voeux")
 PROGRAMME = Text("programme", "formation")
@@ -66,7 +66,8 @@ def file_name(kind: Text, name: str, language: Language, taken: set[str]) -> str
     """A name that every system allows for a file, and that no other file has."""
     whole = f"{kind.of().said(language)} {name}"
     plain = "".join(letter if letter.isalnum() or letter in " -_.()" else "_" for letter in whole)
-    base = plain.strip()[:LONGEST_NAME].rstrip(" .").replace(" ", "-")
+    cut = plain.strip()[:LONGEST_NAME].encode()[:MOST_BYTES].decode(errors="ignore")
+    base = cut.rstrip(" .").replace(" ", "-")
     found, count = base, 1
     while found.casefold() in taken:
         count += 1
@@ -84,7 +85,7 @@ def files_of(campaign: Campaign, dialect: Dialect) -> dict[str, Iterator[bytes]]
     spelled = campaign.names.spelled
 
     def put(kind: Text, name: str, rows: Iterator[Row]) -> None:
-        files[file_name(kind, name, campaign.language, taken)] = (dialect.bytes_of(each) for each in (rows,))
+        files[file_name(kind, name, campaign.language, taken)] = dialect.written(rows)
 
     put(WISHES, "", tables.wishes())
     put(BARS, "", tables.bars())
@@ -123,6 +124,12 @@ def tabulate(folder: Path, out: Path, paths: list[Path], dialect: Dialect, langu
     return DONE
 
 
+def is_of_new(error: OSError, out: Path) -> bool:
+    """Whether the error is of the new folder, which is made beside its place, or of a file in it."""
+    parts = Path(error.filename).parts if error.filename else ()
+    return not parts or any(part.startswith(f".{out.name}.") for part in parts)
+
+
 def main(arguments: list[str]) -> int:
     given = words().of(arguments)
     if os.path.lexists(given.out) or not is_folder(given.out.parent):
@@ -143,14 +150,12 @@ def main(arguments: list[str]) -> int:
     except Unreadable as error:
         print(f"tables: {error.what.said(given.lang)}", file=sys.stderr)
         return FAULTY
-    except NotIds as error:
-        print(f"tables: {error}", file=sys.stderr)
-        return program.READ_FAULT
     except OSError as error:
-        is_written = error.filename and str(error.filename).startswith(f"{given.out.parent / '.'}{given.out.name}")
-        told = f"{error.filename or given.out}: {error.strerror}; nothing is written."
-        print(f"tables: {told if is_written or not error.filename else unread(error)}", file=sys.stderr)
-        return program.WRITE_FAULT if is_written or not error.filename else program.READ_FAULT
+        if is_of_new(error, given.out):
+            print(f"tables: {error.filename or given.out}: {error.strerror}; nothing is written.", file=sys.stderr)
+            return program.WRITE_FAULT
+        print(f"tables: {unread(error)}", file=sys.stderr)
+        return program.READ_FAULT
     except Told as stop:
         print("tables: stopped; nothing is written.", file=sys.stderr)
         return stop.status

@@ -13,8 +13,8 @@ from .decoding import Unreadable
 from .faults import Faults, Row, shown
 from .folders import one_table
 from .going_on import start_date, term_of_days
-from .naming import NotIds, names_in
-from .preparing import LEFT_OUT, chosen_column
+from .naming import names_in
+from .preparing import chosen_column, columns_left_out
 from .records import wishes_in
 from .slots import ANSWER_SHEET, ANSWERS
 from .tables import Choices, Table
@@ -72,9 +72,7 @@ def summary(table: Table, old: list[tuple[Row, Answer]], new: list[tuple[Row, An
                       file=shown(table.sheet.label))]
     lines += [REPLACED.of(count=replaced)] if replaced else []
     lines += [LATER.of()] if later else []
-    if table.header.left_out:
-        names = ", ".join(shown(table.header.titles[place].strip()) for place in sorted(table.header.left_out))
-        lines.append(LEFT_OUT.of(file=shown(table.sheet.label), names=names))
+    lines += columns_left_out(table)
     return "\n".join(line.said(language) for line in lines)
 
 
@@ -119,9 +117,6 @@ def main(arguments: list[str]) -> int:
         print(f"{shown(str(given.sheet))}\n    {error.what.said(language)}\n    {error.to_do.said(language)}",
               file=sys.stderr)
         return FAULTY
-    except NotIds as error:
-        print(f"take_in: {error}", file=sys.stderr)
-        return program.READ_FAULT
     except OSError as error:
         is_written = os.path.basename(str(error.filename)) == f".{ANSWERS.file}.new" or not error.filename
         told = f"{error.filename or given.folder}: {error.strerror}; the answers are as they were."
