@@ -16,7 +16,7 @@ ENDED = {
     Gone.LAPSED: "Its offer had no answer in time, and lapsed {when}.",
 }
 OVER = "It cannot come back, and there is nothing to do about it. This says nothing of your other wishes."
-OVER_WITH_ALL = "Who leaves gives up all wishes that are still open, and this one cannot come back."
+OVER_WITH_ALL = "Leaving ends all wishes that one still has, and this one cannot come back."
 WAIT_OR_WITHDRAW = "You can leave it waiting, or withdraw it."
 NOTHING_TO_DO = {  # by whether the candidate uses the automatic answerer, where that is known
     True: "There is nothing to do: of the wishes that you prefer, those that wait go on waiting, and an offer for one "

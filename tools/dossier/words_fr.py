@@ -18,7 +18,7 @@ ENDED = {
     Gone.LAPSED: "Sa proposition est restée sans réponse à l'échéance : elle est devenue caduque {when}.",
 }
 OVER = "Il ne peut plus revenir, et vous n'avez rien à faire. Cela ne dit rien de vos autres vœux."
-OVER_WITH_ALL = "Une démission met fin à tous les vœux encore ouverts, et celui-ci ne peut plus revenir."
+OVER_WITH_ALL = "Une démission met fin à tous les vœux que l'on a encore, et celui-ci ne peut plus revenir."
 WAIT_OR_WITHDRAW = "Vous pouvez le laisser en attente ou le retirer."
 NOTHING_TO_DO = {  # selon que la personne candidate a le répondeur automatique, ou qu'on ne le sait pas
     True: "Il n'y a rien à faire : parmi les vœux que vous préférez, ceux qui attendent restent en attente, et une "
