@@ -11,8 +11,9 @@ from functools import partial
 from dossier.program import program
 from dossier.wording import Words
 
-from . import answered, auditing, building, cutting, days, disks, edits, exporting, hostile, installing, killing, lemmas
-from . import measuring, rechecking, rounds, script, sheets, stored, tabled, telling_modes, whys, workbooks
+from . import answered, auditing, building, by_rules, cutting, days, disks, edits, exporting, hostile, installing
+from . import killing, lemmas, measuring, rechecking, rounds, script, sheets, stored, tabled, telling_modes, whys
+from . import workbooks
 from .harness import EXAMPLES, Tally, until_told
 
 Checks = Callable[[Tally], None]
@@ -22,10 +23,13 @@ ALONE = ("sheets", "lemmas", "edits")
 
 def topics(program: str) -> dict[str, list[Checks]]:
     """All checks by topic."""
+    def given(*checks: Callable[..., None]) -> list[Checks]:
+        """Checks that are told the program."""
+        return [partial(check, program=program) for check in checks]
+
     return {
         "stored": [stored.check_prepare, stored.check_leave_out, stored.check_encodings, stored.check_ids,
-                   stored.check_next_day, partial(stored.check_in_words, program=program),
-                   partial(stored.check_sample, program=program)],
+                   stored.check_next_day, *given(stored.check_in_words, stored.check_sample)],
         "sheets": [sheets.check_sheets, sheets.check_headers, sheets.check_codes, sheets.check_groups_of_faults,
                    sheets.check_states, sheets.check_rates, sheets.check_flags],
         "hostile": [hostile.check_help, hostile.check_old_python, hostile.check_words, hostile.check_folders,
@@ -34,34 +38,30 @@ def topics(program: str) -> dict[str, list[Checks]]:
         "killing": list(killing.CHECKS),
         "lemmas": [lemmas.check_same_lemmas, lemmas.check_witnesses, lemmas.check_promises],
         "edits": [edits.check_edits],
-        "rounds": [partial(rounds.check_small_rounds, program=program), partial(rounds.check_finds, program=program),
-                   partial(rounds.check_unknown_modes, program=program),
-                   rounds.check_endless, partial(rounds.check_stopped, program=program)],
-        "measure": [partial(measuring.check_tables, program=program), partial(measuring.check_found, program=program),
-                    measuring.check_words, measuring.check_start, measuring.check_shape],
+        "rounds": [*given(rounds.check_small_rounds, rounds.check_finds, rounds.check_unknown_modes),
+                   rounds.check_endless, *given(rounds.check_stopped)],
+        "measure": [*given(measuring.check_tables, measuring.check_found), measuring.check_words,
+                    measuring.check_start, measuring.check_shape],
         "audit": [auditing.check_audits, auditing.check_alone],
-        "recheck": [partial(rechecking.check_said, program=program),
-                    partial(rechecking.check_worked, program=program),
-                    partial(rechecking.check_random, program=program),
-                    partial(rechecking.check_broken, program=program),
-                    partial(rechecking.check_large, program=program)],
+        "recheck": given(rechecking.check_said, rechecking.check_worked, rechecking.check_random,
+                         rechecking.check_broken, rechecking.check_large),
+        "rules": given(by_rules.check_modes),
         "script": [script.check_script, building.check_twice],
         "modes": [telling_modes.check_listed, telling_modes.check_reads],
-        "exporting": [exporting.check_round_trips, partial(exporting.check_acceptance, program=program)],
-        "days": [partial(days.check_seven_days, program=program), days.check_answers_that_do_not_fit,
-                 days.check_unfit_in_the_midst, days.check_stopped_days, days.check_changes_after_a_stop,
-                 days.check_days_anew, days.check_each_day_anew, days.check_told_changes,
-                 days.check_rights, days.check_killed_while_running, days.check_full_disk],
-        "cutting": [partial(cutting.check_two_days, program=program), partial(cutting.check_random, program=program),
-                    partial(cutting.check_finds, program=program), partial(cutting.check_written, program=program)],
+        "exporting": [exporting.check_round_trips, *given(exporting.check_acceptance)],
+        "days": [*given(days.check_seven_days), days.check_answers_that_do_not_fit, days.check_unfit_in_the_midst,
+                 days.check_stopped_days, days.check_changes_after_a_stop, days.check_days_anew,
+                 days.check_each_day_anew, days.check_told_changes, days.check_rights,
+                 days.check_killed_while_running, days.check_full_disk],
+        "cutting": given(cutting.check_two_days, cutting.check_random, cutting.check_finds, cutting.check_written),
         "installing": [installing.check_installed, installing.check_version],
         "workbooks": [workbooks.check_workbooks],
         "answered": [answered.check_taken, answered.check_faults, answered.check_broken_slots,
-                     partial(answered.check_random, program=program)],
+                     *given(answered.check_random)],
         "tabled": [tabled.check_lycee, tabled.check_names, tabled.check_other_wishes, tabled.check_long_ids,
-                   partial(tabled.check_queues, program=program), tabled.check_ids_stay],
-        "whys": [whys.check_lycee, whys.check_by_hand, whys.check_lost_record, whys.check_answerer, whys.check_stopped,
-                 partial(whys.check_campaigns, program=program)],
+                   *given(tabled.check_queues), tabled.check_ids_stay],
+        "whys": [whys.check_lycee, whys.check_by_hand, whys.check_lost_record, whys.check_answerer,
+                 whys.check_stopped, *given(whys.check_campaigns)],
     }
 
 
