@@ -82,6 +82,15 @@ def check_names(tally: Tally) -> None:
         rows = table_in(place / "out", "wishes.csv", "plain")
         names = {row["Candidate"]: row["Name of the candidate"] for row in rows}
         tally.check("the name is that of the id", names["E03"] == "Ada" and set(names.values()) == {"", "Ada"}, ended)
+        (place / "names.csv").write_text("candidate,name,surname\nE03,Zoé,Durand\nE01,Ada,\nE03,DURAND,zoe\n")
+        ended = tables(folder, place / "twice", "--names", place / "names.csv")
+        tally.equal("one name, spelled in two ways", ended.status, 0)
+        (place / "others.csv").write_text("candidate,name\nE03,Durand\n")
+        for language, told in (("en", "others.csv has two names for E03"), ("fr", "others.csv a deux noms pour E03")):
+            ended = tables(folder, place / "new", "--lang", language, "--names", place / "names.csv", "--names",
+                           place / "others.csv")
+            is_told = ended.status == 1 and told in ended.complaint and not (place / "new").exists()
+            tally.check(f"two names, {language}", is_told, ended)
 
 
 def check_other_wishes(tally: Tally) -> None:

@@ -62,8 +62,8 @@ def answer_of(dossier: Path, number: int, cells: list[str]) -> Answer:
         day, kind, target = cells
         return Answer(int(day), kind, int(target))
     except ValueError:
-        raise Stopped(program.READ_FAULT, f"{dossier / ANSWERS.file}, row {number}: {shown(','.join(cells))} is no row of "
-                                          "answers; correct it (docs/FORMATS.md), or take it out.") from None
+        raise Stopped(program.READ_FAULT, f"{dossier / ANSWERS.file}, row {number}: {shown(','.join(cells))} is no row "
+                                          "of answers; correct it (docs/FORMATS.md), or take it out.") from None
 
 
 @dataclass

@@ -7,7 +7,7 @@ from .cells import Unclear, read_id
 from .decoding import Unreadable
 from .faults import shown
 from .headers import candidates_for, fold
-from .messages import NAME_COLUMNS, NO_NAMES
+from .messages import CORRECT_EITHER, NAME_COLUMNS, NO_NAMES, TWO_NAMES
 from .naming import Names
 from .slots import WISHES, Thing
 from .sources import AnySheet, first_row, likeliest, readings_of, records_of
@@ -49,25 +49,34 @@ def has_names(titles: Sequence[str]) -> bool:
     return id_place(titles) is not None and bool(name_places(titles))
 
 
-def read_labels(path: Path, names: Names) -> Labels:
-    """The names in a file by number; raises Unreadable where no sheet of it has ids and names."""
-    labels: Labels = {}
+def read_labels(path: Path, names: Names, labels: Labels) -> None:
+    """Adds the names in a file by number; raises Unreadable where no sheet of it has ids and names, or where an id has
+    two names."""
+    is_named = False
     for sheet in sheets_of(path):
         number, titles = first_row(sheet)
         place = id_place(titles)
         parts = name_places(titles)
         if place is None or not parts:
             continue
+        is_named = True
         thing, of_id = place
         known = labels.setdefault(thing, {})
         for count, cells in enumerate(records_of(sheet), start=1):
             if count > number and len(cells) > of_id and (wanted := number_of(cells[of_id], thing, names)) is not None:
                 label = " ".join(cells[part].strip() for part in parts if part < len(cells) and cells[part].strip())
                 if label:
-                    known.setdefault(wanted, label)
-    if not labels:
+                    add_label(known, wanted, label, path, cells[of_id])
+    if not is_named:
         raise Unreadable(NO_NAMES.of(file=shown(path.name)), NAME_COLUMNS.of())
-    return labels
+
+
+def add_label(known: dict[int, str], number: int, label: str, path: Path, spelled: str) -> None:
+    """Keeps the name of a number. Capitals, accents and the order of its words make no other name."""
+    other = known.setdefault(number, label)
+    if sorted(fold(other).split()) != sorted(fold(label).split()):
+        raise Unreadable(TWO_NAMES.of(file=shown(path.name), id=shown(spelled.strip()), one=shown(other),
+                                      other=shown(label)), CORRECT_EITHER.of())
 
 
 def number_of(text: str, thing: Thing, names: Names) -> int | None:

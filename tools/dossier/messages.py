@@ -40,6 +40,8 @@ NAME_COLUMNS = Text("name the columns as in examples/blank, each once.",
 NO_NAMES = Text("{file} has no sheet with ids of candidates, programmes or schools beside their names.",
                 "{file} n'a pas de feuille où des identifiants de candidats, de formations ou d'internats soient à "
                 "côté de leurs noms.")
+TWO_NAMES = Text("{file} has two names for {id}: {one} and {other}.",
+                 "{file} a deux noms pour {id} : {one} et {other}.")
 TWO_SLOTS = Text("it has the columns of {one} and of {other}.", "il a les colonnes de {one} et de {other}.")
 RENAME_COLUMNS = Text("leave in it the columns of one of the two.", "n'y laissez que les colonnes de l'un des deux.")
 SLOT_TWICE = Text("{other} has the columns of {slot} too.", "{other} a aussi les colonnes de {slot}.")

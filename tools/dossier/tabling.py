@@ -38,7 +38,7 @@ def words() -> Words:
         "Writes what the campaign in FOLDER has come to, in the evening of the last day that next_day made, as tables "
         "that a spreadsheet opens, to the new folder OUT: one of all wishes, one a programme, one a boarding school, "
         "one a day of offers, and one of bars; with the ids of the sheets, and with names where a file has them.",
-        "Status: 0 written, 1 a file of names has none, 2 bad words, 3 not read, 4 not written.")
+        "Status: 0 written, 1 a file of names has none, or two for one id, 2 bad words, 3 not read, 4 not written.")
     parser.add_argument("folder", type=named_folder, metavar="FOLDER", help="the folder that next_day keeps")
     parser.add_argument("out", type=named_folder, metavar="OUT", help="the new folder for the tables")
     parser.add_argument("--names", action="append", default=[], type=named_folder, metavar="FILE",
@@ -107,8 +107,7 @@ def files_of(campaign: Campaign, dialect: Dialect) -> dict[str, Iterator[bytes]]
 def labels_in(paths: list[Path], names: Names) -> Labels:
     labels: Labels = {}
     for path in paths:
-        for thing, known in read_labels(path, names).items():
-            labels.setdefault(thing, {}).update(known)
+        read_labels(path, names, labels)
     return labels
 
 
