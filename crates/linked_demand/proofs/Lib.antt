@@ -1,7 +1,7 @@
 -- Reading order. Each file says in its first line what it shows.
 -- Tools: Keeping, Passing, Keyed, Dealing, Putting, PlaceOrder, Marked, Counting.
 -- The lineup: CalledRows, ClaimSpans, Seating, Lining, Lined.
--- Open wishes and flags: Opens, Falling, Closing, Flagging, Waiting, AnyOpen, MaybeSure,
+-- Open wishes and flags: Opens, Falling, Closing, Flagging, Waiting, AnyOpen, MayNeedNoSeat,
 -- Boarding, Shutting.
 -- How far seats reach: Reach, Leaving; the proposed wishes: Walking, Fronting, Listing, Fronted.
 -- Rows of the schools: RowsTo, RowsRight, FirstBoarders, Items, RowSteps, RowFronts, Demanded, Naming.
@@ -44,7 +44,7 @@ pub mod Listing
 pub mod Lowered
 pub mod Marked
 pub mod Marking
-pub mod MaybeSure
+pub mod MayNeedNoSeat
 pub mod Moving
 pub mod Naming
 pub mod OneFall

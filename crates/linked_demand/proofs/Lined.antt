@@ -135,17 +135,17 @@ line_some d orders p m lt =
 
 -- what has been walked of a line
 pub record IsLined (d : DossierRows) (orders : List CallOrder) (p : ℕ) (wishes : List ℕ) (from : ℕ) (spans : List Span)
-    (places : List ℕ) (early : List Bool) : Type 0 where
+    (places : List ℕ) (limited : List Bool) : Type 0 where
   pub within : All (IsWithin (length wishes)) spans
   pub claims : map (part_of wishes) spans ≡ map (claim_of d p) (take (length spans) (line_of d orders p))
   pub at : from ≡ length (flat_map (claim_of d p) (take (length spans) (line_of d orders p)))
-  pub seated : AreSeated d orders (is_passed p (take (length spans) (line_of d orders p))) places early
+  pub seated : AreSeated d orders (is_passed p (take (length spans) (line_of d orders p))) places limited
 
 module _ (d : DossierRows) (orders : List CallOrder) (p : ℕ) (wishes before : List ℕ)
     (wishes_are : wishes ≡ called_for d orders p)
     (before_is : before ≡ map (before_at d orders) wishes) (once : IsDistinct nat_eq (line_of d orders p))
-    (from : ℕ) (spans : List Span) (places : List ℕ) (early : List Bool)
-    (lined : IsLined d orders p wishes from spans places early)
+    (from : ℕ) (spans : List Span) (places : List ℕ) (limited : List Bool)
+    (lined : IsLined d orders p wishes from spans places limited)
     (lt : from < length wishes) where
   abbrev line : List ℕ
   line = line_of d orders p
@@ -263,42 +263,45 @@ module _ (d : DossierRows) (orders : List CallOrder) (p : ℕ) (wishes before : 
 -- THE WALK begins, goes on by a claim, and ends
 pub lined_none : (d : DossierRows) (orders : List CallOrder) (p : ℕ) (wishes : List ℕ) (spans : List Span)
     (places : List ℕ)
-    (early : List Bool) → spans ≡ [] → AreSeated d orders (is_below p) places early
-    → IsLined d orders p wishes 0 spans places early
-lined_none d orders p wishes spans places early none seated =
-    let P = λ (xs : List Span). IsLined d orders p wishes 0 xs places early in
+    (limited : List Bool) → spans ≡ [] → AreSeated d orders (is_below p) places limited
+    → IsLined d orders p wishes 0 spans places limited
+lined_none d orders p wishes spans places limited none seated =
+    let P = λ (xs : List Span). IsLined d orders p wishes 0 xs places limited in
     subst P (sym none) (record {
       within = All-nil (IsWithin (length wishes));
       claims = refl;
       at = refl;
-      seated = seated_start d orders p (line_of d orders p) places early seated;
+      seated = seated_start d orders p (line_of d orders p) places limited seated;
     })
 
 pub lined_more : (d : DossierRows) (orders : List CallOrder) (p : ℕ) (wishes before : List ℕ)
     → wishes ≡ called_for d orders p
     → before ≡ map (before_at d orders) wishes → IsDistinct nat_eq (line_of d orders p)
-    → (from to : ℕ) (span : Span) (spans next : List Span) (places new_places : List ℕ) (early new_early : List Bool)
-    (place : ℕ) (is_early : Bool) → IsLined d orders p wishes from spans places early → from < length wishes → from < to
+    → (from to : ℕ) (span : Span) (spans next : List Span) (places new_places : List ℕ)
+        (limited new_limited : List Bool)
+    (place : ℕ) (is_called : Bool) → IsLined d orders p wishes from spans places limited → from < length wishes
+        → from < to
     → to ≤ length before → HoldsOneKey (λ k. k) before from to → span.from ≡ from → span.to ≡ to
     → next ≡ spans ++ span ∷ []
-    → place ≡ length spans → is_early ≡ nat_lt (get_or before from 0) (limit_of d p)
+    → place ≡ length spans → is_called ≡ nat_lt (get_or before from 0) (limit_of d p)
     → PutAt ℕ 0 (part_of wishes span) place places new_places
-    → PutAt Bool false (part_of wishes span) is_early early new_early
-    → IsLined d orders p wishes to next new_places new_early
-lined_more d orders p wishes before wishes_are before_is once from to span spans next places new_places early new_early
-    place is_early
-    lined lt further within run from_is to_is next_is place_is early_is put put_early =
+    → PutAt Bool false (part_of wishes span) is_called limited new_limited
+    → IsLined d orders p wishes to next new_places new_limited
+lined_more d orders p wishes before wishes_are before_is once from to span spans next places new_places limited
+    new_limited
+    place is_called
+    lined lt further within run from_is to_is next_is place_is limited_is put put_limited =
     let line = line_of d orders p in
     let m = length spans in
     let x = get_or line m 0 in
     let claim = claim_of d p in
-    let in_line = next_in_line d orders p wishes before wishes_are before_is once from spans places early lined lt in
-    let end = run_is_claim d orders p wishes before wishes_are before_is once from spans places early lined lt to
+    let in_line = next_in_line d orders p wishes before wishes_are before_is once from spans places limited lined lt in
+    let end = run_is_claim d orders p wishes before wishes_are before_is once from spans places limited lined lt to
     further within run in
-    let part = part_is_claim d orders p wishes before wishes_are before_is once from spans places early lined lt span
+    let part = part_is_claim d orders p wishes before wishes_are before_is once from spans places limited lined lt span
     from_is
     (to_is ∙ end) in
-    let some = claim_is_some d orders p wishes before wishes_are before_is once from spans places early lined lt in
+    let some = claim_is_some d orders p wishes before wishes_are before_is once from spans places limited lined lt in
     let long : length next ≡ m + 1 = ap (λ (l : List Span). length l) next_is ∙ length-append spans (span ∷ []) in
     let ends : to ≤ length wishes = omega (
       arith,
@@ -308,9 +311,9 @@ lined_more d orders p wishes before wishes_are before_is once from to span spans
           (before_at d orders),
     ) in
     let front : take (m + 1) line ≡ take m line ++ x ∷ [] = take_more line m 0 in_line in
-    let P = λ (n : ℕ). AreSeated d orders (is_passed p (take n line)) new_places new_early in
+    let P = λ (n : ℕ). AreSeated d orders (is_passed p (take n line)) new_places new_limited in
     let Q = λ (ks : List ℕ). PutAt ℕ 0 ks place places new_places in
-    let R = λ (ks : List ℕ). PutAt Bool false ks is_early early new_early in
+    let R = λ (ks : List ℕ). PutAt Bool false ks is_called limited new_limited in
     let S = λ (xs : List Span). All (IsWithin (length wishes)) xs in
     record {
       within = subst S (sym next_is) (All-push (IsWithin (length wishes)) spans span lined.within
@@ -329,26 +332,27 @@ lined_more d orders p wishes before wishes_are before_is once from to span spans
           ∙ ap (λ n. length (flat_map claim (take n line))) (sym long);
       seated =
           subst P (sym long)
-          (seated_more d orders p line m x in_line refl places early new_places new_early place is_early refl once
+          (seated_more d orders p line m x in_line refl places limited new_places new_limited place is_called refl once
           (lt-ltb 0 (length (claim x)) some)
-          (early_is ∙ ap (λ n. nat_lt n (limit_of d p))
-          (value_read d orders p wishes before wishes_are before_is once from spans places early lined lt))
-          place_is lined.seated (subst Q part put) (subst R part put_early));
+          (limited_is ∙ ap (λ n. nat_lt n (limit_of d p))
+          (value_read d orders p wishes before wishes_are before_is once from spans places limited lined lt))
+          place_is lined.seated (subst Q part put) (subst R part put_limited));
     }
 
 -- the part that is read is a claim, and there are no more spans than wishes
 pub part_read : (d : DossierRows) (orders : List CallOrder) (p : ℕ) (wishes before : List ℕ)
     → wishes ≡ called_for d orders p
     → before ≡ map (before_at d orders) wishes → IsDistinct nat_eq (line_of d orders p)
-    → (from to : ℕ) (span : Span) (spans : List Span) (places : List ℕ) (early : List Bool)
-    → IsLined d orders p wishes from spans places early → from < length wishes → from < to
+    → (from to : ℕ) (span : Span) (spans : List Span) (places : List ℕ) (limited : List Bool)
+    → IsLined d orders p wishes from spans places limited → from < length wishes → from < to
     → to ≤ length before → HoldsOneKey (λ k. k) before from to → span.from ≡ from → span.to ≡ to
     → part_of wishes span ≡ claim_of d p (get_or (line_of d orders p) (length spans) 0)
-part_read d orders p wishes before wishes_are before_is once from to span spans places early lined lt further within run
+part_read d orders p wishes before wishes_are before_is once from to span spans places limited lined lt further within
+    run
     from_is to_is =
-    let end = run_is_claim d orders p wishes before wishes_are before_is once from spans places early lined lt to
+    let end = run_is_claim d orders p wishes before wishes_are before_is once from spans places limited lined lt to
     further within run in
-    part_is_claim d orders p wishes before wishes_are before_is once from spans places early lined lt span from_is
+    part_is_claim d orders p wishes before wishes_are before_is once from spans places limited lined lt span from_is
     (to_is ∙ end)
 
 few_spans : (d : DossierRows) (orders : List CallOrder) (p n : ℕ) → n ≤ length (line_of d orders p)
@@ -370,21 +374,21 @@ few_spans d orders p (suc n) le =
 pub spans_fit : (d : DossierRows) (orders : List CallOrder) (p : ℕ) (wishes before : List ℕ)
     → wishes ≡ called_for d orders p
     → before ≡ map (before_at d orders) wishes → IsDistinct nat_eq (line_of d orders p)
-    → (from : ℕ) (spans : List Span) (places : List ℕ) (early : List Bool)
-    → IsLined d orders p wishes from spans places early → from < length wishes → length spans ≤ from
-spans_fit d orders p wishes before wishes_are before_is once from spans places early lined lt =
-    let in_line = next_in_line d orders p wishes before wishes_are before_is once from spans places early lined lt in
+    → (from : ℕ) (spans : List Span) (places : List ℕ) (limited : List Bool)
+    → IsLined d orders p wishes from spans places limited → from < length wishes → length spans ≤ from
+spans_fit d orders p wishes before wishes_are before_is once from spans places limited lined lt =
+    let in_line = next_in_line d orders p wishes before wishes_are before_is once from spans places limited lined lt in
     omega (arith, lined.at, few_spans d orders p (length spans) (omega (arith, in_line)))
 
 pub lined_all : (d : DossierRows) (orders : List CallOrder) (p : ℕ) (wishes before : List ℕ)
     → wishes ≡ called_for d orders p
     → before ≡ map (before_at d orders) wishes → IsDistinct nat_eq (line_of d orders p)
-    → (from : ℕ) (spans : List Span) (places : List ℕ) (early : List Bool)
-    → IsLined d orders p wishes from spans places early
+    → (from : ℕ) (spans : List Span) (places : List ℕ) (limited : List Bool)
+    → IsLined d orders p wishes from spans places limited
     → length wishes ≤ from
     → (map (part_of wishes) spans ≡ map (claim_of d p) (line_of d orders p))
-    × AreSeated d orders (is_passed p (line_of d orders p)) places early
-lined_all d orders p wishes before wishes_are before_is once from spans places early lined le =
+    × AreSeated d orders (is_passed p (line_of d orders p)) places limited
+lined_all d orders p wishes before wishes_are before_is once from spans places limited lined le =
     let line = line_of d orders p in
     let m = length spans in
     let claim = claim_of d p in
@@ -409,7 +413,7 @@ lined_all d orders p wishes before wishes_are before_is once from spans places e
           ))
       | inr more ↦ take_all m line more
     ] in
-    let P = λ (l : List ℕ). AreSeated d orders (is_passed p l) places early in
+    let P = λ (l : List ℕ). AreSeated d orders (is_passed p l) places limited in
     (lined.claims ∙ ap (map claim) all, subst P all lined.seated)
 
 -- how many wishes there are in a line

@@ -30,13 +30,13 @@ use Rattle.linked_demand.proofs.Lining.{among_claim, among_some, applies_claim, 
 
 -- what holds of those who are done holds of fewer
 pub seated_by : (s : DossierRows) (orders : List CallOrder) (old new : ℕ → ℕ → Bool) (places : List ℕ)
-    (early : List Bool)
+    (limited : List Bool)
     → ((i : ℕ) (w : Wish) → slice_get s.wishes i ≡ Some w → new w.programme w.candidate ≡ true
     → old w.programme w.candidate ≡ true)
-    → AreSeated s orders old places early → AreSeated s orders new places early
-seated_by s orders old new places early fewer are = record {
+    → AreSeated s orders old places limited → AreSeated s orders new places limited
+seated_by s orders old new places limited fewer are = record {
   places_each = are.places_each;
-  early_each = are.early_each;
+  called_each = are.called_each;
   place = λ i w at t. are.place i w at (fewer i w at t);
   called = λ i w at t. are.called i w at (fewer i w at t);
 }
@@ -65,14 +65,16 @@ module _ (s : DossierRows) (orders : List CallOrder) (n : ℕ) (order : List ℕ
       (sym (ap (λ b. nat_lt w.programme n || (nat_eq w.programme n && b)) more) ∙ t) differs
 
   -- for one who has a claim their place is noted
-  pub seated_more : (places : List ℕ) (early : List Bool) (new_places : List ℕ) (new_early : List Bool)
-      (place : ℕ) (is_early : Bool)
+  pub seated_more : (places : List ℕ) (limited : List Bool) (new_places : List ℕ) (new_limited : List Bool)
+      (place : ℕ) (is_called : Bool)
       → order ≡ line_of s orders n → IsDistinct nat_eq order → nat_lt 0 (length (claim_of s n x)) ≡ true
-      → is_early ≡ nat_lt (length (before_first (nat_eq x) (order_of s orders n))) (limit_of s n) → place ≡ i
-      → AreSeated s orders (is_passed n (take i order)) places early
-      → PutAt ℕ 0 (claim_of s n x) place places new_places → PutAt Bool false (claim_of s n x) is_early early new_early
-      → AreSeated s orders (is_passed n (take (i + 1) order)) new_places new_early
-  seated_more places early new_places new_early place is_early is apart some early_is place_is are puts puts_early =
+      → is_called ≡ nat_lt (length (before_first (nat_eq x) (order_of s orders n))) (limit_of s n) → place ≡ i
+      → AreSeated s orders (is_passed n (take i order)) places limited
+      → PutAt ℕ 0 (claim_of s n x) place places new_places
+          → PutAt Bool false (claim_of s n x) is_called limited new_limited
+      → AreSeated s orders (is_passed n (take (i + 1) order)) new_places new_limited
+  seated_more places limited new_places new_limited place is_called is apart some limited_is place_is are puts
+      puts_limited =
       let claim = claim_of s n x in
       let within : (j : ℕ) (w : Wish) → slice_get s.wishes j ≡ Some w → j < length s.wishes =
       λ j w at. slice_get_within s.wishes j w at in
@@ -80,11 +82,11 @@ module _ (s : DossierRows) (orders : List CallOrder) (n : ℕ) (order : List ℕ
       → get_or new_places j 0 ≡ (if (nat_eq w.candidate x && nat_eq w.programme n) then place else get_or places j 0) =
       λ j w at. puts.each j (omega (arith, within j w at, are.places_each))
       ∙ ap (λ b. if b then place else get_or places j 0) (among_claim s n x j w at) in
-      let put_early : (j : ℕ) (w : Wish) → slice_get s.wishes j ≡ Some w
-      → get_or new_early j
-      false ≡ (if (nat_eq w.candidate x && nat_eq w.programme n) then is_early else get_or early j false) =
-      λ j w at. puts_early.each j (omega (arith, within j w at, are.early_each))
-      ∙ ap (λ b. if b then is_early else get_or early j false) (among_claim s n x j w at) in
+      let put_limited : (j : ℕ) (w : Wish) → slice_get s.wishes j ≡ Some w
+      → get_or new_limited j
+      false ≡ (if (nat_eq w.candidate x && nat_eq w.programme n) then is_called else get_or limited j false) =
+      λ j w at. puts_limited.each j (omega (arith, within j w at, are.called_each))
+      ∙ ap (λ b. if b then is_called else get_or limited j false) (among_claim s n x j w at) in
       let line_place : IsPlaceOf x (line_of s orders n) place =
       let P = λ (o : List ℕ). IsPlaceOf x o place in
       let Q = λ (k : ℕ). IsPlaceOf x order k in
@@ -92,7 +94,7 @@ module _ (s : DossierRows) (orders : List CallOrder) (n : ℕ) (order : List ℕ
       subst P is (subst Q (sym place_is) (subst R (sym x_is) (place_at order i apart lt))) in
       record {
         places_each = puts.as_long ∙ are.places_each;
-        early_each = puts_early.as_long ∙ are.early_each;
+        called_each = puts_limited.as_long ∙ are.called_each;
         place = λ j w at t. elim (cases_Bool (nat_eq w.candidate x && nat_eq w.programme n)) [
           | inl own ↦
               let parts = and_parts (nat_eq w.candidate x) (nat_eq w.programme n) own in
@@ -115,25 +117,25 @@ module _ (s : DossierRows) (orders : List CallOrder) (n : ℕ) (order : List ℕ
               let parts = and_parts (nat_eq w.candidate x) (nat_eq w.programme n) own in
               let candidate : w.candidate ≡ x = eqb-true w.candidate x parts.0 in
               let programme : w.programme ≡ n = eqb-true w.programme n parts.1 in
-              put_early j w at ∙ ap (λ b. if b then is_early else get_or early j false) own
-              ∙ early_is
+              put_limited j w at ∙ ap (λ b. if b then is_called else get_or limited j false) own
+              ∙ limited_is
               ∙ ap (λ p. nat_lt (length (before_first (nat_eq x) (order_of s orders p))) (limit_of s p)) (sym programme)
               ∙ ap (λ c. nat_lt (length (before_first (nat_eq c) (order_of s orders w.programme)))
               (limit_of s w.programme))
               (sym candidate)
               ∙ sym (le_next (length (before_first (nat_eq w.candidate) (order_of s orders w.programme)))
               (limit_of s w.programme))
-          | inr other ↦ put_early j w at ∙ ap (λ b. if b then is_early else get_or early j false) other
+          | inr other ↦ put_limited j w at ∙ ap (λ b. if b then is_called else get_or limited j false) other
               ∙ are.called j w at (was_done w t other)
         ];
       }
 
 -- at the front of a call order the programmes before it are done
 pub seated_start : (s : DossierRows) (orders : List CallOrder) (n : ℕ) (order : List ℕ) (places : List ℕ)
-    (early : List Bool)
-    → AreSeated s orders (is_below n) places early → AreSeated s orders (is_passed n (take 0 order)) places early
-seated_start s orders n order places early are =
-    seated_by s orders (is_below n) (is_passed n (take 0 order)) places early
+    (limited : List Bool)
+    → AreSeated s orders (is_below n) places limited → AreSeated s orders (is_passed n (take 0 order)) places limited
+seated_start s orders n order places limited are =
+    seated_by s orders (is_below n) (is_passed n (take 0 order)) places limited
     (λ i w at t. elim (or_cases (nat_lt w.programme n) (nat_eq w.programme n && false) t) [
       | inl below ↦ below
       | inr here ↦ absurd (false≢true (and_parts (nat_eq w.programme n) false here).1)
@@ -155,23 +157,23 @@ few_apart xs n apart fits = length-le_from_distinct_below xs n apart (below_boun
 
 -- the programmes that are gone through
 pub record IsBuilt (s : DossierRows) (orders : List CallOrder) (n : ℕ) (claims : List (List (List ℕ)))
-    (places : List ℕ) (early : List Bool) : Type 0 where
+    (places : List ℕ) (limited : List Bool) : Type 0 where
   pub claims_are : claims ≡ map (λ p. map (claim_of s p) (line_of s orders p)) (range_with_len 0 n)
-  pub seated : AreSeated s orders (is_below n) places early
+  pub seated : AreSeated s orders (is_below n) places limited
 
 pub wish_in_is : (ws : List Wish) (i : ℕ) (w : Wish) → slice_get ws i ≡ Some w → wish_in ws i ≡ w
 wish_in_is ws i w at = ap (λ (o : Option Wish). unwrap_or o (wish_in [] 0)) at
 
 -- none yet
 pub built_none : (s : DossierRows) (orders : List CallOrder) (claims : List (List (List ℕ)))
-    (places : List ℕ) (early : List Bool) → claims ≡ []
-    → length places ≡ length s.wishes → length early ≡ length s.wishes
-    → IsBuilt s orders 0 claims places early
-built_none s orders claims places early claims_are places_each early_each = record {
+    (places : List ℕ) (limited : List Bool) → claims ≡ []
+    → length places ≡ length s.wishes → length limited ≡ length s.wishes
+    → IsBuilt s orders 0 claims places limited
+built_none s orders claims places limited claims_are places_each called_each = record {
   claims_are = claims_are;
   seated = record {
     places_each = places_each;
-    early_each = early_each;
+    called_each = called_each;
     place = λ i w at t. absurd (omega (arith, ltb-true w.programme 0 t));
     called = λ i w at t. absurd (omega (arith, ltb-true w.programme 0 t));
   };
@@ -179,14 +181,14 @@ built_none s orders claims places early claims_are places_each early_each = reco
 
 -- one more
 pub built_more : (s : DossierRows) (orders : List CallOrder) (n : ℕ) (claims : List (List (List ℕ)))
-    (places : List ℕ) (early : List Bool)
-    (own : List (List ℕ)) (new_places : List ℕ) (new_early : List Bool)
+    (places : List ℕ) (limited : List Bool)
+    (own : List (List ℕ)) (new_places : List ℕ) (new_limited : List Bool)
     → AreCalled s orders
-    → IsBuilt s orders n claims places early
+    → IsBuilt s orders n claims places limited
     → own ≡ map (claim_of s n) (line_of s orders n)
-    → AreSeated s orders (is_passed n (line_of s orders n)) new_places new_early
-    → IsBuilt s orders (n + 1) (claims ++ own ∷ []) new_places new_early
-built_more s orders n claims places early own new_places new_early called built own_are seated =
+    → AreSeated s orders (is_passed n (line_of s orders n)) new_places new_limited
+    → IsBuilt s orders (n + 1) (claims ++ own ∷ []) new_places new_limited
+built_more s orders n claims places limited own new_places new_limited called built own_are seated =
     record {
       claims_are =
           ap (λ (cs : List (List (List ℕ))). cs ++ own ∷ []) built.claims_are
@@ -194,7 +196,7 @@ built_more s orders n claims places early own new_places new_early called built 
           ++ r ∷ []) own_are
           ∙ sym (map-range_with_len_more (λ p. map (claim_of s p) (line_of s orders p)) 0 n n (omega arith));
       seated =
-          seated_by s orders (is_passed n (line_of s orders n)) (is_below (n + 1)) new_places new_early
+          seated_by s orders (is_passed n (line_of s orders n)) (is_below (n + 1)) new_places new_limited
           (λ i w at t.
           let is = wish_in_is s.wishes i w at in
           let among : is_among w.candidate (order_of s orders w.programme) ≡ true =
@@ -223,11 +225,11 @@ built_more s orders n claims places early own new_places new_early called built 
 
 -- and all of them
 pub built_all : (s : DossierRows) (orders : List CallOrder) (n : ℕ) (claims : List (List (List ℕ)))
-    (places : List ℕ) (early : List Bool)
+    (places : List ℕ) (limited : List Bool)
     → n ≡ length s.programmes
     → ((k : ℕ) → k < length s.wishes → (wish_in s.wishes k).programme < length s.programmes)
-    → IsBuilt s orders n claims places early → IsLineup s orders claims places early
-built_all s orders n claims places early n_is programmes built =
+    → IsBuilt s orders n claims places limited → IsLineup s orders claims places limited
+built_all s orders n claims places limited n_is programmes built =
     let programme : (i : ℕ) (w : Wish) → slice_get s.wishes i ≡ Some w → w.programme < length s.programmes =
     λ i w at. let P = λ (v : Wish). v.programme < length s.programmes in
     subst P (wish_in_is s.wishes i w at) (programmes i (slice_get_within s.wishes i w at)) in
@@ -239,8 +241,8 @@ built_all s orders n claims places early n_is programmes built =
           n_is;
       places_each = built.seated.places_each;
       places_are = λ i w at. built.seated.place i w at (done i w at);
-      early_each = built.seated.early_each;
-      early_are = λ i w at. built.seated.called i w at (done i w at);
+      called_each = built.seated.called_each;
+      called_are = λ i w at. built.seated.called i w at (done i w at);
     }
 
 -- in the order at a place no candidate stands twice

@@ -32,14 +32,14 @@ wants_by s opens p c = list_any (is_flagged_in p c) (flagged s opens) && not (ho
 abbrev pub wanting_at : State → List Bool → ℕ → Bool
 wanting_at s opens k = slice_index_or opens k false && not (has_seat_there s k)
 
--- the candidate of the wish at a place is live in its programme, or is called by its limit, by a
--- flag
+-- the candidate of the wish at a place is called by the limit of its programme, by a flag, or is
+-- live there
 abbrev pub sure_at : State → List Bool → ℕ → Bool
-sure_at s early k = has_seat_there s k || slice_index_or early k false
+sure_at s limited k = slice_index_or limited k false || has_seat_there s k
 
 -- for each wish
 abbrev pub all_sure : State → List Bool → List Bool
-all_sure s early = map (sure_at s early) (range_with_len 0 (length s.dossier.wishes))
+all_sure s limited = map (sure_at s limited) (range_with_len 0 (length s.dossier.wishes))
 
 -- how many before the wish's candidate want a seat
 abbrev pub ahead_by : State → List CallOrder → List Bool → Wish → ℕ

@@ -48,15 +48,6 @@ may_share_school d k =
     && same_school (wish_in d.wishes k).school (wish_in d.wishes j).school)
     (own_places d (candidate_of d k))
 
--- where they have no other one in the programme and are not called by a limit, a wish that waits
--- needs a seat
-abbrev pub may_be_sure : DossierRows → List Bool → ℕ → Bool
-may_be_sure d early k = slice_index_or early k false || is_doubled d k
-
--- the wishes that may need no seat while they wait, by place
-abbrev pub maybe_sure_of : DossierRows → List Bool → List ℕ
-maybe_sure_of d early = filter (may_be_sure d early) (range_with_len 0 (length d.wishes))
-
 -- some places of a list hold a value, and the others what they held
 pub record PutAt (X : Type 0) (d : X) (ks : List ℕ) (x : X) (old new : List X) : Type 0 where
   pub as_long : length new ≡ length old
@@ -64,24 +55,34 @@ pub record PutAt (X : Type 0) (d : X) (ks : List ℕ) (x : X) (old new : List X)
       → slice_index_or new k d ≡ (if is_among k ks then x else slice_index_or old k d)
 
 -- the wish's candidate is called by the limit of its programme, whatever seats are left
-abbrev pub is_early : DossierRows → List CallOrder → Wish → Bool
-is_early d orders w = nat_le
+abbrev pub is_called_by_limit : DossierRows → List CallOrder → Wish → Bool
+is_called_by_limit d orders w = nat_le
     (length (before_first (nat_eq w.candidate) (order_of d orders w.programme)) + 1)
     (limit_of d w.programme)
+
+-- the candidate of the wish at a place is called by the limit, or has another one in the programme,
+-- which may be live: any other wish that waits needs a seat
+abbrev pub may_need_no_seat : DossierRows → List CallOrder → ℕ → Bool
+may_need_no_seat d orders k =
+    is_called_by_limit d orders (wish_in d.wishes k) || is_doubled d k
+
+-- the wishes that may need no seat while they wait, by place
+abbrev pub wishes_in_doubt : DossierRows → List CallOrder → List ℕ
+wishes_in_doubt d orders = filter (may_need_no_seat d orders) (range_with_len 0 (length d.wishes))
 
 -- the wishes of the programmes and candidates that are done have their place, and whether they are
 -- called by the limit
 pub record AreSeated (d : DossierRows) (orders : List CallOrder) (is_done : ℕ → ℕ → Bool)
     (places : List ℕ)
-    (early : List Bool) : Type 0 where
+    (limited : List Bool) : Type 0 where
   pub places_each : length places ≡ length d.wishes
-  pub early_each : length early ≡ length d.wishes
+  pub called_each : length limited ≡ length d.wishes
   pub place : (i : ℕ) (w : Wish) → slice_get d.wishes i ≡ Some w
       → is_done w.programme w.candidate ≡ true
       → IsSeatPlace d orders w (slice_index places i)
   pub called : (i : ℕ) (w : Wish) → slice_get d.wishes i ≡ Some w
       → is_done w.programme w.candidate ≡ true
-      → slice_index_or early i false ≡ is_early d orders w
+      → slice_index_or limited i false ≡ is_called_by_limit d orders w
 
 -- the programmes below one are done
 abbrev pub is_below : ℕ → ℕ → ℕ → Bool
@@ -94,7 +95,7 @@ is_passed n front p c = nat_lt p n || (nat_eq p n && is_among c front)
 -- for each programme the claims of those who wish for it, in call order; and where each wish stands
 -- in them
 pub record IsLineup (d : DossierRows) (orders : List CallOrder) (claims : List (List (List ℕ)))
-    (places : List ℕ) (early : List Bool) : Type 0 where
+    (places : List ℕ) (limited : List Bool) : Type 0 where
   pub programmes_are : (i : ℕ) (w : Wish) → slice_get d.wishes i ≡ Some w
       → w.programme < length d.programmes
   pub claims_are : claims
@@ -102,6 +103,6 @@ pub record IsLineup (d : DossierRows) (orders : List CallOrder) (claims : List (
   pub places_each : length places ≡ length d.wishes
   pub places_are : (i : ℕ) (w : Wish) → slice_get d.wishes i ≡ Some w
       → IsSeatPlace d orders w (slice_index places i)
-  pub early_each : length early ≡ length d.wishes
-  pub early_are : (i : ℕ) (w : Wish) → slice_get d.wishes i ≡ Some w → slice_index_or early i false
-      ≡ is_early d orders w
+  pub called_each : length limited ≡ length d.wishes
+  pub called_are : (i : ℕ) (w : Wish) → slice_get d.wishes i ≡ Some w → slice_index_or limited i false
+      ≡ is_called_by_limit d orders w

@@ -1,14 +1,14 @@
 //! The wishes with a school, by their rank there.
-ghost use Rattle.std.specs.Prelude.{◌≡◌, ℕ, ◌<◌, ◌&&◌, length, is_some, nat_eq, not, slice_get, slice_index, All, IfOk, IfSome, Some};
+ghost use Rattle.std.specs.Prelude.{◌≡◌, ◌<◌, ◌&&◌, length, is_some, nat_eq, not, All, IfOk, IfSome, Some};
 ghost use Rattle.std.specs.List.{list_any};
-ghost use Rattle.admit_core.specs.declared.dossier.Wish.{Wish};
 ghost use Rattle.admit_core.specs.State.{is_school};
 ghost use Rattle.day_state.specs.Kept.{wish_in};
 ghost use Rattle.linked_demand.specs.Boarders.{AreBoarders, AreByPlace, AreBySchool, IsBoarder};
-ghost use Rattle.linked_demand.specs.Links.{IsSeatPlace};
 ghost use Rattle.linked_demand.specs.Rows.{item_at};
-ghost use Rattle.linked_demand.specs.Seats.{boards_at, may_share_school};
+ghost use Rattle.linked_demand.specs.Seats.{IsLineup, boards_at, may_share_school};
 
+use crate::claims::Claims;
+use crate::may_need_no_seat::may_need_no_seat;
 use crate::rows::{RowWish, put_in, rows_with_room};
 use crate::wishes::wish_count;
 use admit_core::{CallOrders, OutOfMemory};
@@ -134,19 +134,27 @@ fn counts_by_school(
 }
 
 /// What its school keeps of a wish, by the places of candidates in the lines of programmes.
-fn item_of(state: &DayState<'_>, orders: &CallOrders, places: &[u32], boarder: Boarder) -> RowWish
+fn item_of(
+    state: &DayState<'_>,
+    orders: &CallOrders,
+    claims: &[Claims],
+    places: &[u32],
+    called_by_limit: &[bool],
+    boarder: Boarder,
+) -> RowWish
     requires boarder { IsBoarder state.now.dossier boarder }
-    requires one_each { length places.now ≡ length state.now.dossier.wishes }
-    requires places { (i : ℕ) (w : Wish) → slice_get state.now.dossier.wishes i ≡ Some w
-        → IsSeatPlace state.now.dossier orders.now.orders w (slice_index places.now i) }
+    requires lineup { IsLineup state.now.dossier orders.now.orders claims.now places.now
+        called_by_limit.now }
     ensures { result ≡ item_at state.now.dossier orders.now.orders boarder.wish }
 {
+    let wish = boarder.wish;
     RowWish {
         rank: boarder.rank,
-        wish: boarder.wish,
+        wish,
         programme: boarder.programme,
-        place: places[boarder.wish as usize],
+        place: places[wish as usize],
         shared: boarder.shared,
+        may_need_no_seat: may_need_no_seat(state, orders, claims, places, called_by_limit, wish),
     }
 }
 
@@ -155,11 +163,12 @@ pub fn boarders_by_school(
     alloc: Global,
     state: &DayState<'_>,
     orders: &CallOrders,
+    claims: &[Claims],
     places: &[u32],
+    called_by_limit: &[bool],
 ) -> Result<Vec<Vec<RowWish>>, OutOfMemory>
-    requires one_each { length places.now ≡ length state.now.dossier.wishes }
-    requires places { (i : ℕ) (w : Wish) → slice_get state.now.dossier.wishes i ≡ Some w
-        → IsSeatPlace state.now.dossier orders.now.orders w (slice_index places.now i) }
+    requires { IsLineup state.now.dossier orders.now.orders claims.now places.now
+        called_by_limit.now }
     ensures { IfOk result (λ v. AreBySchool state.now.dossier orders.now.orders v.items) }
 {
     let boarders = boarders_by_rank(alloc, state)?;
@@ -167,7 +176,7 @@ pub fn boarders_by_school(
     let counts = counts_by_school(alloc, &boarders, schools)?;
     let mut rows = rows_with_room(alloc, &counts)?;
     for boarder in boarders.as_slice() {
-        let item = item_of(state, orders, places, *boarder);
+        let item = item_of(state, orders, claims, places, called_by_limit, *boarder);
         put_in(&mut rows, boarder.school, item)?;
     }
     Ok(rows)

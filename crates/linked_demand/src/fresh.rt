@@ -19,16 +19,17 @@ fn is_fresh(
     state: &DayState<'_>,
     bars: &[u32],
     opens: &OpenWishes,
-    early: &[bool],
+    called_by_limit: &[bool],
     wish: u32,
 ) -> bool
     requires wish { wish < length state.now.dossier.wishes }
     requires bars { length bars.now ≡ length state.now.dossier.schools }
     requires opens { length opens.now ≡ length state.now.dossier.wishes }
-    requires early { length early.now ≡ length state.now.dossier.wishes }
-    ensures { result ≡ is_fresh state.now bars.now opens.now (all_sure state.now early.now) wish }
+    requires called_by_limit { length called_by_limit.now ≡ length state.now.dossier.wishes }
+    ensures { result ≡ is_fresh state.now bars.now opens.now
+        (all_sure state.now called_by_limit.now) wish }
 {
-    opens.get(wish) && !needs_no_seat(state, early, wish) && is_open(state, bars, wish)
+    opens.get(wish) && !needs_no_seat(state, called_by_limit, wish) && is_open(state, bars, wish)
 }
 
 /// Ticks once for each wish of a claim that is fresh, and marks it.
@@ -36,7 +37,7 @@ pub fn note_fresh<L: Ledger>(
     state: &DayState<'_>,
     bars: &[u32],
     opens: &OpenWishes,
-    early: &[bool],
+    called_by_limit: &[bool],
     claim: &[u32],
     marked: &mut Marks,
     steps: &mut Steps<L>,
@@ -44,16 +45,16 @@ pub fn note_fresh<L: Ledger>(
     requires claim { All (λ v. v < length state.now.dossier.wishes) claim.now }
     requires bars { length bars.now ≡ length state.now.dossier.schools }
     requires opens { length opens.now ≡ length state.now.dossier.wishes }
-    requires early { length early.now ≡ length state.now.dossier.wishes }
+    requires called_by_limit { length called_by_limit.now ≡ length state.now.dossier.wishes }
     requires marked { length marked.old ≡ length state.now.dossier.wishes }
     ensures steps { steps.new
         ≡ steps.old + count_by (is_fresh state.now bars.now opens.now
-        (all_sure state.now early.now)) claim.now }
+        (all_sure state.now called_by_limit.now)) claim.now }
     ensures marked { MarksWishes state.now (λ x. is_among x.0 claim.now && is_fresh state.now
-        bars.now opens.now (all_sure state.now early.now) x.0) marked.old marked.new }
+        bars.now opens.now (all_sure state.now called_by_limit.now) x.0) marked.old marked.new }
 {
     for wish in claim {
-        if is_fresh(state, bars, opens, early, *wish) {
+        if is_fresh(state, bars, opens, called_by_limit, *wish) {
             steps.tick();
             marked.set(*wish);
         }

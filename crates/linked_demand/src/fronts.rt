@@ -13,31 +13,36 @@ use admit_core::OutOfMemory;
 use day_state::DayState;
 
 /// Whether the wish at a place is open and needs no seat.
-fn is_sure_open(state: &DayState<'_>, opens: &OpenWishes, early: &[bool], place: u32) -> bool
+fn is_sure_open(
+    state: &DayState<'_>,
+    opens: &OpenWishes,
+    called_by_limit: &[bool],
+    place: u32,
+) -> bool
     requires place { place < length state.now.dossier.wishes }
     requires opens { length opens.now ≡ length state.now.dossier.wishes }
-    requires early { length early.now ≡ length state.now.dossier.wishes }
-    ensures { result ≡ sure_open opens.now (all_sure state.now early.now) place }
+    requires called_by_limit { length called_by_limit.now ≡ length state.now.dossier.wishes }
+    ensures { result ≡ sure_open opens.now (all_sure state.now called_by_limit.now) place }
 {
-    opens.get(place) && needs_no_seat(state, early, place)
+    opens.get(place) && needs_no_seat(state, called_by_limit, place)
 }
 
 /// Lists those of some wishes that are open and need no seat.
 pub fn list_sure(
     state: &DayState<'_>,
     opens: &OpenWishes,
-    early: &[bool],
+    called_by_limit: &[bool],
     wishes: &[u32],
     found: &mut Vec<u32>,
 ) -> Result<(), OutOfMemory>
     requires wishes { All (λ k. k < length state.now.dossier.wishes) wishes.now }
     requires opens { length opens.now ≡ length state.now.dossier.wishes }
-    requires early { length early.now ≡ length state.now.dossier.wishes }
-    ensures { OnOk result (ListsAlso (listed_open opens.now (all_sure state.now early.now)
-        wishes.now) found.old.items found.new.items) }
+    requires called_by_limit { length called_by_limit.now ≡ length state.now.dossier.wishes }
+    ensures { OnOk result (ListsAlso (listed_open opens.now
+        (all_sure state.now called_by_limit.now) wishes.now) found.old.items found.new.items) }
 {
     for wish in wishes {
-        if is_sure_open(state, opens, early, *wish) {
+        if is_sure_open(state, opens, called_by_limit, *wish) {
             found.push(*wish)?;
         }
     }

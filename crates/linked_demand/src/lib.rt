@@ -24,7 +24,7 @@ mod line;
 mod lineup;
 mod links;
 mod marks;
-mod maybe_sure;
+mod may_need_no_seat;
 mod open_wishes;
 mod opening;
 mod over;

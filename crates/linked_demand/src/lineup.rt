@@ -12,7 +12,7 @@ ghost use Rattle.linked_demand.specs.Seats.{PutAt, AreSeated, IsLineup, is_below
 use crate::boarders::boarders_by_school;
 use crate::calling::called_wishes;
 use crate::claims::Claims;
-use crate::maybe_sure::maybe_sure_of;
+use crate::may_need_no_seat::wishes_in_doubt;
 use crate::rows::RowWish;
 use admit_core::{CallOrders, OutOfMemory};
 use day_state::{DayState, Span, part};
@@ -36,26 +36,27 @@ fn line_once(state: &DayState<'_>, orders: &CallOrders)
 #[derive(Drop)]
 struct Notes {
     places: Vec<u32>,
-    early: Vec<bool>,
+    called_by_limit: Vec<bool>,
 }
 
 /// Notes for the wishes of a claim their candidate's place in the line, and whether they are called
 /// by the programme's limit.
-fn note(notes: &mut Notes, claim: &[u32], place: u32, is_early: bool)
+fn note(notes: &mut Notes, claim: &[u32], place: u32, is_called: bool)
     requires places { All (λ k. k < length notes.old.places.items) claim.now }
-    requires early { length notes.old.early.items ≡ length notes.old.places.items }
+    requires called_by_limit { length notes.old.called_by_limit.items
+        ≡ length notes.old.places.items }
     ensures places { PutAt ℕ 0 claim.now place notes.old.places.items notes.new.places.items }
-    ensures early { PutAt Bool false claim.now is_early notes.old.early.items
-        notes.new.early.items }
+    ensures called_by_limit { PutAt Bool false claim.now is_called notes.old.called_by_limit.items
+        notes.new.called_by_limit.items }
 {
     for wish in claim {
         notes.places[*wish as usize] = place;
-        notes.early[*wish as usize] = is_early;
+        notes.called_by_limit[*wish as usize] = is_called;
     }
 }
 
 /// Whether one who has so many before them is called by a limit.
-fn is_early(before: u32, limit: u32) -> bool
+fn is_called_by_limit(before: u32, limit: u32) -> bool
     ensures { result ≡ nat_lt before limit }
 {
     before < limit
@@ -94,12 +95,12 @@ fn line_up(
     requires before { before.now ≡ map (before_at state.now.dossier orders.now.orders)
         wishes.items }
     requires seated { AreSeated state.now.dossier orders.now.orders (is_below programme)
-        notes.old.places.items notes.old.early.items }
+        notes.old.places.items notes.old.called_by_limit.items }
     ensures claims { IfOk result (λ x. x ≡ map (claim_of state.now.dossier programme)
         (line_of state.now.dossier orders.now.orders programme)) }
     ensures seated { OnOk result (AreSeated state.now.dossier orders.now.orders
         (is_passed programme (line_of state.now.dossier orders.now.orders programme))
-        notes.new.places.items notes.new.early.items) }
+        notes.new.places.items notes.new.called_by_limit.items) }
 {
     let mut spans = Vec::with_capacity(alloc, wishes.len())?;
     let limit = limit_of(state, programme);
@@ -110,8 +111,8 @@ fn line_up(
             from: from as u32,
             to: to as u32,
         };
-        let is_early = is_early(before[from], limit);
-        note(notes, part(&wishes, span), spans.len() as u32, is_early);
+        let is_called = is_called_by_limit(before[from], limit);
+        note(notes, part(&wishes, span), spans.len() as u32, is_called);
         spans.push(span)?;
         from = to;
     }
@@ -128,9 +129,10 @@ fn claims_of(
 ) -> Result<Vec<Claims>, OutOfMemory>
     requires orders { AreCallOrders state.now.dossier.groups orders.now.orders }
     requires places { length notes.old.places.items ≡ length state.now.dossier.wishes }
-    requires early { length notes.old.early.items ≡ length state.now.dossier.wishes }
+    requires called_by_limit { length notes.old.called_by_limit.items
+        ≡ length state.now.dossier.wishes }
     ensures { IfOk result (λ v. IsLineup state.now.dossier orders.now.orders v.items
-        notes.new.places.items notes.new.early.items) }
+        notes.new.places.items notes.new.called_by_limit.items) }
 {
     call_everyone(state, orders);
     line_once(state, orders);
@@ -153,9 +155,9 @@ fn claims_of(
 pub struct Lineup {
     pub(crate) claims: Vec<Claims>,
     pub(crate) places: Vec<u32>,
-    pub(crate) early: Vec<bool>,
+    pub(crate) called_by_limit: Vec<bool>,
     pub(crate) boarders: Vec<Vec<RowWish>>,
-    pub(crate) maybe_sure: Vec<u32>,
+    pub(crate) may_need_no_seat: Vec<u32>,
 }
 
 // Not derived: so a lineup is dropped in one step where it is held, and not by each list.
@@ -164,9 +166,9 @@ impl Drop for Lineup {
         let Lineup {
             claims: _,
             places: _,
-            early: _,
+            called_by_limit: _,
             boarders: _,
-            maybe_sure: _,
+            may_need_no_seat: _,
         } = self;
     }
 }
@@ -185,18 +187,38 @@ impl Lineup {
     {
         let count = state.dossier().wishes.len();
         let places = vec![in alloc; 0; count]?;
-        let early = vec![in alloc; false; count]?;
-        let mut notes = Notes { places, early };
+        let called_by_limit = vec![in alloc; false; count]?;
+        let mut notes = Notes {
+            places,
+            called_by_limit,
+        };
         let claims = claims_of(alloc, state, orders, &mut notes)?;
-        let Notes { places, early } = notes;
-        let boarders = boarders_by_school(alloc, state, orders, &places)?;
-        let maybe_sure = maybe_sure_of(alloc, state, orders, &claims, &places, &early)?;
+        let Notes {
+            places,
+            called_by_limit,
+        } = notes;
+        let boarders = boarders_by_school(
+            alloc,
+            state,
+            orders,
+            &claims,
+            &places,
+            &called_by_limit,
+        )?;
+        let may_need_no_seat = wishes_in_doubt(
+            alloc,
+            state,
+            orders,
+            &claims,
+            &places,
+            &called_by_limit,
+        )?;
         Ok(Lineup {
             claims,
             places,
-            early,
+            called_by_limit,
             boarders,
-            maybe_sure,
+            may_need_no_seat,
         })
     }
 }

@@ -34,22 +34,49 @@ use std::sync::ledger::Ledger;
 
 /// Whether an open wish has a seat: by its place, which may be reached, or by need of none, which
 /// is asked of the others alone.
-fn is_seated(state: &DayState<'_>, early: &[bool], wish: u32, reached: bool) -> bool
+fn is_seated(state: &DayState<'_>, called_by_limit: &[bool], wish: u32, reached: bool) -> bool
     requires wish { wish < length state.now.dossier.wishes }
-    requires early { length early.now ≡ length state.now.dossier.wishes }
-    ensures { result ≡ (reached || slice_index_or (all_sure state.now early.now) wish false) }
+    requires called_by_limit { length called_by_limit.now ≡ length state.now.dossier.wishes }
+    ensures { result ≡ (reached
+        || slice_index_or (all_sure state.now called_by_limit.now) wish false) }
 {
-    reached || needs_no_seat(state, early, wish)
+    reached || needs_no_seat(state, called_by_limit, wish)
+}
+
+/// The same of an open wish of a row. Whether it needs no seat is asked where it may need none.
+fn is_item_seated(
+    state: &DayState<'_>,
+    called_by_limit: &[bool],
+    item: RowWish,
+    reached: bool,
+) -> bool
+    requires wish { item.wish < length state.now.dossier.wishes }
+    requires called_by_limit { length called_by_limit.now ≡ length state.now.dossier.wishes }
+    requires needs_seat { item.may_need_no_seat ≡ false
+        → slice_index_or (all_sure state.now called_by_limit.now) item.wish false ≡ false }
+    ensures { result ≡ (reached
+        || slice_index_or (all_sure state.now called_by_limit.now) item.wish false) }
+{
+    if item.may_need_no_seat {
+        return is_seated(state, called_by_limit, item.wish, reached);
+    }
+    reached
 }
 
 /// The same of a wish that may be closed.
-fn is_served(state: &DayState<'_>, early: &[bool], wish: u32, open: bool, reached: bool) -> bool
+fn is_served(
+    state: &DayState<'_>,
+    called_by_limit: &[bool],
+    wish: u32,
+    open: bool,
+    reached: bool,
+) -> bool
     requires wish { wish < length state.now.dossier.wishes }
-    requires early { length early.now ≡ length state.now.dossier.wishes }
+    requires called_by_limit { length called_by_limit.now ≡ length state.now.dossier.wishes }
     ensures { result ≡ («open»
-        && (reached || slice_index_or (all_sure state.now early.now) wish false)) }
+        && (reached || slice_index_or (all_sure state.now called_by_limit.now) wish false)) }
 {
-    open && is_seated(state, early, wish, reached)
+    open && is_seated(state, called_by_limit, wish, reached)
 }
 
 /// How far the seats of each programme reach along its line, while wishes are closed.
@@ -112,7 +139,7 @@ impl<'a, 'd> SeatLinks<'a, 'd> {
         let _ = state.marks(); // one for each wish
         let opens = open_under(alloc, state, orders, &lineup.boarders, bars)?;
         let reached = reached_of(alloc, state, orders, lineup, &opens)?;
-        let cursors = Cursors::new(alloc, lineup.maybe_sure.len())?;
+        let cursors = Cursors::new(alloc, lineup.may_need_no_seat.len())?;
         Ok(SeatLinks {
             state,
             orders,
@@ -130,7 +157,7 @@ impl<'a, 'd> SeatLinks<'a, 'd> {
     {
         let front = self.reached[item.programme as usize];
         let reached = is_reached(item.place as usize, front);
-        is_seated(self.state, &self.lineup.early, item.wish, reached)
+        is_item_seated(self.state, &self.lineup.called_by_limit, item, reached)
     }
 
     /// Closes a waiting wish. It ticks once for each wish that becomes proposed and is open under
@@ -158,7 +185,7 @@ impl<'a, 'd> SeatLinks<'a, 'd> {
         let lineup = self.lineup;
         let programme = item.programme as usize;
         let claims = &lineup.claims[programme];
-        let beside = lineup.maybe_sure.as_slice();
+        let beside = lineup.may_need_no_seat.as_slice();
         let before = self.reached[programme];
         let leaves = leaves_by_closing(
             self.state,
@@ -177,7 +204,7 @@ impl<'a, 'd> SeatLinks<'a, 'd> {
                     self.state,
                     bars,
                     &self.opens,
-                    &lineup.early,
+                    &lineup.called_by_limit,
                     claims.at(next),
                     marked,
                     steps,
@@ -246,8 +273,8 @@ impl<'a, 'd> SeatLinks<'a, 'd> {
         list_sure(
             self.state,
             &self.opens,
-            &lineup.early,
-            &lineup.maybe_sure,
+            &lineup.called_by_limit,
+            &lineup.may_need_no_seat,
             &mut found,
         )?;
         list_fronts(&self.opens, &lineup.claims, &self.reached, &mut found)?;
@@ -266,6 +293,6 @@ impl<'a, 'd> SeatLinks<'a, 'd> {
         let place = lineup.places[wish as usize] as usize;
         let open = self.opens.get(wish);
         let reached = is_reached(place, self.reached[programme]);
-        is_served(self.state, &lineup.early, wish, open, reached)
+        is_served(self.state, &lineup.called_by_limit, wish, open, reached)
     }
 }

@@ -1,8 +1,8 @@
 //! Who has a seat while no wish is closed yet.
-ghost use Rattle.std.specs.Prelude.{◌≡◌, ◌<◌, ◌||◌, false, length, IfOk, slice_index_or};
+ghost use Rattle.std.specs.Prelude.{◌≡◌, ◌<◌, false, length, IfOk, slice_index_or};
 ghost use Rattle.linked_demand.specs.Links.{AllOpenWait};
 ghost use Rattle.linked_demand.specs.Lineups.{IsLineupOf, IsReachedIn};
-ghost use Rattle.linked_demand.specs.Opens.{all_sure};
+ghost use Rattle.linked_demand.specs.Opens.{all_sure, sure_at};
 
 use crate::line::reach_of;
 use crate::lineup::Lineup;
@@ -20,23 +20,23 @@ pub fn is_set(flags: &[bool], place: u32) -> bool
     flags[place as usize]
 }
 
-/// Whether a candidate needs no seat who is live in the programme or not, and is called by its
-/// limit or not.
-fn is_sure(is_live: bool, is_early: bool) -> bool
-    ensures { result ≡ (is_live || is_early) }
+/// Whether the candidate of the wish at a place is called by the limit of its programme, or is live
+/// there, which is asked of the others alone.
+fn is_sure(state: &DayState<'_>, called_by_limit: &[bool], place: u32) -> bool
+    requires place { place < length state.now.dossier.wishes }
+    requires called_by_limit { length called_by_limit.now ≡ length state.now.dossier.wishes }
+    ensures { result ≡ sure_at state.now called_by_limit.now place }
 {
-    is_live || is_early
+    is_set(called_by_limit, place) || state.is_live_in_its_programme(place)
 }
 
 /// Whether the candidate of the wish at a place needs no seat.
-pub fn needs_no_seat(state: &DayState<'_>, early: &[bool], place: u32) -> bool
+pub fn needs_no_seat(state: &DayState<'_>, called_by_limit: &[bool], place: u32) -> bool
     requires place { place < length state.now.dossier.wishes }
-    requires early { length early.now ≡ length state.now.dossier.wishes }
-    ensures { result ≡ slice_index_or (all_sure state.now early.now) place false }
+    requires called_by_limit { length called_by_limit.now ≡ length state.now.dossier.wishes }
+    ensures { result ≡ slice_index_or (all_sure state.now called_by_limit.now) place false }
 {
-    let is_live = state.is_live_in_its_programme(place);
-    let is_early = is_set(early, place);
-    is_sure(is_live, is_early)
+    is_sure(state, called_by_limit, place)
 }
 
 /// How many places of each programme's line are reached where these wishes are open.

@@ -4,5 +4,5 @@ use Rattle.linked_demand.proofs.boarders.item_of.Goals as goal
 
 pub returns : goal.returns
 returns c =
-    item_made c.args.state.now.dossier c.args.orders.now.orders c.args.places.now c.requires.places c.args.boarder
-    c.requires.boarder _ refl
+    item_made c.args.state.now.dossier c.args.orders.now.orders c.args.places.now c.requires.lineup.places_are
+    c.args.boarder c.requires.boarder _ refl _ c.may_need_no_seat.ensures

@@ -5,7 +5,8 @@ use Rattle.linked_demand.proofs.lineup.claims_of.Given as goal
 
 abbrev pub invariant-loop-programme : goal.invariant-loop-programme
 invariant-loop-programme l = record {
-  built : IsBuilt l.state.dossier l.orders.orders l.programme l.claims.items l.notes.places.items l.notes.early.items;
+  built : IsBuilt l.state.dossier l.orders.orders l.programme l.claims.items l.notes.places.items
+      l.notes.called_by_limit.items;
   wishes : AreRowsFrom l.programme (length l.state.dossier.programmes)
       (called_for l.state.dossier l.orders.orders) l.called.wishes.items;
   before : AreRowsFrom l.programme (length l.state.dossier.programmes)

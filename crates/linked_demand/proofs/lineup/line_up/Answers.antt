@@ -15,7 +15,7 @@ pub loop-from-init : goal.loop-from-init
 loop-from-init c =
     lined_none c.args.state.now.dossier c.args.orders.now.orders c.args.programme c.args.wishes.items
     c.in_ok-spans.spans.items
-    c.args.notes.now.places.items c.args.notes.now.early.items c.in_ok-spans.ensures.items c.requires.seated
+    c.args.notes.now.places.items c.args.notes.now.called_by_limit.items c.in_ok-spans.ensures.items c.requires.seated
 
 pub overflow_cast-len : goal.overflow_cast-len
 overflow_cast-len c =
@@ -28,7 +28,7 @@ overflow_cast-len c =
     let few = spans_fit c.args.state.now.dossier c.args.orders.now.orders c.args.programme c.args.wishes.items
     c.args.before.now
     c.requires.wishes c.requires.before c.requires.once
-    c.loop-from.from c.loop-from.spans.items c.loop-from.notes.places.items c.loop-from.notes.early.items
+    c.loop-from.from c.loop-from.spans.items c.loop-from.notes.places.items c.loop-from.notes.called_by_limit.items
     c.loop-from.invariant
     lt in
     omega (arith, c.len-in-loop-from.ensures, few, lt, c.requires.few)
@@ -49,7 +49,7 @@ note-requires-clause-places c =
     c.args.before.now
     c.requires.wishes c.requires.before c.requires.once
     c.loop-from.from c.end_of_claim-to.result span c.loop-from.spans.items c.loop-from.notes.places.items
-    c.loop-from.notes.early.items
+    c.loop-from.notes.called_by_limit.items
     c.loop-from.invariant lt c.end_of_claim-to.ensures.further c.end_of_claim-to.ensures.within
     c.end_of_claim-to.ensures.run refl refl in
     let read : c.part.result.now ≡ part_of wishes span =
@@ -75,19 +75,22 @@ loop-from-preserved c =
     c.part.ensures ∙ ap (λ (l : List ℕ). part_of l span) c.deref.ensures.value in
     let Q = λ (ks : List ℕ). PutAt ℕ 0 ks c.len-in-loop-from.result c.loop-from.notes.places.items
     c.note.new.notes.places.items in
-    let R = λ (ks : List ℕ). PutAt Bool false ks c.is_early-is_early.result c.loop-from.notes.early.items
-    c.note.new.notes.early.items in
+    let R = λ (ks : List ℕ). PutAt Bool false ks c.is_called_by_limit-is_called.result
+        c.loop-from.notes.called_by_limit.items
+    c.note.new.notes.called_by_limit.items in
     lined_more c.args.state.now.dossier c.args.orders.now.orders c.args.programme c.args.wishes.items c.args.before.now
     c.requires.wishes c.requires.before c.requires.once
     c.loop-from.from c.end_of_claim-to.result span c.loop-from.spans.items c.push.new.self.items
     c.loop-from.notes.places.items
-    c.note.new.notes.places.items c.loop-from.notes.early.items c.note.new.notes.early.items c.len-in-loop-from.result
-    c.is_early-is_early.result
+    c.note.new.notes.places.items c.loop-from.notes.called_by_limit.items c.note.new.notes.called_by_limit.items
+        c.len-in-loop-from.result
+    c.is_called_by_limit-is_called.result
     c.loop-from.invariant lt c.end_of_claim-to.ensures.further c.end_of_claim-to.ensures.within
     c.end_of_claim-to.ensures.run refl refl
     c.in_ok-push.ensures.items (omega (arith, c.len-in-loop-from.ensures))
-    (c.is_early-is_early.ensures ∙ ap (nat_lt (get_or c.args.before.now c.loop-from.from 0)) c.limit_of-limit.ensures)
-    (subst Q read c.note.ensures.places) (subst R read c.note.ensures.early)
+    (c.is_called_by_limit-is_called.ensures ∙ ap (nat_lt (get_or c.args.before.now c.loop-from.from 0))
+        c.limit_of-limit.ensures)
+    (subst Q read c.note.ensures.places) (subst R read c.note.ensures.called_by_limit)
 
 pub returns-clause-claims : goal.returns-clause-claims
 returns-clause-claims c =
@@ -101,7 +104,7 @@ returns-clause-claims c =
     ∙ (lined_all c.args.state.now.dossier c.args.orders.now.orders c.args.programme c.args.wishes.items
     c.args.before.now
     c.requires.wishes c.requires.before c.requires.once
-    c.loop-from.from c.loop-from.spans.items c.loop-from.notes.places.items c.loop-from.notes.early.items
+    c.loop-from.from c.loop-from.spans.items c.loop-from.notes.places.items c.loop-from.notes.called_by_limit.items
     c.loop-from.invariant
     le).0
 
@@ -115,6 +118,6 @@ returns-clause-seated c =
     ) in
     (lined_all c.args.state.now.dossier c.args.orders.now.orders c.args.programme c.args.wishes.items c.args.before.now
     c.requires.wishes c.requires.before c.requires.once
-    c.loop-from.from c.loop-from.spans.items c.loop-from.notes.places.items c.loop-from.notes.early.items
+    c.loop-from.from c.loop-from.spans.items c.loop-from.notes.places.items c.loop-from.notes.called_by_limit.items
     c.loop-from.invariant
     le).1

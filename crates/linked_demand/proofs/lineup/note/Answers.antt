@@ -5,16 +5,17 @@ use Rattle.linked_demand.proofs.lineup.note.Goals as goal
 pub loop-wish-init : goal.loop-wish-init
 loop-wish-init c = record {
   places = put_none ℕ 0 c.args.claim.now c.args.place c.args.notes.now.places.items;
-  early = put_none Bool false c.args.claim.now c.args.is_early c.args.notes.now.early.items;
+  called_by_limit = put_none Bool false c.args.claim.now c.args.is_called c.args.notes.now.called_by_limit.items;
 }
 
 pub returns-clause-places : goal.returns-clause-places
 returns-clause-places c = put_all ℕ 0 c.args.claim.now c.loop-wish.wish-index c.args.place
     c.args.notes.now.places.items c.loop-wish.notes.places.items (omega arith) c.loop-wish.invariant.places
 
-pub returns-clause-early : goal.returns-clause-early
-returns-clause-early c = put_all Bool false c.args.claim.now c.loop-wish.wish-index c.args.is_early
-    c.args.notes.now.early.items c.loop-wish.notes.early.items (omega arith) c.loop-wish.invariant.early
+pub returns-clause-called_by_limit : goal.returns-clause-called_by_limit
+returns-clause-called_by_limit c = put_all Bool false c.args.claim.now c.loop-wish.wish-index c.args.is_called
+    c.args.notes.now.called_by_limit.items c.loop-wish.notes.called_by_limit.items
+        (omega arith) c.loop-wish.invariant.called_by_limit
 
 pub loop-wish-preserved : goal.loop-wish-preserved
 loop-wish-preserved c =
@@ -27,7 +28,8 @@ loop-wish-preserved c =
       places = put_more ℕ 0 claim i c.args.place c.args.notes.now.places.items c.loop-wish.notes.places.items _ lt
           within
           c.loop-wish.invariant.places refl;
-      early = put_more Bool false claim i c.args.is_early c.args.notes.now.early.items c.loop-wish.notes.early.items _
+      called_by_limit = put_more Bool false claim i c.args.is_called c.args.notes.now.called_by_limit.items
+          c.loop-wish.notes.called_by_limit.items _
           lt
-          (subst P (sym c.requires.early) within) c.loop-wish.invariant.early refl;
+          (subst P (sym c.requires.called_by_limit) within) c.loop-wish.invariant.called_by_limit refl;
     }

@@ -61,9 +61,9 @@ loop-programme-preserved c =
 
 pub returns : goal.returns
 returns c =
-    let early = c.args.lineup.now.early.items in
+    let limited = c.args.lineup.now.called_by_limit.items in
     all_reached c.args.state.now c.args.orders.now.orders c.args.opens.now c.loop-programme.reached.items
-    c.args.lineup.now.claims.items c.args.lineup.now.places.items early (all_sure c.args.state.now early)
+    c.args.lineup.now.claims.items c.args.lineup.now.places.items limited (all_sure c.args.state.now limited)
     c.loop-programme.programme (rw c.marks.ensures.marks at c.marks.ensures.one_each) c.requires.opens
     c.requires.lineup.lines
     (omega (

@@ -132,8 +132,9 @@ invariant_of-self-else-leaves g c =
       reach =
           reach_kept k r.reached.items c.self.invariant.reach.reached_are
           c.index-before.result.now c.index-before.ensures stays.reach;
-      early_each = c.self.invariant.early_each;
-      maybe_sure_are = c.self.invariant.maybe_sure_are;
+      called_each = c.self.invariant.called_each;
+      called_are = c.self.invariant.called_are;
+      in_doubt_are = c.self.invariant.in_doubt_are;
     })
 
 pub invariant_of-self : goal.invariant_of-self
@@ -159,8 +160,9 @@ invariant_of-self g c =
     ∙ ap (λ (fs : List Bool). last_new (wants_along s fs row) before now) c.leaves_by_closing-leaves.ensures.opens) in
     rw c.leaves_by_closing-leaves.ensures.opens (record {
       reach = reach_put k r.reached.items c.self.invariant.reach.reached_are now moved.reach;
-      early_each = c.self.invariant.early_each;
-      maybe_sure_are = c.self.invariant.maybe_sure_are;
+      called_each = c.self.invariant.called_each;
+      called_are = c.self.invariant.called_are;
+      in_doubt_are = c.self.invariant.in_doubt_are;
     })
 
 pub invariant_of-self-in_default : goal.invariant_of-self-in_default
@@ -186,8 +188,9 @@ invariant_of-self-in_default g c =
     ∙ ap (λ (fs : List Bool). last_new (wants_along s fs row) before now) c.leaves_by_closing-leaves.ensures.opens) in
     rw c.leaves_by_closing-leaves.ensures.opens (record {
       reach = reach_put k r.reached.items c.self.invariant.reach.reached_are now moved.reach;
-      early_each = c.self.invariant.early_each;
-      maybe_sure_are = c.self.invariant.maybe_sure_are;
+      called_each = c.self.invariant.called_each;
+      called_are = c.self.invariant.called_are;
+      in_doubt_are = c.self.invariant.in_doubt_are;
     })
 
 pub note_fresh-requires : goal.note_fresh-requires
@@ -209,7 +212,7 @@ note_fresh-requires g c =
         length-set c.self.inside.opens c.args.item.wish false,
         c.self.invariant.reach.links.opens_each,
       );
-      early = omega (arith, c.deref.ensures.len, c.self.invariant.early_each);
+      called_by_limit = omega (arith, c.deref.ensures.len, c.self.invariant.called_each);
       marked = c.requires.marked ∙ ap (λ (r : LinksRow). length r.state.dossier.wishes) (sym c.self.view_is);
     }
 
@@ -289,7 +292,7 @@ returns-in-Some g c =
     (arith, within, in_claims k row c.index-claims.ensures) in
     let closed = λ (l : LinksRow). record l { opens = slice_set l.opens c.args.item.wish false } in
     let told =
-    told_some s orders r.opens (all_sure s r.lineup.now.early.items) c.args.item.wish p
+    told_some s orders r.opens (all_sure s r.lineup.now.called_by_limit.items) c.args.item.wish p
     (get_or (line_of s.dossier orders p) c.in-Some.next 0) c.args.self.now c.self.view_is
     (newly_some k c.last_wanting.result moved.fresh c.in-Some.next c.in-Some.is lt)
     c.self.invariant.reach.links.marks_each c.args.bars.now c.at.result.now fresh_claim

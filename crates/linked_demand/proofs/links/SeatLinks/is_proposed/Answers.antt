@@ -28,7 +28,7 @@ is_served-requires c =
     let k =
     closes_read c.self.invariant.reach.links c.args.self.now c.self.view_is c.args.wish c.requires
     c.wish_at-programme.result c.wish_at-programme.ensures.wish in
-    record { wish = wish_within k; early = ap length c.deref.ensures.value ∙ c.self.invariant.early_each }
+    record { wish = wish_within k; called_by_limit = ap length c.deref.ensures.value ∙ c.self.invariant.called_each }
 
 pub index-requires-2 : goal.index-requires-2
 index-requires-2 c =
@@ -51,10 +51,10 @@ returns c =
     c.index-2.result.now c.index-2.ensures in
     let reached = reached_is s orders opens p c.index.result.now c.index-2.result.now
     c.is_reached-reached.result reach at.within c.is_reached-reached.ensures in
-    let early = r.lineup.now.early.items in
-    let flag : Bool = get_or (all_sure s early) c.args.wish false in
-    let sure : flag ≡ get_or (all_sure s early) c.args.wish flag =
-    get_or_default (all_sure s early) c.args.wish false flag (omega (arith, wish_within k, sure_each k)) in
+    let limited = r.lineup.now.called_by_limit.items in
+    let flag : Bool = get_or (all_sure s limited) c.args.wish false in
+    let sure : flag ≡ get_or (all_sure s limited) c.args.wish flag =
+    get_or_default (all_sure s limited) c.args.wish false flag (omega (arith, wish_within k, sure_each k)) in
     let opens_now : Bool = c.get-open.result in
     let near : Bool = c.is_reached-reached.result in
     let opens_read : opens_now ≡ get_or opens c.args.wish opens_now = c.get-open.ensures

@@ -3,11 +3,11 @@ use Rattle.std.proofs.lemmas.List.Filters.{dedup_is}
 use Rattle.linked_demand.specs.Demand.{is_proposed_at}
 use Rattle.linked_demand.specs.Fronts.{ListsAlso, listed_open, reached_open}
 use Rattle.linked_demand.specs.Opens.{all_sure}
-use Rattle.linked_demand.specs.Seats.{may_be_sure}
+use Rattle.linked_demand.specs.Seats.{may_need_no_seat}
 use Rattle.linked_demand.proofs.Fronted.{found_right, fronts}
 use Rattle.linked_demand.proofs.Keeping.{passing_within}
 use Rattle.linked_demand.proofs.Listing.{in_order_once}
-use Rattle.linked_demand.proofs.MaybeSure.{listed_sure}
+use Rattle.linked_demand.proofs.MayNeedNoSeat.{listed_sure}
 use Rattle.linked_demand.proofs.links.SeatLinks.proposed_places.Goals as goal
 
 pub list_sure-requires : goal.list_sure-requires
@@ -17,10 +17,10 @@ list_sure-requires c =
     let kept = c.self.invariant in
     record {
       wishes =
-          passing_within (may_be_sure d r.lineup.now.early.items) (length d.wishes) c.deref-2.result.now
-          (c.deref-2.ensures.value ∙ kept.maybe_sure_are);
+          passing_within (may_need_no_seat d r.orders.now.orders) (length d.wishes) c.deref-2.result.now
+          (c.deref-2.ensures.value ∙ kept.in_doubt_are);
       opens = kept.reach.links.opens_each;
-      early = ap length c.deref.ensures.value ∙ kept.early_each;
+      called_by_limit = ap length c.deref.ensures.value ∙ kept.called_each;
     }
 
 pub list_fronts-requires : goal.list_fronts-requires
@@ -32,9 +32,9 @@ returns c =
     let s = r.state.now in
     let kept = c.self.invariant in
     let right = kept.reach in
-    let early = r.lineup.now.early.items in
-    let listed = r.lineup.now.maybe_sure.items in
-    let sure = all_sure s early in
+    let limited = r.lineup.now.called_by_limit.items in
+    let listed = r.lineup.now.may_need_no_seat.items in
+    let sure = all_sure s limited in
     let opens = r.opens in
     let lines = r.lineup.now.claims.items in
     let now = c.list_sure.new.found.items in
@@ -49,6 +49,7 @@ returns c =
     in_order_once (is_proposed_at row) (length row.state.dossier.wishes) found c.sort_unstable.new.self.items
     c.dedup.new.self.items
     (found_right right row c.self.view_is c.requires listed
-    (listed_sure s right.links.marks_each early listed kept.maybe_sure_are opens) now found first second)
+    (listed_sure s right.links.marks_each r.orders.now.orders limited kept.called_are listed kept.in_doubt_are opens)
+        now found first second)
     c.sort_unstable.ensures.permutation c.sort_unstable.ensures.sorted
     (dedup_is eqb c.sort_unstable.new.self.items c.dedup.new.self.items c.dedup.ensures.filtered)

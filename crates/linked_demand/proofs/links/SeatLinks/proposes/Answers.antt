@@ -1,7 +1,7 @@
-use Rattle.std.proofs.Common.{ℕ, ◌||◌, List, Bool, false, arith, ap, get_or, length, ◌∙◌}
+use Rattle.std.proofs.Common.{ℕ, ◌≡◌, ◌||◌, List, Bool, false, arith, ap, get_or, length, subst, sym, ◌∙◌}
 use Rattle.linked_demand.specs.Opens.{all_sure, seat_row}
 use Rattle.linked_demand.proofs.Closing.{programme_within, wish_within}
-use Rattle.linked_demand.proofs.Items.{closes_item, item_stands, item_proposed}
+use Rattle.linked_demand.proofs.Items.{closes_item, item_needs_seat, item_stands, item_proposed}
 use Rattle.linked_demand.proofs.Leaving.{reach_right, reached_each, reached_is, row_there}
 use Rattle.linked_demand.proofs.links.SeatLinks.proposes.Goals as goal
 
@@ -11,11 +11,20 @@ index-front-requires c =
     let k = closes_item reach.links c.args.self.now c.self.view_is c.args.item c.requires.waits c.requires.item in
     omega (arith, programme_within k, reached_each k c.self.inside.reached.items reach.reached_are)
 
-pub is_seated-requires : goal.is_seated-requires
-is_seated-requires c =
+pub is_item_seated-requires : goal.is_item_seated-requires
+is_item_seated-requires c =
     let reach = c.self.invariant.reach in
     let k = closes_item reach.links c.args.self.now c.self.view_is c.args.item c.requires.waits c.requires.item in
-    record { wish = wish_within k; early = ap length c.deref.ensures.value ∙ c.self.invariant.early_each }
+    let P = λ (es : List Bool).
+    c.args.item.may_need_no_seat ≡ false → get_or (all_sure c.self.inside.state.now es) c.args.item.wish false
+        ≡ false in
+    record {
+      wish = wish_within k;
+      called_by_limit = ap length c.deref.ensures.value ∙ c.self.invariant.called_each;
+      needs_seat =
+          subst P (sym c.deref.ensures.value)
+          (item_needs_seat reach.links c.args.self.now c.self.view_is c.args.item c.requires.waits c.requires.item);
+    }
 
 pub returns : goal.returns
 returns c =
@@ -33,6 +42,6 @@ returns c =
     c.is_reached-reached.ensures in
     item_proposed reach.links c.args.self.now c.self.view_is c.args.item c.requires.waits c.requires.item
     c.requires.flag (seat_row s orders opens p) (row_there s orders opens p (programme_within k))
-    near c.is_seated.result reached
-    (c.is_seated.ensures
+    near c.is_item_seated.result reached
+    (c.is_item_seated.ensures
     ∙ ap (λ (es : List Bool). near || get_or (all_sure s es) c.args.item.wish false) c.deref.ensures.value)

@@ -22,7 +22,8 @@ use Rattle.day_state.proofs.Along.{among-filter}
 use Rattle.linked_demand.specs.Fronts.{listed_open, sure_open}
 use Rattle.linked_demand.specs.Links.{WaitsAt, AllOpenWait, claim_of}
 use Rattle.linked_demand.specs.Opens.{sure_at, all_sure, line_of}
-use Rattle.linked_demand.specs.Seats.{IsLineup, applies_at, is_doubled, may_be_sure, maybe_sure_of}
+use Rattle.linked_demand.specs.Seats.{IsLineup, applies_at, is_called_by_limit, is_doubled, may_need_no_seat}
+use Rattle.linked_demand.specs.Seats.{wishes_in_doubt}
 use Rattle.linked_demand.proofs.ClaimSpans.{turn_two}
 use Rattle.linked_demand.proofs.Closing.{wish_there}
 use Rattle.linked_demand.proofs.Flagging.{claims_each, row_right}
@@ -32,17 +33,20 @@ use Rattle.linked_demand.proofs.Seating.{wish_in_is}
 use Rattle.linked_demand.proofs.Waiting.{no_seat}
 
 -- whether a wish needs no seat, read from the list of all
-pub sure_read : (s : State) (early : List Bool) (k : ℕ) → k < length s.dossier.wishes
-    → get_or (all_sure s early) k false ≡ sure_at s early k
-sure_read s early k lt =
-    get_or-map-range_with_len (sure_at s early) 0 (length s.dossier.wishes) k k false lt (omega arith)
+pub sure_read : (s : State) (limited : List Bool) (k : ℕ) → k < length s.dossier.wishes
+    → get_or (all_sure s limited) k false ≡ sure_at s limited k
+sure_read s limited k lt =
+    get_or-map-range_with_len (sure_at s limited) 0 (length s.dossier.wishes) k k false lt (omega arith)
 
--- a wish that waits needs a seat where it may not be sure
-needs_seat : (s : State) → length s.marks ≡ length s.dossier.wishes → (early : List Bool) (k : ℕ) (w : Wish) (m : Mark)
-    → WaitsAt s k w m → may_be_sure s.dossier early k ≡ false → sure_at s early k ≡ false
-needs_seat s long early k w m at unsure =
-    let parts = or_parts (get_or early k false) (is_doubled s.dossier k) unsure in
-    or_from (has_seat_there s k) (get_or early k false) (no_seat s long k w m at parts.1) parts.0
+-- a wish that waits needs a seat where it may not go without one
+needs_seat : (s : State) → length s.marks ≡ length s.dossier.wishes → (orders : List CallOrder) (limited : List Bool)
+    (k : ℕ) (w : Wish) (m : Mark)
+    → WaitsAt s k w m → get_or limited k false ≡ is_called_by_limit s.dossier orders (wish_in s.dossier.wishes k)
+    → may_need_no_seat s.dossier orders k ≡ false → sure_at s limited k ≡ false
+needs_seat s long orders limited k w m at called unsure =
+    let by_limit = is_called_by_limit s.dossier orders (wish_in s.dossier.wishes k) in
+    let parts = or_parts by_limit (is_doubled s.dossier k) unsure in
+    or_from (get_or limited k false) (has_seat_there s k) (called ∙ parts.0) (no_seat s long k w m at parts.1)
 
 kept : (test opened sure : Bool) → (opened ≡ true → test ≡ false → sure ≡ false)
     → (test && (opened && sure)) ≡ (opened && sure)
@@ -51,19 +55,24 @@ kept false true sure h = sym (h refl refl)
 kept false false sure h = refl
 
 -- of the listed wishes those that are open and need no seat are all such
-pub listed_sure : (s : State) → length s.marks ≡ length s.dossier.wishes → (early : List Bool) (maybe_sure : List ℕ)
-    → maybe_sure ≡ maybe_sure_of s.dossier early → (opens : List Bool)
+pub listed_sure : (s : State) → length s.marks ≡ length s.dossier.wishes → (orders : List CallOrder)
+    (limited : List Bool)
+    → ((i : ℕ) (w : Wish) → slice_get s.dossier.wishes i ≡ Some w
+    → get_or limited i false ≡ is_called_by_limit s.dossier orders w)
+    → (in_doubt : List ℕ) → in_doubt ≡ wishes_in_doubt s.dossier orders → (opens : List Bool)
     → AllOpenWait s opens
     → (k : ℕ) → k < length s.dossier.wishes
-    → listed_open opens (all_sure s early) maybe_sure k ≡ sure_open opens (all_sure s early) k
-listed_sure s long early maybe_sure is opens waits k lt =
+    → listed_open opens (all_sure s limited) in_doubt k ≡ sure_open opens (all_sure s limited) k
+listed_sure s long orders limited called in_doubt is opens waits k lt =
     let d = s.dossier in
-    let sure = get_or (all_sure s early) k false in
-    ap (λ (ks : List ℕ). listed_open opens (all_sure s early) ks k) is
-    ∙ ap (λ b. b && sure_open opens (all_sure s early) k) (among-filter (may_be_sure d early) k (length d.wishes) lt)
-    ∙ kept (may_be_sure d early k) (get_or opens k false) sure (λ opened unsure.
+    let sure = get_or (all_sure s limited) k false in
+    let here = wish_there d.wishes k (wish_in d.wishes k) lt refl in
+    ap (λ (ks : List ℕ). listed_open opens (all_sure s limited) ks k) is
+    ∙ ap (λ b. b && sure_open opens (all_sure s limited) k)
+    (among-filter (may_need_no_seat d orders) k (length d.wishes) lt)
+    ∙ kept (may_need_no_seat d orders k) (get_or opens k false) sure (λ opened unsure.
     let (w, m, at) = waits k opened in
-    sure_read s early k lt ∙ needs_seat s long early k w m at unsure)
+    sure_read s limited k lt ∙ needs_seat s long orders limited k w m at (called k (wish_in d.wishes k) here) unsure)
 
 -- of an ascending list with a number in it: another one stands there where it has more than one
 any_other : (k : ℕ) (ks : List ℕ) → Ascends ks → is_among k ks ≡ true
@@ -114,8 +123,8 @@ doubled_claim d k w at =
 
 -- the claim of a wish, as it is read in the line of its programme
 module _ {d : DossierRows} {orders : List CallOrder} {claims : List (List (List ℕ))} {places : List ℕ}
-    {early : List Bool}
-    (lineup : IsLineup d orders claims places early) (k : ℕ) (lt : k < length d.wishes) (v : Wish)
+    {limited : List Bool}
+    (lineup : IsLineup d orders claims places limited) (k : ℕ) (lt : k < length d.wishes) (v : Wish)
     (v_is : v ≡ wish_in d.wishes k) where
   here : slice_get d.wishes k ≡ Some v
   here = wish_there d.wishes k v lt v_is

@@ -1,6 +1,6 @@
 //! Which wishes may need no seat while they wait.
 ghost use Rattle.std.specs.Prelude.{◌≡◌, ◌<◌, length, IfOk};
-ghost use Rattle.linked_demand.specs.Seats.{IsLineup, is_doubled, may_be_sure, maybe_sure_of};
+ghost use Rattle.linked_demand.specs.Seats.{IsLineup, is_doubled, may_need_no_seat, wishes_in_doubt};
 
 use crate::claims::Claims;
 use crate::seats::is_set;
@@ -17,11 +17,12 @@ fn is_doubled(
     orders: &CallOrders,
     claims: &[Claims],
     places: &[u32],
-    early: &[bool],
+    called_by_limit: &[bool],
     place: u32,
 ) -> bool
     requires place { place < length state.now.dossier.wishes }
-    requires lineup { IsLineup state.now.dossier orders.now.orders claims.now places.now early.now }
+    requires lineup { IsLineup state.now.dossier orders.now.orders claims.now places.now
+        called_by_limit.now }
     ensures { result ≡ is_doubled state.now.dossier place }
 {
     let wish = wish_at(state, place);
@@ -31,40 +32,43 @@ fn is_doubled(
 }
 
 /// Whether the wish at a place may need no seat while it waits.
-fn may_be_sure(
+pub fn may_need_no_seat(
     state: &DayState<'_>,
     orders: &CallOrders,
     claims: &[Claims],
     places: &[u32],
-    early: &[bool],
+    called_by_limit: &[bool],
     place: u32,
 ) -> bool
     requires place { place < length state.now.dossier.wishes }
-    requires lineup { IsLineup state.now.dossier orders.now.orders claims.now places.now early.now }
-    ensures { result ≡ may_be_sure state.now.dossier early.now place }
+    requires lineup { IsLineup state.now.dossier orders.now.orders claims.now places.now
+        called_by_limit.now }
+    ensures { result ≡ may_need_no_seat state.now.dossier orders.now.orders place }
 {
-    is_set(early, place) || is_doubled(state, orders, claims, places, early, place)
+    is_set(called_by_limit, place)
+        || is_doubled(state, orders, claims, places, called_by_limit, place)
 }
 
 /// The wishes that may need no seat while they wait, by place: those that are called by a limit,
 /// and those whose candidate has another one in the programme, which may be live.
-pub fn maybe_sure_of(
+pub fn wishes_in_doubt(
     alloc: Global,
     state: &DayState<'_>,
     orders: &CallOrders,
     claims: &[Claims],
     places: &[u32],
-    early: &[bool],
+    called_by_limit: &[bool],
 ) -> Result<Vec<u32>, OutOfMemory>
-    requires { IsLineup state.now.dossier orders.now.orders claims.now places.now early.now }
-    ensures { IfOk result (λ v. v.items ≡ maybe_sure_of state.now.dossier early.now) }
+    requires { IsLineup state.now.dossier orders.now.orders claims.now places.now
+        called_by_limit.now }
+    ensures { IfOk result (λ v. v.items ≡ wishes_in_doubt state.now.dossier orders.now.orders) }
 {
-    let mut sure = Vec::new(alloc);
+    let mut in_doubt = Vec::new(alloc);
     let count = wish_count(state);
     for place in 0..count {
-        if may_be_sure(state, orders, claims, places, early, place) {
-            sure.push(place)?;
+        if may_need_no_seat(state, orders, claims, places, called_by_limit, place) {
+            in_doubt.push(place)?;
         }
     }
-    Ok(sure)
+    Ok(in_doubt)
 }

@@ -1,6 +1,6 @@
 use Rattle.std.proofs.Common.{refl}
-use Rattle.linked_demand.proofs.MaybeSure.{doubled_here, place_in, programme_in}
-use Rattle.linked_demand.proofs.maybe_sure.is_doubled.Goals as goal
+use Rattle.linked_demand.proofs.MayNeedNoSeat.{doubled_here, place_in, programme_in}
+use Rattle.linked_demand.proofs.may_need_no_seat.is_doubled.Goals as goal
 
 pub bounds-claims-wish : goal.bounds-claims-wish
 bounds-claims-wish c = programme_in c.requires.lineup c.args.place c.requires.place c.wish_at-wish.result
