@@ -1,19 +1,21 @@
 -- Lists that have wishes of the same candidates.
-use Rattle.std.proofs.Common.{ℕ, ◌<◌, ◌≡◌, Bool, true, false, List, [], ◌∷◌, ◌++◌, filter, map, length, get_or, sym}
-use Rattle.std.proofs.Common.{◌∙◌, ap, arith, nat_eq, inl, inr, eqb, subst}
-use Rattle.std.specs.Prelude.{All, Contains, ◌==◌}
+use Rattle.std.proofs.Common.{ℕ, ◌<◌, ◌≡◌, Bool, true, List, [], ◌∷◌, ◌++◌, filter, map, length, get_or, sym}
+use Rattle.std.proofs.Common.{◌+◌, ◌∙◌, ap, arith, nat_eq, inl, inr, eqb, refl, subst}
+use Rattle.std.specs.Prelude.{All, Contains, ◌==◌, slice_index}
 use Rattle.std.specs.List.{list_any, dedup, range_with_len}
-use Rattle.std.specs.List.Sorted.{IsPermutation}
+use Rattle.std.specs.List.Sorted.{IsPermutation, IsSorted}
 use Rattle.std.specs.Cmp.{both_ways}
+use Rattle.std.specs.Ordering.{nat_cmp}
 use Rattle.std.proofs.Math.ListN.{set}
 use Rattle.std.proofs.Math.Seq.{map-set_same}
 use Rattle.std.proofs.lemmas.List.{get_or-set_other, get_or-set_same, length-set}
 use Rattle.std.proofs.lemmas.List.Elements.{All-append, All-cons}
 use Rattle.std.proofs.lemmas.List.Filters.{All-dedup}
 use Rattle.std.proofs.lemmas.List.Folds.{Any-from_list_any, list_any_at}
-use Rattle.std.proofs.lemmas.List.Kept.{Contains-dedup_nat, Contains-from_dedup}
+use Rattle.std.proofs.lemmas.List.Kept.{AllPairs-from_increasing, Contains-dedup_nat, Contains-from_dedup}
+use Rattle.std.proofs.lemmas.Map.Keys.{IsStrictlyIncreasing-dedup}
 use Rattle.std.proofs.lemmas.List.Sorted.{All-permutation, list_any-IsPermutation}
-use Rattle.std.proofs.lemmas.Bool.{cases_Bool, cases_eq, eqb-true, false≢true}
+use Rattle.std.proofs.lemmas.Bool.{cases_Bool, cases_eq, cases_lt, eq-eqb, eqb-true, false≢true}
 use Rattle.admit_core.specs.OwnWishes.{own_places}
 use Rattle.day_state.proofs.Change.{own_within}
 use Rattle.admit_core.proofs.Plain.{any-map}
@@ -21,12 +23,12 @@ use Rattle.admit_core.specs.DossierRows.{DossierRows, candidate_of}
 use Rattle.admit_core.specs.Lists.{is_among}
 use Rattle.admit_core.specs.State.{State, changed_to}
 use Rattle.admit_core.specs.declared.state.Status.TheVariants.{Offered}
-use Rattle.day_state.proofs.Along.{along_dossier}
+use Rattle.day_state.proofs.Along.{along_dossier, among-filter}
 use Rattle.desk_day.specs.DayPasses.{offered_along}
 use Rattle.auto_answer.specs.Laws.{SameOthers}
 use Rattle.admit_core.specs.declared.state.Stamp.{Stamp}
 use Rattle.desk_day.specs.DayPlaces.{AreWishesOf}
-use Rattle.desk_day.specs.Once.{NamesSame}
+use Rattle.desk_day.specs.Once.{AreOfOneEach, NamesSame, first_own}
 
 any_in : (p : ℕ → Bool) (xs ys : List ℕ) → ((x : ℕ) → Contains xs x → Contains ys x) → list_any p xs ≡ true
     → list_any p ys ≡ true
@@ -79,21 +81,39 @@ own_same d c own is k lt =
           | inr dropped ↦ rw dropped (kept_pass q xs)
         ]
 
--- a list that is not empty
-pub some_of : (own : List ℕ) (empty : Bool) → empty ≡ nat_eq (length own) 0 → empty ≡ false → 0 < length own
-some_of [] empty is t = absurd (false≢true (sym t ∙ is))
-some_of (k ∷ own) empty is t = omega arith
+-- a candidate of a wish has one
+pub some_own : (d : DossierRows) (k : ℕ) (own : List ℕ) → own ≡ own_places d (candidate_of d k)
+    → k < length d.wishes → 0 < length own
+some_own d k [] is lt =
+    let q = λ (j : ℕ). candidate_of d j == candidate_of d k in
+    absurd (false≢true (ap (is_among k) is ∙ among-filter q k (length d.wishes) lt ∙ eq-eqb (candidate_of d k) _ refl))
+some_own d k (j ∷ own) is lt = omega arith
 
--- what the walk to the first wishes has left
-pub record AreLed (d : DossierRows) (old now : List ℕ) : Type 0 where
+-- one that is the first wish of its own candidate
+pub first_itself : (d : DossierRows) (k first : ℕ) → first ≡ first_own d k → candidate_of d first ≡ candidate_of d k
+    → first ≡ first_own d first
+first_itself d k first is same = is ∙ ap (λ c. slice_index (own_places d c) 0) (sym same)
+
+-- what the walk to the first wishes has left, of which so many are led there
+pub record AreLed (d : DossierRows) (i : ℕ) (old now : List ℕ) : Type 0 where
   pub within : AreWishesOf d now
   pub candidates : map (candidate_of d) now ≡ map (candidate_of d) old
   pub long : length now ≡ length old
+  pub firsts : (k e : ℕ) → k < i → k < length now → get_or now k e ≡ first_own d (get_or now k e)
 
-pub led_one : (d : DossierRows) (old now next : List ℕ) (i first : ℕ) → AreLed d old now → i < length now
-    → first < length d.wishes → candidate_of d first ≡ candidate_of d (get_or now i 0) → next ≡ set now i first
-    → AreLed d old next
-led_one d old now next i first led lt in_range same is = record {
+pub led_none : (d : DossierRows) (places : List ℕ) → AreWishesOf d places → AreLed d 0 places places
+led_none d places within = record {
+  within = within;
+  candidates = refl;
+  long = refl;
+  firsts = λ k e none. absurd (omega (arith, none));
+}
+
+pub led_one : (d : DossierRows) (old now next : List ℕ) (i first : ℕ) → AreLed d i old now → i < length now
+    → first < length d.wishes → candidate_of d first ≡ candidate_of d (get_or now i 0)
+    → first ≡ first_own d first → next ≡ set now i first
+    → AreLed d (i + 1) old next
+led_one d old now next i first led lt in_range same itself is = record {
   within = λ k e k_in. elim (cases_eq k i) [
     | inl here ↦
         let read : get_or next k e ≡ first = ap (λ (l : List ℕ). get_or l k e) is
@@ -108,10 +128,42 @@ led_one d old now next i first led lt in_range same is = record {
   ];
   candidates = ap (map (candidate_of d)) is ∙ map-set_same (candidate_of d) now i first 0 same ∙ led.candidates;
   long = ap (λ (l : List ℕ). length l) is ∙ length-set now i first ∙ led.long;
+  firsts = λ k e k_lt k_in. elim (cases_eq k i) [
+    | inl here ↦
+        let read : get_or next k e ≡ first = ap (λ (l : List ℕ). get_or l k e) is
+        ∙ ap (λ j. get_or (set now i first) j e) here
+        ∙ get_or-set_same now i first e lt in
+        rw read itself
+    | inr other ↦
+        let k_now : k < length now = omega (arith, k_in, ap (λ (l : List ℕ). length l) is, length-set now i first) in
+        let read : get_or next k e ≡ get_or now k e =
+        ap (λ (l : List ℕ). get_or l k e) is ∙ get_or-set_other now i k first e other in
+        let k_done : k < i = elim (cases_lt k i) [
+          | inl below ↦ below
+          | inr past ↦ absurd (other (omega (arith, k_lt, past)))
+        ] in
+        rw read (led.firsts k e k_done k_now)
+  ];
 }
 
-pub led_names : (d : DossierRows) (old now : List ℕ) → AreLed d old now → NamesSame d old now
-led_names d old now led = record { within = led.within; same = λ c. ap (is_among c) led.candidates }
+pub led_names : (d : DossierRows) (i : ℕ) (old now : List ℕ) → AreLed d i old now → NamesSame d old now
+led_names d i old now led = record { within = led.within; same = λ c. ap (is_among c) led.candidates }
+
+-- first wishes, put in order, each once: no two are of one candidate
+pub of_one_each : (d : DossierRows) (firsts sorted once : List ℕ) → All (λ k. k ≡ first_own d k) firsts
+    → IsPermutation firsts sorted → IsSorted nat_cmp sorted → once ≡ dedup eqb sorted → AreOfOneEach d once
+of_one_each d firsts sorted once are moved in_order once_is =
+    let P = λ (k : ℕ). k ≡ first_own d k in
+    let all = All-dedup eqb P sorted (All-permutation P firsts sorted moved are) in
+    let rises = AllPairs-from_increasing (dedup eqb sorted) (IsStrictlyIncreasing-dedup sorted in_order) in
+    rw once_is (λ i j e lt within same.
+    omega (
+      arith,
+      rises i j e lt within,
+      all i e (omega (arith, lt, within)),
+      all j e within,
+      ap (λ c. slice_index (own_places d c) 0) same,
+    ))
 
 -- the same of the wishes of a pass
 pub names_itself : (d : DossierRows) (old offers now : List ℕ) → AreWishesOf d old → AreWishesOf d offers

@@ -1,8 +1,8 @@
 //! Each candidate once, however many of their wishes are named.
-ghost use Rattle.std.specs.Prelude.{◌≡◌, ◌<◌, ◌+◌, ◌++◌, length, OnErr, OnOk, vec_capacity, vec_len};
+ghost use Rattle.std.specs.Prelude.{◌≡◌, ◌<◌, ◌+◌, ◌++◌, length, true, All, OnErr, OnOk, vec_capacity, vec_len};
 ghost use Rattle.admit_core.specs.DossierRows.{candidate_of};
 ghost use Rattle.desk_day.specs.DayPlaces.{AreWishesOf};
-ghost use Rattle.desk_day.specs.Once.{NamesSame};
+ghost use Rattle.desk_day.specs.Once.{AreOfOneEach, NamesSame, first_own};
 
 use day_state::DayState;
 use std::alloc::AllocError;
@@ -12,15 +12,17 @@ fn first_beside(state: &DayState<'_>, place: u32) -> u32
     requires { place < length state.now.dossier.wishes }
     ensures within { result < length state.now.dossier.wishes }
     ensures same { candidate_of state.now.dossier result ≡ candidate_of state.now.dossier place }
+    ensures first { result ≡ first_own state.now.dossier place }
 {
     let own = state.own_wishes_beside(place);
-    if own.is_empty() { place } else { own[0] }
+    own[0]
 }
 
 /// Leads each wish to the first one of its candidate.
 fn lead_to_firsts(places: &mut Vec<u32>, state: &DayState<'_>)
     requires { AreWishesOf state.now.dossier places.old.items }
-    ensures { NamesSame state.now.dossier places.old.items places.new.items }
+    ensures names { NamesSame state.now.dossier places.old.items places.new.items }
+    ensures firsts { All (λ k. k ≡ first_own state.now.dossier k) places.new.items }
 {
     for index in 0..places.len() {
         places[index] = first_beside(state, places[index]);
@@ -31,7 +33,8 @@ fn lead_to_firsts(places: &mut Vec<u32>, state: &DayState<'_>)
 /// at each candidate once.
 fn keep_once(places: &mut Vec<u32>, state: &DayState<'_>)
     requires { AreWishesOf state.now.dossier places.old.items }
-    ensures { NamesSame state.now.dossier places.old.items places.new.items }
+    ensures names { NamesSame state.now.dossier places.old.items places.new.items }
+    ensures once { AreOfOneEach state.now.dossier places.new.items }
 {
     lead_to_firsts(places, state);
     places.sort_unstable();
@@ -49,6 +52,8 @@ pub fn ask_beside(
     requires places { AreWishesOf state.now.dossier places.old.items }
     requires offers { AreWishesOf state.now.dossier offers.now }
     ensures names { OnOk result (NamesSame state.now.dossier (places.old.items ++ offers.now)
+        places.new.items) }
+    ensures once { is_answered ≡ true → OnOk result (AreOfOneEach state.now.dossier
         places.new.items) }
     ensures within { AreWishesOf state.now.dossier places.new.items }
     ensures full { OnErr result

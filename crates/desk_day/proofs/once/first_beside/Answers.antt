@@ -1,17 +1,22 @@
 use Rattle.admit_core.specs.DossierRows.{candidate_of}
-use Rattle.desk_day.proofs.OnceEach.{own_same, some_of}
+use Rattle.desk_day.proofs.OnceEach.{own_same, some_own}
 use Rattle.desk_day.proofs.once.first_beside.Goals as goal
 
-pub returns-else-is_empty-clause-within : goal.returns-else-is_empty-clause-within
-returns-else-is_empty-clause-within c =
-    let d = c.args.state.now.dossier in
-    let own = c.own_wishes_beside-own.result.now in
-    (own_same d (candidate_of d c.args.place) own c.own_wishes_beside-own.ensures 0
-    (some_of own c.is_empty.result c.is_empty.ensures c.if-is_empty.false)).0
+pub bounds-own-0 : goal.bounds-own-0
+bounds-own-0 c =
+    some_own c.args.state.now.dossier c.args.place c.own_wishes_beside-own.result.now c.own_wishes_beside-own.ensures
+    c.requires
 
-pub returns-else-is_empty-clause-same : goal.returns-else-is_empty-clause-same
-returns-else-is_empty-clause-same c =
+pub returns-clause-within : goal.returns-clause-within
+returns-clause-within c =
     let d = c.args.state.now.dossier in
     let own = c.own_wishes_beside-own.result.now in
     (own_same d (candidate_of d c.args.place) own c.own_wishes_beside-own.ensures 0
-    (some_of own c.is_empty.result c.is_empty.ensures c.if-is_empty.false)).1
+    (some_own d c.args.place own c.own_wishes_beside-own.ensures c.requires)).0
+
+pub returns-clause-same : goal.returns-clause-same
+returns-clause-same c =
+    let d = c.args.state.now.dossier in
+    let own = c.own_wishes_beside-own.result.now in
+    (own_same d (candidate_of d c.args.place) own c.own_wishes_beside-own.ensures 0
+    (some_own d c.args.place own c.own_wishes_beside-own.ensures c.requires)).1
