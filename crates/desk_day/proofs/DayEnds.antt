@@ -1,13 +1,13 @@
 -- A day on a desk from the day that is played on its states.
-use Rattle.std.proofs.Common.{ℕ, ◌≡◌, ◌++◌, List, ap, sym, subst, Option, Result, Ok, Err, IfErr}
-use Rattle.std.specs.Prelude.{OnErr, IsErrAnd}
+use Rattle.std.proofs.Common.{ℕ, ◌≡◌, List, ap, sym, subst, Option, Result, Ok, Err, IfErr}
+use Rattle.std.specs.Prelude.{IsErrAnd}
 use Rattle.admit_core.specs.declared.ranking.CallOrder.{CallOrder}
 use Rattle.admit_core.specs.declared.records.DayRecord.{DayRecord}
 use Rattle.admit_core.specs.declared.records.Terms.{Terms}
 use Rattle.admit_core.specs.State.{State}
-use Rattle.admit_core.specs.Days.{unfit_on}
+use Rattle.admit_core.specs.Days.{morning, unfit_on}
 use Rattle.desk_day.specs.AnswersOn.{IsUnfitOf}
-use Rattle.desk_day.specs.DayPasses.{TellsMore}
+use Rattle.desk_day.specs.DayPasses.{TellsOfPasses}
 use Rattle.desk_day.specs.DeskStates.{DeskStates}
 use Rattle.desk_day.specs.RunDay.{Moment, IsDayDone, EndsDay, KeepsOpening, TellsNoneUnfit}
 use Rattle.desk_day.specs.Running.{IsUndone, RunningStates, moment_on}
@@ -21,12 +21,6 @@ pub ran_out : {T : Type 0} (P : DayRefusal → Type 0) (r : Result T DayRefusal)
     → P refusals.OutOfMemory → IfErr r P
 ran_out P (Ok x) is p = tt
 ran_out P (Err e) is p = subst P (sym is) p
-
--- a picker that ran out of memory told more
-pub tells_on : {T E : Type 0} (r : Result T E) (before after picks : List ℕ) → after ≡ before ++ picks
-    → OnErr r (TellsMore before after)
-tells_on (Ok x) before after picks more = tt
-tells_on (Err e) before after picks more = (picks, more)
 
 -- nothing was told, and the opening is as it was
 pub keeps_still : (before after : State) → after ≡ before → (refusal : DayRefusal) → KeepsOpening before after refusal
@@ -86,14 +80,16 @@ module _ (terms : Option Terms) (orders : List CallOrder) (ceilings : List ℕ) 
         dossier = same;
         unopened = tt;
         untold = tt;
+        asked = tt;
         choice = kept;
       }))
 
   pub ends_undone : (refusal : DayRefusal) → noted.present ≡ was.present → noted.opening ≡ new.opening
       → IsUndone terms day (moment_on was was.present told choice)
       (moment_on new was.present told_after choice_after) refusal
+      → TellsOfPasses orders ceilings day (morning terms day was.present) choice told told_after
       → Ends desk noted (Err refusal)
-  ends_undone refusal restored opened undone = subst (λ (d : DeskStates). Ends d noted (Err refusal)) is (record {
+  ends_undone refusal restored opened undone asked = subst (λ (d : DeskStates). Ends d noted (Err refusal)) is (record {
     done = tt;
     unfit = undone.unfit;
     restored = restored;
@@ -101,5 +97,6 @@ module _ (terms : Option Terms) (orders : List CallOrder) (ceilings : List ℕ) 
     dossier = ap (λ (s : State). s.dossier) restored;
     unopened = subst (λ (o : State). KeepsOpening was.opening o refusal) (sym opened) undone.unopened;
     untold = undone.untold;
+    asked = asked;
     choice = kept;
   })

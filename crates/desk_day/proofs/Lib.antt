@@ -3,7 +3,7 @@
 -- A pass and its answers: OnePass, ChangedMarks, BesideChanges, OnceEach, MarkPairs.
 -- Passes one after another: LaterPasses (who need not be asked again), PassesSoFar, PassEnds.
 -- The whole day: DayEnds, DayPlaces, Stamps, SameDossier, IdleDays (nothing happens).
--- What is kept of passes and of days: KeptPasses, KeptDays.
+-- What is kept of passes and of days: KeptPasses, KeptDays. Where memory ran out: ToldPasses.
 -- Laws of days: SameDays, DayLaws.
 pub mod Listed
 pub mod ChangedMarks
@@ -27,4 +27,5 @@ pub mod Touching
 pub mod OnceEach
 pub mod IdleDays
 pub mod KeptPasses
+pub mod ToldPasses
 pub mod KeptDays

@@ -1,5 +1,5 @@
 -- The passes of a day.
-use Rattle.std.specs.Prelude.{◌≡◌, ℕ, ◌+◌, ◌||◌, List, [], ◌∷◌, ◌++◌, count_by, ⊤}
+use Rattle.std.specs.Prelude.{◌≡◌, ℕ, ◌+◌, not, ◌||◌, List, [], ◌∷◌, ◌++◌, count_by, IsTrue, ⊤}
 use Rattle.std.specs.List.{flat_map}
 use Rattle.admit_core.specs.declared.ranking.CallOrder.{CallOrder}
 use Rattle.admit_core.specs.declared.records.PassEnd.{PassEnd}
@@ -8,11 +8,11 @@ use Rattle.admit_core.specs.declared.state.Status.TheVariants.{Offered}
 use Rattle.admit_core.specs.State.{State, changed_to, is_live, is_waiting}
 use Rattle.admit_core.specs.AutoAnswer.{auto_all}
 use Rattle.admit_core.specs.Boarding.{boarding}
-use Rattle.admit_core.specs.Days.{closing, offered}
+use Rattle.admit_core.specs.Days.{IsPassEnd, closing, frees_nothing, offered}
 use Rattle.auto_answer.specs.Laws.{AreAnsweredBut}
 use Rattle.day_state.specs.Along.{change_along}
 use Rattle.bar_fixpoint.specs.Runs.{schools_of}
-use Rattle.bar_fixpoint.specs.Chosen.{AreChosen}
+use Rattle.bar_fixpoint.specs.Chosen.{AreChosen, TellsOfFalls}
 use Rattle.round.specs.PassLaws.{KeepsPassLaws}
 
 -- the state in which the wishes at these places have become offered
@@ -68,3 +68,22 @@ PassesKeepLaws orders ceilings day k s (pass ∷ rest) =
 -- what was told before is a prefix of what is told now
 abbrev pub TellsMore : List ℕ → List ℕ → Type 0
 TellsMore before after = (picks : List ℕ) × (after ≡ before ++ picks)
+
+-- a picker told of the falls of these passes, each of which freed something, and then of falls of
+-- the next one, which may have ended early
+abbrev pub TellsAlong : List CallOrder → List ℕ → ℕ → ℕ → State → (List ℕ → List ℕ → ℕ) → List ℕ
+    → List ℕ → List PassEnd → Type 0
+TellsAlong orders ceilings day k s choice told told_after [] =
+    TellsOfFalls (boarding s orders ceilings) choice told told_after
+TellsAlong orders ceilings day k s choice told told_after (pass ∷ rest) =
+    IsPassEnd s orders ceilings (stamp_of day k) pass
+    × IsTrue (not (frees_nothing pass.freed))
+    × AreChosen (boarding s orders ceilings) choice told ceilings pass.pass.falls
+    × TellsAlong orders ceilings day (k + 1) (closing s orders pass.pass.bars (stamp_of day k))
+    choice (told ++ schools_of pass.pass.falls) told_after rest
+
+-- what a picker told where memory ran out in a day whose passes begin with the opening s
+abbrev pub TellsOfPasses : List CallOrder → List ℕ → ℕ → State → (List ℕ → List ℕ → ℕ)
+    → List ℕ → List ℕ → Type 0
+TellsOfPasses orders ceilings day s choice told told_after =
+    (passes : List PassEnd) × TellsAlong orders ceilings day 1 s choice told told_after passes

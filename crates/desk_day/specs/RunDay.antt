@@ -13,6 +13,7 @@ use Rattle.admit_core.specs.Days.{IsDay, morning, unfit_on}
 use Rattle.desk_day.specs.AnswersOn.{IsUnfitOf}
 use Rattle.desk_day.specs.DayLaws.{KeepsLaws}
 use Rattle.desk_day.specs.DayPasses.{schools_of_passes, last_opening, AreChosenPasses, TellsMore}
+use Rattle.desk_day.specs.DayPasses.{TellsOfPasses}
 use Rattle.desk_day.specs.DayPlaces.{IsDayIn}
 use Rattle.desk_day.specs.DeskStates.{DeskStates}
 use Rattle.desk_day.specs.declared.refusal.DayRefusal.{DayRefusal}
@@ -95,4 +96,6 @@ pub record EndsDay (terms : Option Terms) (orders : List CallOrder) (ceilings : 
   pub dossier : after.desk.present.dossier ≡ before.desk.present.dossier
   pub unopened : IfErr result (KeepsOpening before.desk.opening after.desk.opening)
   pub untold : IfErr result (TellsNoneUnfit before.told after.told)
+  pub asked : OnErr result (TellsOfPasses orders ceilings day
+      (morning terms day before.desk.present) before.choice before.told after.told)
   pub choice : after.choice ≡ before.choice

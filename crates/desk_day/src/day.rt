@@ -1,11 +1,11 @@
 //! A day.
-ghost use Rattle.std.specs.Prelude.{◌≡◌, length, [], IfOk, IfErr, None};
+ghost use Rattle.std.specs.Prelude.{◌≡◌, length, [], IfOk, IfErr, None, OnErr};
 ghost use Rattle.std.specs.Option.{option_copied};
 ghost use Rattle.admit_core.specs.Ranges.{IsDay as IsDayNumber};
 ghost use Rattle.admit_core.specs.Days.{lapsed_on, morning, unfit_on};
 ghost use Rattle.admit_core.specs.Lapses.{AreTermsFor};
 ghost use Rattle.desk_day.specs.AnswersOn.{IsUnfitOf};
-ghost use Rattle.desk_day.specs.DayPasses.{IsAnswered, IsAnsweredBut};
+ghost use Rattle.desk_day.specs.DayPasses.{IsAnswered, IsAnsweredBut, TellsOfPasses};
 ghost use Rattle.desk_day.specs.DayPlaces.{AreWishesOf};
 ghost use Rattle.desk_day.specs.KeptDays.{EndsDayKept, kept_day};
 ghost use Rattle.desk_day.specs.RunDay.{EndsDay, IsDayDone};
@@ -116,6 +116,10 @@ impl Running<'_> {
         ensures undone { IfErr result (IsUndone (option_copied plan.entry.terms) plan.entry.day
             (moment_on self.old self.old.present (told picker.old) (choice picker.old))
             (moment_on self.new self.old.present (told picker.new) (choice picker.new))) }
+        ensures asked { OnErr result (TellsOfPasses roster.now.orders plan.entry.ceilings.now
+            plan.entry.day
+            (morning (option_copied plan.entry.terms) plan.entry.day self.old.present)
+            (choice picker.old) (told picker.old) (told picker.new)) }
         ensures choice { choice picker.new ≡ choice picker.old }
         ensures dossier { self.new.present.dossier ≡ self.old.present.dossier }
     {

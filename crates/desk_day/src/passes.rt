@@ -1,10 +1,12 @@
 //! The passes of a day.
 ghost use Rattle.std.specs.Prelude.{◌≡◌, length, map, true, IfOk, OnErr};
 ghost use Rattle.admit_core.specs.AutoAnswer.{auto_all, freed};
+ghost use Rattle.admit_core.specs.Boarding.{boarding};
 ghost use Rattle.admit_core.specs.Days.{frees_nothing};
 ghost use Rattle.auto_answer.specs.Laws.{AreAnsweredBut, SameOthers};
+ghost use Rattle.bar_fixpoint.specs.Chosen.{TellsOfFalls};
 ghost use Rattle.desk_day.specs.Changes.{answered_changes};
-ghost use Rattle.desk_day.specs.DayPasses.{TellsMore, offered_along};
+ghost use Rattle.desk_day.specs.DayPasses.{TellsOfPasses, offered_along};
 ghost use Rattle.desk_day.specs.DayPlaces.{AreWishesOf};
 ghost use Rattle.desk_day.specs.KeptDays.{ArePassesPicked, IsPassPicked, kept_end};
 ghost use Rattle.desk_day.specs.Running.{opening_after};
@@ -42,7 +44,9 @@ impl Running<'_> {
             (ArePassesPicked roster.now.orders plan.entry.ceilings.now plan.entry.day
             self.old.present (choice picker.old) (told picker.old) (told picker.new) self.new)
             ends.items) }
-        ensures early { OnErr result (TellsMore (told picker.old) (told picker.new)) }
+        ensures early { OnErr result (TellsOfPasses roster.now.orders plan.entry.ceilings.now
+            plan.entry.day self.old.present (choice picker.old) (told picker.old)
+            (told picker.new)) }
         ensures choice { choice picker.new ≡ choice picker.old }
         ensures dossier { self.new.present.dossier ≡ self.old.present.dossier }
     {
@@ -84,7 +88,9 @@ impl Running<'_> {
         ensures made { IfOk result (IsKeptOf (kept_end plan.entry.keeps_falls)
             (IsPassPicked roster.now.orders plan.entry.ceilings.now stamp self.old.present
             (choice picker.old) (told picker.old) (told picker.new) self.new)) }
-        ensures early { OnErr result (TellsMore (told picker.old) (told picker.new)) }
+        ensures early { OnErr result (TellsOfFalls
+            (boarding self.old.present roster.now.orders plan.entry.ceilings.now)
+            (choice picker.old) (told picker.old) (told picker.new)) }
         ensures choice { choice picker.new ≡ choice picker.old }
         ensures dossier { self.new.present.dossier ≡ self.old.present.dossier }
     {

@@ -104,6 +104,6 @@ returns-in-Err g c =
     let kept = c.keep_evening.ensures ∙ c.now-2.ensures in (
       Err c.in-Err.refusal,
       ends_undone _ _ _ _ _ _ _ _ _ _ _ _ _ _ c.desk.view_is kept c.play-outcome.ensures.choice c.in-Err.refusal
-          (c.restore.ensures.present ∙ kept) c.restore.ensures.opening c.in-Err.ensures.undone,
+          (c.restore.ensures.present ∙ kept) c.restore.ensures.opening c.in-Err.ensures.undone c.in-Err.ensures.asked,
       refl,
     )

@@ -13,13 +13,12 @@ use Rattle.desk_day.specs.DayPasses.{IsAnswered, offered_along}
 use Rattle.desk_day.specs.DayPlaces.{AreWishesOf}
 use Rattle.desk_day.specs.KeptDays.{IsPassPicked}
 use Rattle.desk_day.specs.Running.{RunningStates, opening_after}
-use Rattle.desk_day.proofs.DayEnds.{tells_on}
 use Rattle.desk_day.proofs.KeptPasses.{offers_kept}
 use Rattle.desk_day.proofs.LaterPasses.{answered_all, answered_along, answered_but, closing_answered, offers_within}
 use Rattle.desk_day.proofs.LaterPasses.{same_but, steps_taken}
 use Rattle.desk_day.proofs.OnceEach.{names_along, names_there, others_stay}
 use Rattle.desk_day.proofs.OnePass.{closed, closed_dossier, pass_ended, fewer_open, closed_long, next_dossier}
-use Rattle.desk_day.proofs.PassesSoFar.{tells_of_falls}
+use Rattle.desk_day.proofs.ToldPasses.{told_seen, told_whole}
 use Rattle.desk_day.proofs.running.Running.make_pass.Goals as goal
 
 pub pass_keeping-requires : goal.pass_keeping-requires
@@ -258,11 +257,15 @@ returns-in_err-pass-clause-dossier g c =
 
 pub returns-in_err-ask_beside-clause-early : goal.returns-in_err-ask_beside-clause-early
 returns-in_err-ask_beside-clause-early g c =
-    tells_on c.from_residual-in_err-ask_beside.result _ _ _ c.in_ok-pass.ensures.pass.1.by.told_of
+    let is = c.in_ok-pass.ensures.pass.1.by in
+    on_err c.from_residual-in_err-ask_beside.result
+    (told_seen _ _ c.self.view_is _ _ _ _ _ (told_whole _ _ _ _ _ _ _ is.is_pass is.told_of is.chosen))
 
 pub returns-in_err-autos-clause-early : goal.returns-in_err-autos-clause-early
 returns-in_err-autos-clause-early g c =
-    tells_on c.from_residual-in_err-autos.result _ _ _ c.in_ok-pass.ensures.pass.1.by.told_of
+    let is = c.in_ok-pass.ensures.pass.1.by in
+    on_err c.from_residual-in_err-autos.result
+    (told_seen _ _ c.self.view_is _ _ _ _ _ (told_whole _ _ _ _ _ _ _ is.is_pass is.told_of is.chosen))
 
 pub returns-in_err-ask_beside-clause-made : goal.returns-in_err-ask_beside-clause-made
 returns-in_err-ask_beside-clause-made g c = IfOk-from_err _ _ c.from_residual-in_err-ask_beside.ensures.0
@@ -271,4 +274,5 @@ pub returns-in_err-autos-clause-made : goal.returns-in_err-autos-clause-made
 returns-in_err-autos-clause-made g c = IfOk-from_err _ _ c.from_residual-in_err-autos.ensures.0
 
 pub returns-in_err-pass-clause-early : goal.returns-in_err-pass-clause-early
-returns-in_err-pass-clause-early g c = on_err _ (tells_of_falls _ _ _ _ c.in_err-pass.ensures.early)
+returns-in_err-pass-clause-early g c =
+    on_err _ (told_seen _ _ c.self.view_is _ _ _ _ _ c.in_err-pass.ensures.early)

@@ -8,7 +8,7 @@ use Rattle.round.specs.KeptFalls.{IsKeptOf}
 use Rattle.desk_day.specs.KeptDays.{kept_end}
 use Rattle.desk_day.proofs.KeptPasses.{PickedSoFar, picked_all, picked_fewer, picked_more, picked_none, picked_opening}
 use Rattle.desk_day.proofs.OnePass.{open_at_most}
-use Rattle.desk_day.proofs.PassesSoFar.{tells_from}
+use Rattle.desk_day.proofs.ToldPasses.{told_behind_pass, told_in_pass}
 use Rattle.desk_day.proofs.running.Running.make_passes.Goals as goal
 
 pub passes-init : goal.passes-init
@@ -73,7 +73,8 @@ returns-in_err-end-clause-made g c = IfOk-from_err _ _ c.from_residual.ensures.0
 
 pub returns-in_err-end-clause-early : goal.returns-in_err-end-clause-early
 returns-in_err-end-clause-early g c =
-    on_err _ (tells_from _ _ _ _ c.passes.invariant.so_far.1.told_of c.in_err-end.ensures.early)
+    on_err _ (told_in_pass _ _ _ _ _ _ _ _ _ _ _ _ _ c.passes.invariant.so_far c.passes.invariant.choice
+    c.in_err-end.ensures.early)
 
 pub returns-in_err-end-clause-choice : goal.returns-in_err-end-clause-choice
 returns-in_err-end-clause-choice g c = c.make_pass.ensures.choice ∙ c.passes.invariant.choice
@@ -86,7 +87,8 @@ returns-in_err-push-clause-made g c = IfOk-from_err _ _ c.from_residual-in_err-p
 
 pub returns-in_err-push-clause-early : goal.returns-in_err-push-clause-early
 returns-in_err-push-clause-early g c =
-    on_err _ (tells_from _ _ _ _ c.passes.invariant.so_far.1.told_of (_, c.in_ok-end.ensures.made.1.told_of))
+    on_err _ (told_behind_pass _ _ _ _ _ _ _ _ _ _ _ _ _ c.passes.invariant.so_far c.passes.invariant.choice _ _
+    c.in_ok-end.ensures.made)
 
 pub returns-in_err-push-clause-choice : goal.returns-in_err-push-clause-choice
 returns-in_err-push-clause-choice g c = c.make_pass.ensures.choice ∙ c.passes.invariant.choice

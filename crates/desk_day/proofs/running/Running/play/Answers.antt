@@ -1,5 +1,6 @@
 use Rattle.std.proofs.Common.{List, ◌∙◌, ◌≤◌, ◌+◌, ap, length, refl, subst, sym}
 use Rattle.std.proofs.lemmas.Result.{IfOk-from_err}
+use Rattle.admit_core.proofs.Plain.{on_err}
 use Rattle.std.specs.Option.{option_copied}
 use Rattle.admit_core.specs.declared.records.PassEnd.{PassEnd}
 use Rattle.admit_core.specs.CallOrder.{AreCallOrders}
@@ -13,6 +14,7 @@ use Rattle.desk_day.proofs.DayEnds.{not_begun, ran_out}
 use Rattle.desk_day.proofs.DayLaws.{laws_kept}
 use Rattle.desk_day.proofs.DayPlaces.{day_in}
 use Rattle.desk_day.proofs.Stamps.{stamps_kept}
+use Rattle.desk_day.proofs.ToldPasses.{told_more, told_nothing, told_there, told_to_the_end}
 use Rattle.desk_day.proofs.running.Running.play.Goals as goal
 
 pub make_passes-requires : goal.make_passes-requires
@@ -32,7 +34,26 @@ returns-in_err-passes-clause-done g c = IfOk-from_err _ _ c.from_residual-in_err
 
 pub returns-in_err-passes-clause-undone : goal.returns-in_err-passes-clause-undone
 returns-in_err-passes-clause-undone g c = ran_out _ _ c.from_residual-in_err-passes.ensures.1
-    (record { unfit = c.in_ok-lapsed.ensures.fits; unopened = tt; untold = c.in_err-passes.ensures.early })
+    (record {
+      unfit = c.in_ok-lapsed.ensures.fits;
+      unopened = tt;
+      untold = told_more _ _ _ _ _ _ _ c.in_err-passes.ensures.early;
+    })
+
+pub returns-in_err-lapsed-clause-asked : goal.returns-in_err-lapsed-clause-asked
+returns-in_err-lapsed-clause-asked g c = on_err c.from_residual.result (told_nothing _ _ _ _ _ _)
+
+pub returns-in_err-passes-clause-asked : goal.returns-in_err-passes-clause-asked
+returns-in_err-passes-clause-asked g c =
+    on_err c.from_residual-in_err-passes.result
+    (told_there _ _ c.in_ok-lapsed.ensures.present _ _ _ _ _ _ c.in_err-passes.ensures.early)
+
+pub returns-in_err-done-clause-asked : goal.returns-in_err-done-clause-asked
+returns-in_err-done-clause-asked g c =
+    let picked = c.in_ok-passes.ensures.made.1 in
+    on_err c.from_residual-in_err-done.result
+    (told_there _ _ c.in_ok-lapsed.ensures.present _ _ _ _ _ _
+    (told_to_the_end _ _ _ _ _ _ _ _ _ picked.made.passes picked.chosen picked.told_of))
 
 pub returns-in_err-passes-clause-dossier : goal.returns-in_err-passes-clause-dossier
 returns-in_err-passes-clause-dossier g c = c.make_passes.ensures.dossier ∙ c.begin_day.ensures.dossier
