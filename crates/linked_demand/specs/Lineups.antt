@@ -19,7 +19,8 @@ pub record IsLineupOf (d : DossierRows) (orders : List CallOrder) (l : Lineup) :
 -- for each programme it is known how many places of its line are reached
 abbrev pub IsReachedIn : State → List CallOrder → List Bool → List ℕ → Lineup → Type 0
 IsReachedIn s orders opens reached l =
-    IsReached s orders opens reached l.claims.items l.places.items (all_sure s l.called_by_limit.items)
+    IsReached s orders opens reached l.claims.items l.places.items
+    (all_sure s l.called_by_limit.items)
 
 -- and the wishes that may need no seat are listed
 pub record AreKept (s : State) (orders : List CallOrder) (opens : List Bool) (reached : List ℕ)

@@ -104,5 +104,5 @@ pub record IsLineup (d : DossierRows) (orders : List CallOrder) (claims : List (
   pub places_are : (i : ℕ) (w : Wish) → slice_get d.wishes i ≡ Some w
       → IsSeatPlace d orders w (slice_index places i)
   pub called_each : length limited ≡ length d.wishes
-  pub called_are : (i : ℕ) (w : Wish) → slice_get d.wishes i ≡ Some w → slice_index_or limited i false
-      ≡ is_called_by_limit d orders w
+  pub called_are : (i : ℕ) (w : Wish) → slice_get d.wishes i ≡ Some w
+      → slice_index_or limited i false ≡ is_called_by_limit d orders w
