@@ -2,10 +2,12 @@
 ghost use Rattle.std.specs.Prelude.{◌≡◌, ◌<◌, ◌≤◌, ◌+◌, ◌^◌, length, slice_index, IfOk, replicate};
 ghost use Rattle.std.specs.Option.{ForSome};
 ghost use Rattle.day_state.specs.Bundles.{AreWithin, number_at, count_of, count_at, numbers_by, shared_by, has_live};
-ghost use Rattle.day_state.specs.Kept.{one_if, recount_some};
+ghost use Rattle.admit_core.specs.State.{is_live};
+ghost use Rattle.day_state.specs.Kept.{mark_in, one_if, recount_some};
 
 use crate::bundle_numbers::{numbers_of, ranks_of, shared_among};
 use crate::counts::{copy_counts, recount_some, zeros};
+use crate::flagged_marks::FlaggedMarks;
 use crate::numbers::{Number, Numbers};
 use admit_core::OutOfMemory;
 use std::alloc::Global;
@@ -72,15 +74,17 @@ impl Bundles {
         copy_counts(&mut self.live, &other.live);
     }
 
-    /// Whether one of a wish's bundle is live; `lives` tells it of the wish.
-    pub fn is_live(&self, wish: u32, lives: bool) -> bool
+    /// Whether one of a wish's bundle is live. These are the marks; that of the wish is read where
+    /// it is alone.
+    pub fn is_live(&self, wish: u32, marks: &FlaggedMarks) -> bool
         requires place { wish < length self.now.numbers.value }
+        requires mark { wish < length marks.now }
         requires number { ForSome (count_at self.now.numbers.value wish)
             (λ n. n < length self.now.live.items) }
         ensures { result ≡ has_live self.now.live.items
-            (number_at self.now.numbers.value wish) lives }
+            (number_at self.now.numbers.value wish) (is_live (mark_in marks.now wish)) }
     {
-        has_live(&self.live, self.numbers.get(wish), lives)
+        has_live_by(&self.live, self.numbers.get(wish), marks, wish)
     }
 
     /// Counts a wish anew that was live, or wasn't, and is live, or isn't.
@@ -105,6 +109,19 @@ impl Bundles {
         recount_some(&mut self.live, number.count(), was_live, lives);
         let has = has_live(&self.live, number, lives);
         Turn { had, has }
+    }
+}
+
+/// Whether a bundle has a live wish, by the mark of the wish that is asked about where that is alone.
+fn has_live_by(live: &Vec<u32>, number: Number, marks: &FlaggedMarks, wish: u32) -> bool
+    requires mark { wish < length marks.now }
+    requires number { ForSome (count_of number) (λ n. n < length live.now.items) }
+    ensures { result ≡ has_live live.now.items number (is_live (mark_in marks.now wish)) }
+{
+    match number {
+        Number::NoSite => false,
+        Number::Alone => marks.get(wish).is_live(),
+        Number::Shared(_) => has_live(live, number, false),
     }
 }
 

@@ -177,8 +177,7 @@ impl<'d> CountedMarks<'d> {
         requires { wish < length self.now.marks }
         ensures { result ≡ has_seat_there self.now wish }
     {
-        let lives = self.mark(wish).is_live();
-        self.in_programmes.is_live(wish, lives)
+        self.in_programmes.is_live(wish, &self.marks)
     }
 
     /// Whether a wish's candidate is live in its school.
@@ -186,8 +185,7 @@ impl<'d> CountedMarks<'d> {
         requires { wish < length self.now.marks }
         ensures { result ≡ has_bed_there self.now wish }
     {
-        let lives = self.mark(wish).is_live();
-        self.in_schools.is_live(wish, lives)
+        self.in_schools.is_live(wish, &self.marks)
     }
 
     /// The preference number of a candidate's best live wish, where they rank their wishes, whose
