@@ -156,8 +156,15 @@ module _ (l : LinksRow) (bars : List ℕ) (h : ℕ) (row : List RowWish) (right 
       let waiting = (and_parts (is_waiting m) (not (is_barred l.state bars w m)) opens).0 in
       let waits : WaitsAt l.state k w m = record { here = at; waits = waiting } in
       let same = eqb-true r w.board_rank demand.1 in
-      let x : RowWish = record { rank = r; wish = k; programme = 0; place = 0; shared = false;
-          may_need_no_seat = false } in
+      let x : RowWish = record {
+        rank = r;
+        wish = k;
+        programme = 0;
+        place = 0;
+        shared = false;
+        called_by_limit = false;
+        doubled = false;
+      } in
       let low = open_below l.state bars w m w.school h inner.0 middle.1 opens in
       let (j, y, found, rank, wish) = right.all x w m
       (record { waits = waits; has = inner.0; no_bed = middle.1; rank = same }) (omega (arith, same, low)) in (

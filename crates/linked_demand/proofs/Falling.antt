@@ -153,8 +153,15 @@ module _ (s : State) (bars : List ℕ) (h to : ℕ) (row kept : List RowWish) (a
       let inner = and_parts (not (holds_bed s w.candidate h)) (nat_lt to w.board_rank) outer.1 in
       let behind : to < w.board_rank = ltb-true to w.board_rank inner.1 in
       let waits = (and_parts (is_waiting m) (not (is_waiting m && is_behind_bar s bars w w.school)) opens).0 in
-      let x : RowWish = record { rank = w.board_rank; wish = i; programme = 0; place = 0; shared = false;
-          may_need_no_seat = false } in
+      let x : RowWish = record {
+        rank = w.board_rank;
+        wish = i;
+        programme = 0;
+        place = 0;
+        shared = false;
+        called_by_limit = false;
+        doubled = false;
+      } in
       let (k, y, found, rank, wish) = right.all x w m
       (record {
         waits = record { here = at; waits = waits };

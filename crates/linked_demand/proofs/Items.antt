@@ -5,7 +5,7 @@ use Rattle.std.proofs.Math.ListN.{set}
 use Rattle.std.specs.Prelude.{slice_get, slice_index, All}
 use Rattle.std.specs.List.{position_or_len}
 use Rattle.std.proofs.Math.Bool.{or_comm}
-use Rattle.std.proofs.lemmas.Bool.{eq-eqb, ne_eqb, or_from, or_parts}
+use Rattle.std.proofs.lemmas.Bool.{eq-eqb, ne_eqb}
 use Rattle.std.proofs.lemmas.List.{get_or_default}
 use Rattle.std.proofs.lemmas.List.Sums.{position_or_len_is}
 use Rattle.admit_core.specs.declared.dossier.Wish.{Wish}
@@ -22,7 +22,7 @@ use Rattle.linked_demand.specs.Line.{LineRow, is_reached}
 use Rattle.linked_demand.specs.Links.{IsLinked, IsPlaceOf, IsSeatPlace, LinksRow, WaitsAt}
 use Rattle.linked_demand.specs.Opens.{line_of}
 use Rattle.linked_demand.specs.Rows.{item_at, line_place, row_item}
-use Rattle.linked_demand.specs.Seats.{is_called_by_limit, is_doubled, may_need_no_seat}
+use Rattle.linked_demand.specs.Seats.{is_called_by_limit, is_doubled}
 use Rattle.linked_demand.specs.Wants.{IsReached, stops_wanting, wants_with}
 use Rattle.linked_demand.proofs.Closing.{Closes, claim_right, closes_read, proposed_at_is, proposed_right, wish_of}
 use Rattle.linked_demand.proofs.Closing.{wish_there, wish_within}
@@ -45,17 +45,19 @@ wish_of_item d x = record (wish_in d.wishes x.wish) { programme = x.programme }
 pub item_made : (d : DossierRows) (orders : List CallOrder) (places : List ℕ)
     → ((i : ℕ) (w : Wish) → slice_get d.wishes i ≡ Some w → IsSeatPlace d orders w (slice_index places i))
     → (b : Boarder) → IsBoarder d b → (place : ℕ) → place ≡ slice_index places b.wish
-    → (doubt : Bool) → doubt ≡ may_need_no_seat d orders b.wish
+    → (called doubled : Bool) → called ≡ is_called_by_limit d orders (wish_in d.wishes b.wish)
+    → doubled ≡ is_doubled d b.wish
     → record {
       rank = b.rank;
       wish = b.wish;
       programme = b.programme;
       place = place;
       shared = b.shared;
-      may_need_no_seat = doubt;
+      called_by_limit = called;
+      doubled = doubled;
     }
     ≡ item_at d orders b.wish
-item_made d orders places places_are b right place read doubt doubt_is =
+item_made d orders places places_are b right place read called doubled called_is doubled_is =
     let w = wish_in d.wishes b.wish in
     let at = wish_there d.wishes b.wish w right.within refl in
     let place_now : place ≡ line_place d orders w =
@@ -68,7 +70,8 @@ item_made d orders places places_are b right place read doubt doubt_is =
       programme = right.programme i;
       place = place_now i;
       shared = right.shared i;
-      may_need_no_seat = doubt_is i;
+      called_by_limit = called_is i;
+      doubled = doubled_is i;
     }
 
 module _ {s : State} {orders : List CallOrder} {opens : List Bool} {lines : List LineRow}
@@ -121,21 +124,24 @@ module _ {s : State} {orders : List CallOrder} {opens : List Bool} {lines : List
         let right = claim_right k x.place item_stands all all_read claim claim_read in
         single_seat s links.marks_each x.wish (wish_of_item s.dossier x) k.mark k.at claim right
 
-    -- where it says that its wish may not go without a seat, the wish needs one
-    pub item_needs_seat : x.may_need_no_seat ≡ false → get_or sure x.wish false ≡ false
-    item_needs_seat none =
+    -- where it says that its candidate has no other wish in the programme, they are not live there
+    pub item_alone : x.doubled ≡ false → has_seat_there s x.wish ≡ false
+    item_alone none =
+        let k = closes_item in
+        no_seat s links.marks_each x.wish (wish_of_item s.dossier x) k.mark k.at
+        (sym (ap (λ (y : RowWish). y.doubled) item_here) ∙ none)
+
+    -- it tells who needs no seat
+    pub item_sure : (x.called_by_limit || has_seat_there s x.wish) ≡ get_or sure x.wish false
+    item_sure =
         let d = s.dossier in
-        let i = x.wish in
-        let v = wish_in d.wishes i in
+        let v = wish_in d.wishes x.wish in
         let k = closes_item in
         let w = wish_of_item d x in
-        let here = wish_of d.wishes s.marks i w k.mark k.at.here in
-        let parts = or_parts (is_called_by_limit d orders v) (is_doubled d i)
-        (sym (ap (λ (y : RowWish). y.may_need_no_seat) item_here) ∙ none) in
-        links.sure_are i w here
-        ∙ ap (λ (u : Wish). holds_seat s u.candidate u.programme || is_called_by_limit d orders u) kept
-        ∙ or_from (holds_seat s v.candidate v.programme) (is_called_by_limit d orders v)
-        (no_seat s links.marks_each i w k.mark k.at parts.1) parts.0
+        ap (λ (y : RowWish). y.called_by_limit || has_seat_there s x.wish) item_here
+        ∙ or_comm (is_called_by_limit d orders v) (has_seat_there s x.wish)
+        ∙ sym (ap (λ (u : Wish). holds_seat s u.candidate u.programme || is_called_by_limit d orders u) kept)
+        ∙ sym (links.sure_are x.wish w (wish_of d.wishes s.marks x.wish w k.mark k.at.here))
 
     -- where it is open, it says whether it is proposed
     pub item_proposed : get_or row.opens x.wish false ≡ true → (line : LineRow) → line ≡ get_or lines x.programme line

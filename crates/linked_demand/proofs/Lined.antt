@@ -278,9 +278,9 @@ pub lined_more : (d : DossierRows) (orders : List CallOrder) (p : ℕ) (wishes b
     → wishes ≡ called_for d orders p
     → before ≡ map (before_at d orders) wishes → IsDistinct nat_eq (line_of d orders p)
     → (from to : ℕ) (span : Span) (spans next : List Span) (places new_places : List ℕ)
-        (limited new_limited : List Bool)
+    (limited new_limited : List Bool)
     (place : ℕ) (is_called : Bool) → IsLined d orders p wishes from spans places limited → from < length wishes
-        → from < to
+    → from < to
     → to ≤ length before → HoldsOneKey (λ k. k) before from to → span.from ≡ from → span.to ≡ to
     → next ≡ spans ++ span ∷ []
     → place ≡ length spans → is_called ≡ nat_lt (get_or before from 0) (limit_of d p)

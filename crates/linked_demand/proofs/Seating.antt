@@ -71,7 +71,7 @@ module _ (s : DossierRows) (orders : List CallOrder) (n : ℕ) (order : List ℕ
       → is_called ≡ nat_lt (length (before_first (nat_eq x) (order_of s orders n))) (limit_of s n) → place ≡ i
       → AreSeated s orders (is_passed n (take i order)) places limited
       → PutAt ℕ 0 (claim_of s n x) place places new_places
-          → PutAt Bool false (claim_of s n x) is_called limited new_limited
+      → PutAt Bool false (claim_of s n x) is_called limited new_limited
       → AreSeated s orders (is_passed n (take (i + 1) order)) new_places new_limited
   seated_more places limited new_places new_limited place is_called is apart some limited_is place_is are puts
       puts_limited =

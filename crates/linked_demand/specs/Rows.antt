@@ -15,7 +15,7 @@ use Rattle.day_state.specs.Kept.{has_bed_there, mark_in, wish_in}
 use Rattle.linked_demand.specs.declared.rows.RowWish.{RowWish}
 use Rattle.linked_demand.specs.Links.{AllOpenWait, LinksRow, WaitsAt}
 use Rattle.linked_demand.specs.Opens.{line_of}
-use Rattle.linked_demand.specs.Seats.{may_need_no_seat, may_share_school}
+use Rattle.linked_demand.specs.Seats.{is_called_by_limit, is_doubled, may_share_school}
 
 -- the place of a wish's candidate in the line of its programme
 abbrev pub line_place : DossierRows → List CallOrder → Wish → ℕ
@@ -29,7 +29,8 @@ item_of d orders k w = record {
   programme = w.programme;
   place = line_place d orders w;
   shared = may_share_school d k;
-  may_need_no_seat = may_need_no_seat d orders k;
+  called_by_limit = is_called_by_limit d orders w;
+  doubled = is_doubled d k;
 }
 
 -- and of the wish at a place

@@ -8,8 +8,9 @@ ghost use Rattle.linked_demand.specs.Rows.{item_at};
 ghost use Rattle.linked_demand.specs.Seats.{IsLineup, boards_at, may_share_school};
 
 use crate::claims::Claims;
-use crate::may_need_no_seat::may_need_no_seat;
+use crate::may_need_no_seat::is_doubled;
 use crate::rows::{RowWish, put_in, rows_with_room};
+use crate::seats::is_set;
 use crate::wishes::wish_count;
 use admit_core::{CallOrders, OutOfMemory};
 use day_state::DayState;
@@ -154,7 +155,8 @@ fn item_of(
         programme: boarder.programme,
         place: places[wish as usize],
         shared: boarder.shared,
-        may_need_no_seat: may_need_no_seat(state, orders, claims, places, called_by_limit, wish),
+        called_by_limit: is_set(called_by_limit, wish),
+        doubled: is_doubled(state, orders, claims, places, called_by_limit, wish),
     }
 }
 

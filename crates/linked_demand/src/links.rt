@@ -2,6 +2,7 @@
 ghost use Rattle.std.specs.Prelude.{◌≡◌, ℕ, ◌+◌, ◌<◌, ◌&&◌, ◌||◌, true, false, not, length, map, filter, slice_set, slice_index_or, count_by, IfOk};
 ghost use Rattle.std.specs.List.{enumerate_from, range_with_len};
 ghost use Rattle.admit_core.specs.State.{entries};
+ghost use Rattle.day_state.specs.Kept.{has_seat_there};
 ghost use Rattle.linked_demand.specs.Marks.{is_new, MarksWishes};
 ghost use Rattle.linked_demand.specs.Lineups.{IsLineupOf};
 ghost use Rattle.linked_demand.specs.Opens.{all_sure, opens_of};
@@ -43,24 +44,24 @@ fn is_seated(state: &DayState<'_>, called_by_limit: &[bool], wish: u32, reached:
     reached || needs_no_seat(state, called_by_limit, wish)
 }
 
-/// The same of an open wish of a row. Whether it needs no seat is asked where it may need none.
-fn is_item_seated(
-    state: &DayState<'_>,
-    called_by_limit: &[bool],
-    item: RowWish,
-    reached: bool,
-) -> bool
+/// Whether the candidate of an item's wish, which waits, is live in its programme: they are not
+/// where they have no other one there.
+fn is_item_live(state: &DayState<'_>, item: RowWish) -> bool
     requires wish { item.wish < length state.now.dossier.wishes }
-    requires called_by_limit { length called_by_limit.now ≡ length state.now.dossier.wishes }
-    requires needs_seat { item.may_need_no_seat ≡ false
-        → slice_index_or (all_sure state.now called_by_limit.now) item.wish false ≡ false }
-    ensures { result ≡ (reached
-        || slice_index_or (all_sure state.now called_by_limit.now) item.wish false) }
+    requires alone { item.doubled ≡ false → has_seat_there state.now item.wish ≡ false }
+    ensures { result ≡ has_seat_there state.now item.wish }
 {
-    if item.may_need_no_seat {
-        return is_seated(state, called_by_limit, item.wish, reached);
-    }
-    reached
+    item.doubled && state.is_live_in_its_programme(item.wish)
+}
+
+/// Whether an open wish of a row has a seat, by what its item tells.
+fn is_item_seated(state: &DayState<'_>, item: RowWish, reached: bool) -> bool
+    requires wish { item.wish < length state.now.dossier.wishes }
+    requires alone { item.doubled ≡ false → has_seat_there state.now item.wish ≡ false }
+    ensures { result ≡ (reached
+        || (item.called_by_limit || has_seat_there state.now item.wish)) }
+{
+    reached || (item.called_by_limit || is_item_live(state, item))
 }
 
 /// The same of a wish that may be closed.
@@ -157,7 +158,7 @@ impl<'a, 'd> SeatLinks<'a, 'd> {
     {
         let front = self.reached[item.programme as usize];
         let reached = is_reached(item.place as usize, front);
-        is_item_seated(self.state, &self.lineup.called_by_limit, item, reached)
+        is_item_seated(self.state, item, reached)
     }
 
     /// Closes a waiting wish. It ticks once for each wish that becomes proposed and is open under

@@ -12,7 +12,7 @@ use std::alloc::Global;
 
 /// Whether the candidate of the wish at a place has another one in its programme: their claim in
 /// its line is of more than one.
-fn is_doubled(
+pub fn is_doubled(
     state: &DayState<'_>,
     orders: &CallOrders,
     claims: &[Claims],
@@ -32,7 +32,7 @@ fn is_doubled(
 }
 
 /// Whether the wish at a place may need no seat while it waits.
-pub fn may_need_no_seat(
+fn may_need_no_seat(
     state: &DayState<'_>,
     orders: &CallOrders,
     claims: &[Claims],

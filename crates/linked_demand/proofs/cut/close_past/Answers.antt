@@ -14,7 +14,15 @@ use Rattle.linked_demand.proofs.Telling.{steps_told, marks_told}
 use Rattle.linked_demand.proofs.cut.close_past.Goals as goal
 
 abbrev no_item : RowWish
-no_item = record { rank = 0; wish = 0; programme = 0; place = 0; shared = false; may_need_no_seat = false }
+no_item = record {
+  rank = 0;
+  wish = 0;
+  programme = 0;
+  place = 0;
+  shared = false;
+  called_by_limit = false;
+  doubled = false;
+}
 
 pub loop-end-init : goal.loop-end-init
 loop-end-init g c =

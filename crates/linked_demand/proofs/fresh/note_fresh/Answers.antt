@@ -15,7 +15,7 @@ loop-wish-init g c =
       marked = marks_nothing c.args.state.now
           (λ x. is_among x.0 (take 0 c.args.claim.now) && is_fresh c.args.state.now c.args.bars.now
           c.args.opens.now (all_sure c.args.state.now c.args.called_by_limit.now) x.0) c.args.marked.now
-              (λ k e at. refl);
+          (λ k e at. refl);
     }
 
 pub loop-wish-preserved : goal.loop-wish-preserved

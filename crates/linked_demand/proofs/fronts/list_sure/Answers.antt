@@ -8,7 +8,7 @@ use Rattle.linked_demand.proofs.fronts.list_sure.Goals.{then-is_sure_open+in_ok-
 pub loop-wish-init : goal.loop-wish-init
 loop-wish-init c =
     lists_none (passing (sure_open c.args.opens.now (all_sure c.args.state.now c.args.called_by_limit.now))
-        c.args.wishes.now 0)
+    c.args.wishes.now 0)
     c.args.found.now.items (λ k. refl)
 
 pub loop-wish-preserved : goal.loop-wish-preserved

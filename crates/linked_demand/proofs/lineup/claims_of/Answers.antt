@@ -9,7 +9,7 @@ pub loop-programme-init : goal.loop-programme-init
 loop-programme-init c = record {
   built = built_none c.args.state.now.dossier c.args.orders.now.orders c.in_ok-claims.claims.items
       c.args.notes.now.places.items c.args.notes.now.called_by_limit.items c.in_ok-claims.ensures.items
-          c.requires.places
+      c.requires.places
       c.requires.called_by_limit;
   wishes = c.in_ok-called.ensures.wishes;
   before = c.in_ok-called.ensures.before;

@@ -76,20 +76,20 @@ loop-from-preserved c =
     let Q = λ (ks : List ℕ). PutAt ℕ 0 ks c.len-in-loop-from.result c.loop-from.notes.places.items
     c.note.new.notes.places.items in
     let R = λ (ks : List ℕ). PutAt Bool false ks c.is_called_by_limit-is_called.result
-        c.loop-from.notes.called_by_limit.items
+    c.loop-from.notes.called_by_limit.items
     c.note.new.notes.called_by_limit.items in
     lined_more c.args.state.now.dossier c.args.orders.now.orders c.args.programme c.args.wishes.items c.args.before.now
     c.requires.wishes c.requires.before c.requires.once
     c.loop-from.from c.end_of_claim-to.result span c.loop-from.spans.items c.push.new.self.items
     c.loop-from.notes.places.items
     c.note.new.notes.places.items c.loop-from.notes.called_by_limit.items c.note.new.notes.called_by_limit.items
-        c.len-in-loop-from.result
+    c.len-in-loop-from.result
     c.is_called_by_limit-is_called.result
     c.loop-from.invariant lt c.end_of_claim-to.ensures.further c.end_of_claim-to.ensures.within
     c.end_of_claim-to.ensures.run refl refl
     c.in_ok-push.ensures.items (omega (arith, c.len-in-loop-from.ensures))
     (c.is_called_by_limit-is_called.ensures ∙ ap (nat_lt (get_or c.args.before.now c.loop-from.from 0))
-        c.limit_of-limit.ensures)
+    c.limit_of-limit.ensures)
     (subst Q read c.note.ensures.places) (subst R read c.note.ensures.called_by_limit)
 
 pub returns-clause-claims : goal.returns-clause-claims

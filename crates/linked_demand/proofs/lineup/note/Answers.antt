@@ -15,7 +15,7 @@ returns-clause-places c = put_all ℕ 0 c.args.claim.now c.loop-wish.wish-index 
 pub returns-clause-called_by_limit : goal.returns-clause-called_by_limit
 returns-clause-called_by_limit c = put_all Bool false c.args.claim.now c.loop-wish.wish-index c.args.is_called
     c.args.notes.now.called_by_limit.items c.loop-wish.notes.called_by_limit.items
-        (omega arith) c.loop-wish.invariant.called_by_limit
+    (omega arith) c.loop-wish.invariant.called_by_limit
 
 pub loop-wish-preserved : goal.loop-wish-preserved
 loop-wish-preserved c =

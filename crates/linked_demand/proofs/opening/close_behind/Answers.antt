@@ -8,7 +8,15 @@ use Rattle.linked_demand.proofs.Shutting.{close_one}
 use Rattle.linked_demand.proofs.opening.close_behind.Goals as goal
 
 abbrev no_item : RowWish
-no_item = record { rank = 0; wish = 0; programme = 0; place = 0; shared = false; may_need_no_seat = false }
+no_item = record {
+  rank = 0;
+  wish = 0;
+  programme = 0;
+  place = 0;
+  shared = false;
+  called_by_limit = false;
+  doubled = false;
+}
 
 pub loop-item-preserved : goal.loop-item-preserved
 loop-item-preserved c =

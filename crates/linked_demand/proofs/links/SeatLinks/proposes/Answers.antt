@@ -1,7 +1,7 @@
-use Rattle.std.proofs.Common.{ℕ, ◌≡◌, ◌||◌, List, Bool, false, arith, ap, get_or, length, subst, sym, ◌∙◌}
-use Rattle.linked_demand.specs.Opens.{all_sure, seat_row}
+use Rattle.std.proofs.Common.{ℕ, ◌||◌, Bool, arith, ap, ◌∙◌}
+use Rattle.linked_demand.specs.Opens.{seat_row}
 use Rattle.linked_demand.proofs.Closing.{programme_within, wish_within}
-use Rattle.linked_demand.proofs.Items.{closes_item, item_needs_seat, item_stands, item_proposed}
+use Rattle.linked_demand.proofs.Items.{closes_item, item_alone, item_proposed, item_stands, item_sure}
 use Rattle.linked_demand.proofs.Leaving.{reach_right, reached_each, reached_is, row_there}
 use Rattle.linked_demand.proofs.links.SeatLinks.proposes.Goals as goal
 
@@ -15,15 +15,9 @@ pub is_item_seated-requires : goal.is_item_seated-requires
 is_item_seated-requires c =
     let reach = c.self.invariant.reach in
     let k = closes_item reach.links c.args.self.now c.self.view_is c.args.item c.requires.waits c.requires.item in
-    let P = λ (es : List Bool).
-    c.args.item.may_need_no_seat ≡ false → get_or (all_sure c.self.inside.state.now es) c.args.item.wish false
-        ≡ false in
     record {
       wish = wish_within k;
-      called_by_limit = ap length c.deref.ensures.value ∙ c.self.invariant.called_each;
-      needs_seat =
-          subst P (sym c.deref.ensures.value)
-          (item_needs_seat reach.links c.args.self.now c.self.view_is c.args.item c.requires.waits c.requires.item);
+      alone = item_alone reach.links c.args.self.now c.self.view_is c.args.item c.requires.waits c.requires.item;
     }
 
 pub returns : goal.returns
@@ -44,4 +38,5 @@ returns c =
     c.requires.flag (seat_row s orders opens p) (row_there s orders opens p (programme_within k))
     near c.is_item_seated.result reached
     (c.is_item_seated.ensures
-    ∙ ap (λ (es : List Bool). near || get_or (all_sure s es) c.args.item.wish false) c.deref.ensures.value)
+    ∙ ap (λ b. near || b)
+    (item_sure reach.links c.args.self.now c.self.view_is c.args.item c.requires.waits c.requires.item))
