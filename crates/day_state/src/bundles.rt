@@ -112,7 +112,7 @@ impl Bundles {
     }
 }
 
-/// Whether a bundle has a live wish, by the mark of the wish that is asked about where that is alone.
+/// Whether a bundle has a live wish. Where a wish is alone in it, the mark of that wish tells it.
 fn has_live_by(live: &Vec<u32>, number: Number, marks: &FlaggedMarks, wish: u32) -> bool
     requires mark { wish < length marks.now }
     requires number { ForSome (count_of number) (λ n. n < length live.now.items) }
