@@ -5,9 +5,8 @@ ghost use Rattle.admit_core.specs.Lists.{sorted_by};
 ghost use Rattle.admit_core.specs.Relations.{group_ids};
 ghost use Rattle.dossier_check.specs.Dealt.{built, places_in, ranked_by};
 
-use crate::by_key::by_key;
+use crate::by_key::{by_key, rows_by};
 use crate::noted::Key;
-use crate::placed::places_in;
 use crate::row_ids::RowIds;
 use crate::rules::ItsRank;
 use admit_core::{GroupRow, OutOfMemory, RankGroup, RankRow, Ranked, Sequence, Tables};
@@ -126,22 +125,22 @@ fn ranked_lists(
     Ok(lists)
 }
 
-/// The candidates of each group, in order by a key.
+/// The candidates of each group, in order by a key. The rows' groups stand at these places.
 pub(crate) fn lists_by<Q: Key<RankRow, u32>>(
     alloc: Global,
     rule: &Q,
     rankings: &[RankRow],
     groups: &RowIds,
+    places: &[u32],
 ) -> Result<Vec<Vec<Ranked>>, OutOfMemory>
+    requires places { places.now ≡ places_in groups.now.keys rankings.now }
     requires small { length rankings.now < 2 ^ 32 }
-    requires few { length groups.now.keys < 2 ^ 32 }
     ensures { IfOk result (λ lists. map (λ l. l.items) lists.items
         ≡ map (ranked_in (sorted_by Q.key rankings.now)) groups.now.keys) }
 {
     let ordered = by_key(alloc, rule, rankings)?;
-    let rows = ordered.rows.as_slice();
-    let places = places_in(alloc, rows, groups)?;
-    ranked_lists(alloc, rows, groups, places.as_slice())
+    let places = rows_by(alloc, places, ordered.tags.as_slice())?;
+    ranked_lists(alloc, ordered.rows.as_slice(), groups, places.as_slice())
 }
 
 /// Whether no candidate has a lesser rank than the one before them.
@@ -191,13 +190,12 @@ pub(crate) fn lists_by_rank(
 ) -> Result<Vec<Vec<Ranked>>, OutOfMemory>
     requires places { places.now ≡ places_in groups.now.keys rankings.now }
     requires small { length rankings.now < 2 ^ 32 }
-    requires few { length groups.now.keys < 2 ^ 32 }
     ensures { IfOk result (λ lists.
         map (λ l. l.items) lists.items ≡ map (ranked_by rankings.now) groups.now.keys) }
 {
     match lists_in_order(alloc, rankings, groups, places)? {
         Some(lists) => Ok(lists),
-        None => lists_by(alloc, &ItsRank, rankings, groups),
+        None => lists_by(alloc, &ItsRank, rankings, groups, places),
     }
 }
 

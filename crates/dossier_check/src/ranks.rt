@@ -66,13 +66,14 @@ fn ascending_lists(
     alloc: Global,
     rankings: &[RankRow],
     groups: &RowIds,
+    places: &[u32],
 ) -> Result<Vec<Vec<u32>>, OutOfMemory>
+    requires places { places.now ≡ places_in groups.now.keys rankings.now }
     requires small { length rankings.now < 2 ^ 32 }
-    requires few { length groups.now.keys < 2 ^ 32 }
     ensures { IfOk result (λ done.
         map (λ l. l.items) done.items ≡ map (candidates_in rankings.now) groups.now.keys) }
 {
-    let lists = lists_by(alloc, &ItsCandidate, rankings, groups)?;
+    let lists = lists_by(alloc, &ItsCandidate, rankings, groups, places)?;
     candidate_lists(alloc, lists.as_slice())
 }
 
@@ -118,11 +119,10 @@ fn deal(
     requires groups { groups.now.keys ≡ group_ids tables.now }
     requires places { places.now ≡ places_in (group_ids tables.now) tables.now.rankings }
     requires small { length tables.now.rankings < 2 ^ 32 }
-    requires few { length (group_ids tables.now) < 2 ^ 32 }
     ensures { IfOk result (AreDealt tables.now) }
 {
     let rows = tables.rankings.as_slice();
-    let candidates = ascending_lists(alloc, rows, groups)?;
+    let candidates = ascending_lists(alloc, rows, groups, places)?;
     let lists = lists_by_rank(alloc, rows, groups, places)?;
     Ok(Dealt {
         rankings: rank_groups(alloc, tables, lists)?,
