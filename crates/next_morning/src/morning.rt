@@ -15,13 +15,6 @@ use day_state::DayState;
 use intake::DatedTerms;
 use std::alloc::Global;
 
-/// Puts rows in the place of others.
-fn put<T: Drop>(place: &mut Sequence<T>, rows: Vec<T>)
-    ensures { place.new ≡ rows.items }
-{
-    *place = Sequence::from_vec(rows);
-}
-
 /// Makes the tables those of the morning after a day.
 fn turn(
     alloc: Global,
@@ -37,13 +30,13 @@ fn turn(
         ≡ morning_tables day tables.old evening.now (option_copied dated.entry)) }
 {
     let schools = school_rows(alloc, tables.schools.as_slice(), ceilings)?;
-    put(&mut tables.schools, schools);
+    tables.schools = Sequence::from_vec(schools);
     let state = told_rows(alloc, tables.wishes.as_slice(), evening, dated)?;
-    put(&mut tables.state, state);
+    tables.state = Sequence::from_vec(state);
     let changes = later_ceilings(alloc, tables.ceilings.as_slice(), day)?;
-    put(&mut tables.ceilings, changes);
+    tables.ceilings = Sequence::from_vec(changes);
     let answers = later_answers(alloc, tables.answers.as_slice(), day)?;
-    put(&mut tables.answers, answers);
+    tables.answers = Sequence::from_vec(answers);
     Ok(())
 }
 
