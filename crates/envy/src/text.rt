@@ -1,5 +1,5 @@
 //! The lines of blocks.
-ghost use Rattle.std.specs.Prelude.{◌≡◌, ◌<◌, All, IfOk, flat_map, length};
+ghost use Rattle.std.specs.Prelude.{◌≡◌, ◌<◌, [], All, IfOk, IsOk, flat_map, length};
 ghost use Rattle.report.specs.Ids.{wish_id};
 ghost use Rattle.report.specs.Pushes.{Pushes};
 ghost use Rattle.report.specs.Words.{further};
@@ -52,7 +52,8 @@ fn push_block(text: &mut String, dossier: &Dossier, block: Block) -> Result<(), 
 /// Adds a line for each block.
 fn push_blocks(text: &mut String, dossier: &Dossier, blocks: &[Block]) -> Result<(), AllocError>
     requires { All (λ block. block.wish < length dossier.now.wishes) blocks.now }
-    ensures { Pushes result text.old text.new (flat_map (block_line dossier.now) blocks.now) }
+    ensures all { Pushes result text.old text.new (flat_map (block_line dossier.now) blocks.now) }
+    ensures always { blocks.now ≡ [] → IsOk result }
 {
     for block in blocks {
         push_block(text, dossier, *block)?;

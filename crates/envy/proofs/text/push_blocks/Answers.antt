@@ -10,8 +10,8 @@ nobody = record { wish = 0; left = 0; envied = None }
 pub push_block-requires : goal.push_block-requires
 push_block-requires c = c.requires c.loop-block.block-index _ c.loop-block-test.true
 
-pub returns-in_err-push_block : goal.returns-in_err-push_block
-returns-in_err-push_block c =
+pub returns-in_err-push_block-clause-all : goal.returns-in_err-push_block-clause-all
+returns-in_err-push_block-clause-all c =
     cut_off c.from_residual.result c.from_residual.ensures.0
     (cut_item (block_line c.args.dossier.now) c.args.blocks.now c.loop-block.block-index nobody (omega arith)
     c.loop-block.invariant c.in_err-push_block.ensures)
