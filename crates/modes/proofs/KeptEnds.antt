@@ -64,18 +64,15 @@ kept_in mode whole = kept_played (keeps_falls mode) whole
 module _ (seen : Seen) (whole : Played) where
   end_whole : (mode : Mode) (desk : DeskStates) (exit : Exit) (text : List ℕ)
       → IsEndOf mode seen (kept_in mode whole) desk exit text → IsEndOf mode seen whole desk exit text
-  end_whole modes.Order desk exit text ends = ends
   end_whole modes.Replay desk exit text ends =
       subst (λ (p : Played). IsEndOf modes.Replay seen p desk exit text) (played_whole whole) ends
   end_whole modes.Chain desk exit text ends =
       subst (λ (p : Played). IsEndOf modes.Chain seen p desk exit text) (played_whole whole) ends
-  end_whole modes.Check desk exit text ends = ends
   end_whole (modes.Explain wish) desk exit text ends = (
     ends.0,
     explained_whole (keeps_falls (modes.Explain wish)) seen.dossier seen.index whole.orders whole.days desk
         wish text ends.1,
   )
-  end_whole modes.Envy desk exit text ends = ends
   end_whole (modes.Beds school) desk exit text ends =
       let keeps = keeps_falls (modes.Beds school) in
       let tells = ends.1 in (
@@ -89,20 +86,13 @@ module _ (seen : Seen) (whole : Played) where
           is_text = tells.is_text;
         },
       )
-  end_whole modes.Market desk exit text ends = ends
   end_whole (modes.Sample number) desk exit text ends =
       subst (λ (p : Played). IsEndOf (modes.Sample number) seen p desk exit text) (played_whole whole) ends
+  end_whole _ desk exit text ends = ends
 
   lines_whole : (mode : Mode) → lines_before mode seen (kept_in mode whole) ≡ lines_before mode seen whole
-  lines_whole modes.Order = refl
   lines_whole modes.Replay = ap (λ (p : Played). lines_before modes.Replay seen p) (played_whole whole)
-  lines_whole modes.Chain = refl
-  lines_whole modes.Check = refl
-  lines_whole (modes.Explain wish) = refl
-  lines_whole modes.Envy = refl
-  lines_whole (modes.Beds school) = refl
-  lines_whole modes.Market = refl
-  lines_whole (modes.Sample number) = refl
+  lines_whole _ = refl
 
   with_whole : (end : Result DeskStates Refusal) (exit : Exit) (text : List ℕ)
       → EndsWith end seen (kept_in seen.request.mode whole) exit text → EndsWith end seen whole exit text
@@ -113,12 +103,6 @@ module _ (seen : Seen) (whole : Played) where
   -- what the picker tells that is lent
   picks_whole : (mode : Mode) (desk : DeskStates) (before : Asked) (picks : List ℕ)
       → ArePicks mode seen (kept_in mode whole) desk before picks → ArePicks mode seen whole desk before picks
-  picks_whole modes.Order desk before picks are = are
-  picks_whole modes.Replay desk before picks are = are
-  picks_whole modes.Chain desk before picks are = are
-  picks_whole modes.Check desk before picks are = are
-  picks_whole (modes.Explain wish) desk before picks are = are
-  picks_whole modes.Envy desk before picks are = are
   picks_whole (modes.Beds school) desk before picks are =
       let keeps = keeps_falls (modes.Beds school) in
       record {
@@ -130,8 +114,7 @@ module _ (seen : Seen) (whole : Played) where
         are_figures = are.are_figures;
         tells = are.tells;
       }
-  picks_whole modes.Market desk before picks are = are
-  picks_whole (modes.Sample number) desk before picks are = are
+  picks_whole _ desk before picks are = are
 
   lent_whole : (name : Option PickerName) (desk : DeskStates) (before after : Lent)
       → TellsLent name (ArePicks seen.request.mode seen (kept_in seen.request.mode whole) desk) before after

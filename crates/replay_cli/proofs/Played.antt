@@ -115,16 +115,9 @@ lead_days plan d old before (day ∷ days) new lead = (
 
 end_exit : (mode : Mode) (seen : Seen) (played : Played) (desk : DeskStates) (exit : Exit) (text : List ℕ)
     → IsEndOf mode seen played desk exit text → IsAfterDays exit
-end_exit modes.Order seen played desk exit text ends = is_after exit exits.Done ends.0 tt
-end_exit modes.Replay seen played desk exit text ends = is_after exit exits.Done ends.0 tt
-end_exit modes.Chain seen played desk exit text ends = is_after exit exits.Done ends.0 tt
 end_exit modes.Check seen played desk exit text ends =
     check_exit seen.dossier seen.chain seen.dated played.orders exit text ends
-end_exit (modes.Explain wish) seen played desk exit text ends = is_after exit exits.Done ends.0 tt
-end_exit modes.Envy seen played desk exit text ends = is_after exit exits.Done ends.0 tt
-end_exit (modes.Beds school) seen played desk exit text ends = is_after exit exits.Done ends.0 tt
-end_exit modes.Market seen played desk exit text ends = is_after exit exits.Done ends.0 tt
-end_exit (modes.Sample number) seen played desk exit text ends = is_after exit exits.Done ends.0 tt
+end_exit _ seen played desk exit text ends = is_after exit exits.Done ends.0 tt
 
 exit_after : (end : Result DeskStates Refusal) (seen : Seen) (played : Played) (exit : Exit) (text : List ℕ)
     → EndsWith end seen played exit text → IsAfterDays exit
@@ -141,17 +134,10 @@ ending_exit job before after exit text ending =
 done_of : (mode : Mode) (job : Job) (played : Played) (desk : DeskStates) (exit : Exit) (text : List ℕ)
     → IsEndOf mode (seen_of job) played desk exit text → AreCallOrders (dossier job).groups played.orders
     → HandsInProof mode job → exit ≡ exits.Done
-done_of modes.Order job played desk exit text ends called hands = ends.0
-done_of modes.Replay job played desk exit text ends called hands = ends.0
-done_of modes.Chain job played desk exit text ends called hands = ends.0
 done_of modes.Check job played desk exit text ends called hands =
     let proof = hands played.orders called in
     check_done (dossier job) (dated_of job) played.orders job.chain proof.0 proof.1 exit text proof.2 proof.3 ends
-done_of (modes.Explain wish) job played desk exit text ends called hands = ends.0
-done_of modes.Envy job played desk exit text ends called hands = ends.0
-done_of (modes.Beds school) job played desk exit text ends called hands = ends.0
-done_of modes.Market job played desk exit text ends called hands = ends.0
-done_of (modes.Sample number) job played desk exit text ends called hands = ends.0
+done_of _ job played desk exit text ends called hands = ends.0
 
 not_unfit : (unfit : Option (ℕ × Status)) (P : ℕ × Status → Type 0) → unfit ≡ None → IsSomeAnd unfit P → ⊥
 not_unfit None P none some = some
