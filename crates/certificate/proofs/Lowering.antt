@@ -23,26 +23,27 @@ drop_item xs i x lt is =
     let next : suc i ≡ i + 1 = omega arith in
     drop-cons xs i x lt ∙ ap (λ y. y ∷ drop (suc i) xs) (sym is) ∙ ap (λ k. x ∷ drop k xs) next
 
-module _ (s : State) (now new : Round) (line : FallLine) (h : ℕ) (rest : List FallLine) (is : h
-    ≡ school_of_line s line) (fell : new ≡ record now { bars = slice_set now.bars h line.to }) where
-  pub bars_are : new.bars ≡ lowered s now.bars line
+module _ (now new : Round) (line : FallLine) (h : ℕ) (rest : List FallLine) (is : h ≡ school_of_line now.state line)
+    (fell : new ≡ record now { bars = slice_set now.bars h line.to }) where
+  pub bars_are : new.bars ≡ lowered now.state now.bars line
   bars_are = ap (λ (r : Round). r.bars) fell ∙ ap (λ k. slice_set now.bars k line.to) is
 
   -- a line that is valid
   pub line_passes : (whole : Option (ℕ × CheckReason))
-      → whole ≡ lines_fault s now.orders now.ceilings now.bars (line ∷ rest)
+      → whole ≡ lines_fault now.state now.orders now.ceilings now.bars (line ∷ rest)
       → option_map {U = ℕ × CheckReason} (λ reason.
-      (line.row, reason)) (line_fault s now.orders now.ceilings now.bars line) ≡ None
-      → whole ≡ lines_fault s new.orders new.ceilings new.bars rest
+      (line.row, reason)) (line_fault now.state now.orders now.ceilings now.bars line) ≡ None
+      → whole ≡ lines_fault new.state new.orders new.ceilings new.bars rest
   line_passes whole e none =
-      goes_on _ (lines_fault s now.orders now.ceilings (lowered s now.bars line) rest) whole e none
-      ∙ ap (λ (bs : List ℕ). lines_fault s now.orders now.ceilings bs rest) (sym bars_are)
-      ∙ ap (λ (os : List CallOrder). lines_fault s os now.ceilings new.bars rest)
-      (sym (ap (λ (r : Round). r.orders) fell))
-      ∙ ap (λ (cs : List ℕ). lines_fault s new.orders cs new.bars rest) (sym (ap (λ (r : Round). r.ceilings) fell))
+      goes_on _ (lines_fault now.state now.orders now.ceilings (lowered now.state now.bars line) rest) whole e none
+      ∙ ap (λ (bs : List ℕ). lines_fault now.state now.orders now.ceilings bs rest) (sym bars_are)
+      ∙ ap (λ (r : Round). lines_fault r.state r.orders r.ceilings new.bars rest) (sym fell)
 
-  pub bars_pass : (whole : List ℕ) → whole ≡ bars_by s now.bars (line ∷ rest) → whole ≡ bars_by s new.bars rest
-  bars_pass whole e = e ∙ ap (λ (bs : List ℕ). bars_by s bs rest) (sym bars_are)
+  pub bars_pass : (whole : List ℕ) → whole ≡ bars_by now.state now.bars (line ∷ rest)
+      → whole ≡ bars_by new.state new.bars rest
+  bars_pass whole e =
+      e ∙ ap (λ (bs : List ℕ). bars_by now.state bs rest) (sym bars_are)
+      ∙ ap (λ (r : Round). bars_by r.state new.bars rest) (sym fell)
 
 -- only the bars change
 pub keeps_round : (old now new : Round) (bars : List ℕ) → now ≡ record old { bars = now.bars }
@@ -57,27 +58,25 @@ keeps_round old now new bars kept fell =
     fell ∙ ap (λ (r : Round). put r bars) kept ∙ ap (put old) (sym (ap (λ (r : Round). r.bars) fell))
 
 -- a line that is not valid
-pub line_stops : (s : State) (now : Round) (line : FallLine) (rest : List FallLine) (found : CheckStop)
+pub line_stops : (now : Round) (line : FallLine) (rest : List FallLine) (found : CheckStop)
     (whole : Option (ℕ × CheckReason))
-    → whole ≡ lines_fault s now.orders now.ceilings now.bars (line ∷ rest)
+    → whole ≡ lines_fault now.state now.orders now.ceilings now.bars (line ∷ rest)
     → Stops found (option_map {U = ℕ × CheckReason} (λ reason. (line.row, reason))
-    (line_fault s now.orders now.ceilings now.bars line)) → Stops found whole
-line_stops s now line rest found whole e stops =
+    (line_fault now.state now.orders now.ceilings now.bars line)) → Stops found whole
+line_stops now line rest found whole e stops =
     stops_at found (option_map {U = ℕ × CheckReason} (λ reason. (line.row, reason))
-    (line_fault s now.orders now.ceilings now.bars line))
-    (lines_fault s now.orders now.ceilings (lowered s now.bars line) rest) whole e stops
+    (line_fault now.state now.orders now.ceilings now.bars line))
+    (lines_fault now.state now.orders now.ceilings (lowered now.state now.bars line) rest) whole e stops
 
 -- what a round that began at its ceilings proposes after the lines of a pass
-pub offers_told : (s : State) (old new : Round) (lines falls : List FallLine) (items : List ℕ) → old.state ≡ s
-    → old.bars ≡ old.ceilings
-    → new ≡ record old { bars = bars_by s old.bars lines } → lines ≡ falls
+pub offers_told : (old new : Round) (lines falls : List FallLine) (items : List ℕ) → old.bars ≡ old.ceilings
+    → new ≡ record old { bars = bars_by old.state old.bars lines } → lines ≡ falls
     → items ≡ proposed new.state new.orders new.bars
-    → items ≡ proposed s old.orders (bars_by s old.ceilings falls)
-offers_told s old new lines falls items same begun new_is are told =
+    → items ≡ proposed old.state old.orders (bars_by old.state old.ceilings falls)
+offers_told old new lines falls items begun new_is are told =
     told ∙ ap (λ (r : Round). proposed r.state r.orders r.bars) new_is
-    ∙ ap (λ (t : State). proposed t old.orders (bars_by s old.bars lines)) same
-    ∙ ap (λ (bs : List ℕ). proposed s old.orders (bars_by s bs lines)) begun
-    ∙ ap (λ (ls : List FallLine). proposed s old.orders (bars_by s old.ceilings ls)) are
+    ∙ ap (λ (bs : List ℕ). proposed old.state old.orders (bars_by old.state bs lines)) begun
+    ∙ ap (λ (ls : List FallLine). proposed old.state old.orders (bars_by old.state old.ceilings ls)) are
 
 module _ (orders : List CallOrder) (ceilings : List ℕ) (day end k : ℕ) (s : State)
     (pass : PassChain) (rest : List PassChain) (whole : Option (ℕ × CheckReason)) where

@@ -1,7 +1,7 @@
 -- Lines of falls, tested at the present bars.
 use Rattle.std.proofs.Common.{◌≡◌, ℕ, suc, ◌+◌, ◌-◌, ◌<◌, ◌≤◌, Bool, true, false, cond, not, ◌&&◌, List, length, map}
 use Rattle.std.proofs.Common.{filter, Option, Some, None, refl, sym, ap, ◌∙◌, arith, nat_le, slice_index, zero-add, inl}
-use Rattle.std.proofs.Common.{inr}
+use Rattle.std.proofs.Common.{inr, subst}
 use Rattle.std.specs.Prelude.{◌==◌, find, nat_lt, option_map, position, nat_eq, slice_get, slice_set, if◌then◌else◌}
 use Rattle.std.specs.Option.{is_some, option_or}
 use Rattle.std.specs.List.{range_with_len}
@@ -28,6 +28,7 @@ use Rattle.admit_core.specs.declared.dossier.School.{School}
 use Rattle.dossier_check.specs.Ids.{Ids}
 use Rattle.certificate.proofs.Cutting.{no_place, place_found}
 use Rattle.certificate.specs.Checked.{Stops, ids_in}
+use Rattle.certificate.specs.PassTests.{IsPassTest, round_of}
 use Rattle.bar_fixpoint.specs.Overfilled.{rank_over}
 use Rattle.bar_fixpoint.proofs.Listing.{overfilled_by_rank}
 use Rattle.bar_fixpoint.proofs.OneFall.{rank_is, rank_from_one, falls_below, fall_made}
@@ -203,25 +204,31 @@ top_told told s orders bars h found same is =
     is ∙ ap (λ (t : State). slice_get (demanded_ranks t orders bars h) (free_beds t h)) same
 
 -- what a check of a line has found first: the place of its school, and the rank there that finds no
--- bed
+-- bed; and the bars are at most the ceilings
 pub record IsLookedUp (s : State) (orders : List CallOrder) (ceilings bars : List ℕ)
     (line : FallLine) (h : ℕ) (found : Option ℕ) : Type 0 where
   pub is : school_of_line s line ≡ h
   pub lt : h < length ceilings
   pub told : found ≡ slice_get (demanded_ranks s orders bars h) (free_beds s h)
+  pub under : IsAtMost bars ceilings
 
-pub looked_up : {s : State} {index : Ids} {h : ℕ} {found : Option ℕ} (r : Round) (line : FallLine)
-    → r.state ≡ s → index ≡ ids_in s.dossier → length r.ceilings ≡ length s.dossier.schools
-    → position (nat_eq line.school) index.schools ≡ Some h
-    → found ≡ slice_get (demanded_ranks r.state r.orders r.bars h) (free_beds r.state h)
-    → IsLookedUp s r.orders r.ceilings r.bars line h found
-looked_up {s = s} {index = index} {h = h} {found = found} r line same are as_many there answered =
-    let place = line_place s index line h are there in
-    record {
-      is = place.1;
-      lt = omega (arith, place.0, as_many);
-      told = top_told r.state s r.orders r.bars h found same answered;
-    }
+module _ {s : State} (r : Round) {x : Round} (view : round_of s r ≡ x) where
+  pub looked_up : {index : Ids} {h : ℕ} {found : Option ℕ} (line : FallLine) → IsPassTest r s index
+      → position (nat_eq line.school) index.schools ≡ Some h
+      → found ≡ slice_get (demanded_ranks r.state r.orders r.bars h) (free_beds r.state h)
+      → IsLookedUp x.state x.orders x.ceilings x.bars line h found
+  looked_up {index = index} {h = h} {found = found} line test there answered =
+      let place = line_place s index line h test.index there in
+      subst (λ (y : Round). IsLookedUp y.state y.orders y.ceilings y.bars line h found) view (record {
+        is = place.1;
+        lt = omega (arith, place.0, test.ceilings);
+        told = top_told r.state s r.orders r.bars h found test.same answered;
+        under = test.under;
+      })
+
+  pub bar_seen : (h from : ℕ) → from ≡ slice_index (bar_each r.ceilings r.bars) h
+      → from ≡ slice_index (bar_each x.ceilings x.bars) h
+  bar_seen h from is = subst (λ (y : Round). from ≡ slice_index (bar_each y.ceilings y.bars) h) view is
 
 -- what it has found then: the ranks up to that one, and whether the wishes of the line show them
 pub record AreShown (s : State) (orders : List CallOrder) (bars : List ℕ) (line : FallLine)
@@ -230,17 +237,18 @@ pub record AreShown (s : State) (orders : List CallOrder) (bars : List ℕ) (lin
   pub are : ranks ≡ filter (λ rank. nat_le rank over) (demanded_ranks s orders bars h)
   pub shown : shows ≡ shows_ranks s orders bars h ranks line.wishes
 
-pub are_shown : {marks : List Mark} {ranks wishes : List ℕ} {shows : Bool} (s : State) (r : Round)
-    (line : FallLine) (h over : ℕ)
+pub are_shown : {s : State} {x : Round} {marks : List Mark} {ranks wishes : List ℕ} {shows : Bool} (r : Round)
+    (view : round_of s r ≡ x) (line : FallLine) (h over : ℕ)
     → marks ≡ s.marks → length marks ≡ length s.dossier.wishes
-    → ranks ≡ filter (λ rank. nat_le rank over) (demanded_ranks s r.orders r.bars h)
-    → wishes ≡ line.wishes → shows ≡ shows_ranks s r.orders r.bars h ranks wishes
-    → AreShown s r.orders r.bars line h over ranks shows
-are_shown {ranks = ranks} s r line h over marks_are long are named shown =
+    → ranks ≡ filter (λ rank. nat_le rank over) (demanded_ranks x.state x.orders x.bars h)
+    → wishes ≡ line.wishes → shows ≡ shows_ranks x.state x.orders x.bars h ranks wishes
+    → AreShown x.state x.orders x.bars line h over ranks shows
+are_shown {x = x} {ranks = ranks} r view line h over marks_are long are named shown =
     record {
-      long = ap (λ (ms : List Mark). length ms) (sym marks_are) ∙ long;
+      long = subst (λ (y : Round). length y.state.marks ≡ length y.state.dossier.wishes) view
+          (ap (λ (ms : List Mark). length ms) (sym marks_are) ∙ long);
       are = are;
-      shown = shown ∙ ap (λ (ws : List ℕ). shows_ranks s r.orders r.bars h ranks ws) named;
+      shown = shown ∙ ap (λ (ws : List ℕ). shows_ranks x.state x.orders x.bars h ranks ws) named;
     }
 
 -- the fault of a line, with its row
@@ -256,17 +264,16 @@ module _ {s : State} {orders : List CallOrder} {ceilings bars : List ℕ} {line 
       ap (option_map (λ (reason : CheckReason). (line.row, reason)))
       (is_not_over s orders ceilings bars line h seen.is seen.lt seen.told)
 
-  module _ {over : ℕ} (seen : IsLookedUp s orders ceilings bars line h (Some over))
-      (under : IsAtMost bars ceilings) where
+  module _ {over : ℕ} (seen : IsLookedUp s orders ceilings bars line h (Some over)) where
     pub school_over : is_overfilled (boarding s orders ceilings) bars (school_of_line s line) ≡ true
     school_over = ap (is_overfilled (boarding s orders ceilings) bars) seen.is
-        ∙ is_over s orders ceilings bars line h seen.is seen.lt under over seen.told
+        ∙ is_over s orders ceilings bars line h seen.is seen.lt seen.under over seen.told
 
     pub over_from_one : 1 ≤ over
-    over_from_one = from_one s orders ceilings bars line h seen.is seen.lt under over seen.told
+    over_from_one = from_one s orders ceilings bars line h seen.is seen.lt seen.under over seen.told
 
     pub over_below : over - 1 < slice_index bars h
-    over_below = below s orders ceilings bars line h seen.is seen.lt under over seen.told
+    over_below = below s orders ceilings bars line h seen.is seen.lt seen.under over seen.told
 
     module _ {ranks : List ℕ} {shows : Bool}
         (shown : AreShown s orders bars line h over ranks shows) where
@@ -274,25 +281,25 @@ module _ {s : State} {orders : List CallOrder} {ceilings bars : List ℕ} {line 
           → fault_there s orders ceilings bars line ≡ Some (line.row, WrongWishes)
       stops_wrong_wishes fails =
           ap (option_map (λ (reason : CheckReason). (line.row, reason)))
-          (has_wrong_wishes s orders ceilings bars line h seen.is seen.lt under over seen.told
+          (has_wrong_wishes s orders ceilings bars line h seen.is seen.lt seen.under over seen.told
           shown.long ranks shown.are shows shown.shown fails)
 
       module _ {from : ℕ} {tells : Bool} (from_is : from ≡ slice_index (bar_each ceilings bars) h)
           (told : tells ≡ ((line.from == from) && (line.to == over - 1))) (good : shows ≡ true) where
         from_there : from ≡ slice_index bars h
-        from_there = from_is ∙ ap (λ (bs : List ℕ). slice_index bs h) (bar_each_is ceilings bars under.as_many)
+        from_there = from_is ∙ ap (λ (bs : List ℕ). slice_index bs h) (bar_each_is ceilings bars seen.under.as_many)
 
         pub stops_wrong_bar : tells ≡ false
             → fault_there s orders ceilings bars line ≡ Some (line.row, WrongBar)
         stops_wrong_bar fails =
             ap (option_map (λ (reason : CheckReason). (line.row, reason)))
-            (has_wrong_bar s orders ceilings bars line h seen.is seen.lt under over seen.told
+            (has_wrong_bar s orders ceilings bars line h seen.is seen.lt seen.under over seen.told
             shown.long ranks shown.are shows shown.shown from tells from_there told good fails)
 
         pub passes_line : tells ≡ true → fault_there s orders ceilings bars line ≡ None
         passes_line holds =
             ap (option_map (λ (reason : CheckReason). (line.row, reason)))
-            (has_none s orders ceilings bars line h seen.is seen.lt under over seen.told
+            (has_none s orders ceilings bars line h seen.is seen.lt seen.under over seen.told
             shown.long ranks shown.are shows shown.shown from tells from_there told good holds)
 
 -- no school has the id of the line

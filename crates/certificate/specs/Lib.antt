@@ -9,7 +9,7 @@ pub mod Written
 pub mod ProvedDays
 pub mod Checked
 pub mod Desks
-pub mod Grounds
+pub mod PassTests
 pub mod Counted
 pub mod Verdicts
 pub mod VerdictText

@@ -1,21 +1,19 @@
--- What all days of a chain are tested on.
-use Rattle.std.specs.Prelude.{◌≡◌, List}
-use Rattle.admit_core.specs.CallOrder.{AreCallOrders}
-use Rattle.admit_core.specs.DossierRows.{DossierRows}
-use Rattle.admit_core.specs.declared.ranking.CallOrder.{CallOrder}
+-- A pass that is tested.
+use Rattle.std.specs.Prelude.{◌≡◌, length}
+use Rattle.admit_core.specs.Falls.{IsAtMost}
+use Rattle.admit_core.specs.State.{State}
 use Rattle.dossier_check.specs.Ids.{Ids}
-use Rattle.linked_demand.specs.Lineups.{IsLineupOf}
-use Rattle.linked_demand.specs.declared.lineup.Lineup.{Lineup}
+use Rattle.linked_demand.specs.Rounds.{Round}
 use Rattle.certificate.specs.Checked.{ids_in}
 
--- what grounds are seen as
-pub record Ground : Type 0 where
-  pub dossier : DossierRows
-  pub orders : List CallOrder
+-- a round of the schools of a state, the ids of whose dossier these are: its bars stand at most at
+-- its ceilings
+pub record IsPassTest (r : Round) (s : State) (ids : Ids) : Type 0 where
+  pub same : r.state ≡ s
+  pub index : ids ≡ ids_in s.dossier
+  pub ceilings : length r.ceilings ≡ length s.dossier.schools
+  pub under : IsAtMost r.bars r.ceilings
 
--- the ids, the orders and the lineup are those of this dossier
-pub record AreGroundsOf (d : DossierRows) (ids : Ids) (orders : List CallOrder)
-    (lineup : Lineup) : Type 0 where
-  pub ids_are : ids ≡ ids_in d
-  pub orders_are : AreCallOrders d.groups orders
-  pub lineup_is : IsLineupOf d orders lineup
+-- what a round is seen as where its state is this
+abbrev pub round_of : State → Round → Round
+round_of s r = record { state = s; orders = r.orders; ceilings = r.ceilings; bars = r.bars }

@@ -13,6 +13,7 @@ use crate::stop::CheckStop;
 use admit_core::{CallOrders, CheckReason, DayChain, OutOfMemory, laws_of_chains};
 use day_state::DayState;
 use dossier_check::Index;
+use linked_demand::Roster;
 use std::alloc::Global;
 
 /// What a check of a day's chain says: proved, with the evening of the day; or the first fault.
@@ -53,7 +54,8 @@ pub fn check_day<'d>(
         IfProved v (Passes orders.now.orders ceilings.now day 1 morning.now
         (passes_told orders.now.orders ceilings.now day 1 morning.now chain.now.passes))) }
 {
-    let grounds = Grounds::build(alloc, index, orders, morning)?;
+    let roster = Roster::build(alloc, morning, orders)?;
+    let grounds = Grounds::along(&roster, index);
     check_day_along(alloc, &grounds, morning, ceilings, day, chain)
 }
 

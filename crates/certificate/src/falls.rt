@@ -1,20 +1,19 @@
 //! The falls of a pass, tested line by line.
 ghost use Rattle.std.specs.Prelude.{◌≡◌, ◌<◌, ◌==◌, ◌&&◌, Err, IfOk, OnOk, length, option_map, slice_index, true};
 ghost use Rattle.admit_core.specs.Boarding.{boarding};
-ghost use Rattle.admit_core.specs.Chains.{bars_by, first_overfilled, line_fault, lines_fault, pass_fault, school_of_line};
-ghost use Rattle.admit_core.specs.Falls.{IsAtMost, is_overfilled};
+ghost use Rattle.admit_core.specs.Chains.{bars_by, line_fault, lines_fault, pass_fault, school_of_line};
+ghost use Rattle.admit_core.specs.Falls.{is_overfilled};
 ghost use Rattle.admit_core.specs.Proposals.{proposed};
-ghost use Rattle.certificate.specs.Checked.{Finds, ids_in};
+ghost use Rattle.certificate.specs.Checked.{Finds};
 ghost use Rattle.certificate.specs.declared.stop.CheckStop.TheVariants as stops;
 
 use crate::grounds::Grounds;
-use crate::named::{ranks_up_to, show_ranks};
+use crate::pass_test::PassTest;
 use crate::stop::CheckStop;
 use admit_core::{CheckReason, FallLine, PassChain, Steps};
 use bar_fixpoint::Falling;
 use day_state::DayState;
-use dossier_check::{Index, school_place};
-use linked_demand::LinkedRound;
+use dossier_check::school_place;
 use std::alloc::Global;
 use std::marker::Brand;
 use std::sync::ledger::{Blank, Ledger};
@@ -26,85 +25,77 @@ fn tells_bars(line: &FallLine, from: u32, to: u32) -> bool
     line.from == from && line.to == to
 }
 
-/// Tests the line of a fall at the present bars, and answers the place of its school. It takes
-/// memory only where the school is overfilled.
-fn check_line(
-    alloc: Global,
-    round: &LinkedRound<'_, '_>,
-    state: &DayState<'_>,
-    index: &Index,
-    line: &FallLine,
-) -> Result<u32, CheckStop>
-    requires same { round.now.state ≡ state.now }
-    requires index { index.now ≡ ids_in state.now.dossier }
-    requires ceilings { length round.now.ceilings ≡ length state.now.dossier.schools }
-    requires under { IsAtMost round.now.bars round.now.ceilings }
-    ensures found { Finds result (option_map (λ reason. (line.now.row, reason))
-        (line_fault state.now round.now.orders round.now.ceilings round.now.bars line.now)) }
-    ensures school { IfOk result (λ h. h ≡ school_of_line state.now line.now) }
-    ensures within { IfOk result (λ h. h < length round.now.ceilings) }
-    ensures falls { IfOk result (λ h. line.now.to < slice_index round.now.bars h) }
-    ensures over { result ≡ Err stops.OutOfMemory → is_overfilled
-        (boarding state.now round.now.orders round.now.ceilings) round.now.bars
-        (school_of_line state.now line.now) ≡ true }
-{
-    let _ = state.marks(); // one for each wish
-    let row = line.row;
-    let Some(school) = school_place(index, line.school) else {
-        return Err(CheckStop::Rejected(row, CheckReason::NotOver));
-    };
-    let Some(over) = round.first_over(school) else {
-        return Err(CheckStop::Rejected(row, CheckReason::NotOver));
-    };
-    let ranks = ranks_up_to(alloc, round, state, school, over)?;
-    if !show_ranks(round, state, index, school, &ranks, line.wishes.as_slice()) {
-        return Err(CheckStop::Rejected(row, CheckReason::WrongWishes));
-    }
-    let from = round.bar(school);
-    if !tells_bars(line, from, over - 1) {
-        return Err(CheckStop::Rejected(row, CheckReason::WrongBar));
-    }
-    Ok(school)
-}
-
-/// Tests the lines of falls from the present bars on, which they lower.
-fn check_lines<L: Ledger>(
-    alloc: Global,
-    round: &mut LinkedRound<'_, '_>,
-    state: &DayState<'_>,
-    index: &Index,
-    lines: &[FallLine],
-    steps: &mut Steps<L>,
-) -> Result<(), CheckStop>
-    requires same { round.old.state ≡ state.now }
-    requires index { index.now ≡ ids_in state.now.dossier }
-    requires ceilings { length round.old.ceilings ≡ length state.now.dossier.schools }
-    requires under { IsAtMost round.old.bars round.old.ceilings }
-    ensures found { Finds result
-        (lines_fault state.now round.old.orders round.old.ceilings round.old.bars lines.now) }
-    ensures bars { OnOk result
-        (round.new ≡ record round.old { bars = bars_by state.now round.old.bars lines.now }) }
-    ensures under { OnOk result (IsAtMost round.new.bars round.new.ceilings) }
-{
-    for line in lines {
-        let school = check_line(alloc, round, state, index, line)?;
-        round.lower(school, line.to, steps);
-    }
-    Ok(())
-}
-
-/// The overfilled school of least place.
-fn first_overfilled(round: &LinkedRound<'_, '_>) -> Option<u32>
-    requires bars { length round.now.bars ≡ length round.now.ceilings }
-    ensures { result ≡ first_overfilled
-        (boarding round.now.state round.now.orders round.now.ceilings) round.now.bars }
-{
-    for school in 0..round.count() {
-        if round.first_over(school).is_some() {
-            return Some(school);
+impl PassTest<'_, '_> {
+    /// Tests the line of a fall at the present bars, and answers the place of its school. It takes
+    /// memory only where the school is overfilled.
+    fn check_line(&self, alloc: Global, line: &FallLine) -> Result<u32, CheckStop>
+        ensures found { Finds result (option_map (λ reason. (line.now.row, reason))
+            (line_fault self.now.state self.now.orders self.now.ceilings self.now.bars line.now)) }
+        ensures school { IfOk result (λ h. h ≡ school_of_line self.now.state line.now) }
+        ensures within { IfOk result (λ h. h < length self.now.ceilings) }
+        ensures falls { IfOk result (λ h. line.now.to < slice_index self.now.bars h) }
+        ensures over { result ≡ Err stops.OutOfMemory → is_overfilled
+            (boarding self.now.state self.now.orders self.now.ceilings) self.now.bars
+            (school_of_line self.now.state line.now) ≡ true }
+    {
+        let _ = self.state.marks(); // one for each wish
+        let row = line.row;
+        let Some(school) = school_place(self.index, line.school) else {
+            return Err(CheckStop::Rejected(row, CheckReason::NotOver));
+        };
+        let Some(over) = self.round.first_over(school) else {
+            return Err(CheckStop::Rejected(row, CheckReason::NotOver));
+        };
+        let ranks = self.ranks_up_to(alloc, school, over)?;
+        if !self.show_ranks(school, &ranks, line.wishes.as_slice()) {
+            return Err(CheckStop::Rejected(row, CheckReason::WrongWishes));
         }
+        let from = self.round.bar(school);
+        if !tells_bars(line, from, over - 1) {
+            return Err(CheckStop::Rejected(row, CheckReason::WrongBar));
+        }
+        Ok(school)
     }
-    None
+
+    /// Tests the lines of falls from the present bars on, which they lower.
+    fn check_lines<L: Ledger>(
+        &mut self,
+        alloc: Global,
+        lines: &[FallLine],
+        steps: &mut Steps<L>,
+    ) -> Result<(), CheckStop>
+        ensures found { Finds result (lines_fault
+            self.old.state self.old.orders self.old.ceilings self.old.bars lines.now) }
+        ensures bars { OnOk result (self.new
+            ≡ record self.old { bars = bars_by self.old.state self.old.bars lines.now }) }
+    {
+        for line in lines {
+            let school = self.check_line(alloc, line)?;
+            self.lower(school, line.to, steps);
+        }
+        Ok(())
+    }
+
+    /// Tests the falls of a pass that has just begun, and answers the places of the wishes that are
+    /// proposed under the last bars.
+    fn offers<L: Ledger>(
+        &mut self,
+        alloc: Global,
+        pass: &PassChain,
+        steps: &mut Steps<L>,
+    ) -> Result<Vec<u32>, CheckStop>
+        requires { self.old.bars ≡ self.old.ceilings }
+        ensures found { Finds result
+            (pass_fault self.old.state self.old.orders self.old.ceilings pass.now) }
+        ensures offers { IfOk result (λ v. v.items ≡ proposed self.old.state self.old.orders
+            (bars_by self.old.state self.old.ceilings pass.now.falls)) }
+    {
+        self.check_lines(alloc, pass.falls.as_slice(), steps)?;
+        if let Some(school) = self.first_overfilled() {
+            return Err(CheckStop::Rejected(pass.next_row, CheckReason::StillOver { school }));
+        }
+        Ok(self.proposed(alloc)?)
+    }
 }
 
 /// Tests the falls of a pass from the ceilings on, and answers the places of the wishes that are
@@ -122,54 +113,27 @@ pub(crate) fn offers_of(
     ensures offers { IfOk result (λ v. v.items ≡ proposed state.now grounds.now.orders
         (bars_by state.now ceilings.now pass.now.falls)) }
 {
-    counted_offers::<Brand>(alloc, Blank::new(1), state, grounds, ceilings, pass)
+    let test = PassTest::begin(alloc, grounds, state, ceilings)?;
+    counted_offers::<Brand>(alloc, Blank::new(1), test, pass)
 }
 
-/// Tests the falls of a pass on a round that has just begun, and answers the places of the wishes
-/// that are proposed under the last bars.
-fn offers_on<L: Ledger>(
-    alloc: Global,
-    round: &mut LinkedRound<'_, '_>,
-    state: &DayState<'_>,
-    index: &Index,
-    pass: &PassChain,
-    steps: &mut Steps<L>,
-) -> Result<Vec<u32>, CheckStop>
-    requires same { round.old.state ≡ state.now }
-    requires index { index.now ≡ ids_in state.now.dossier }
-    requires ceilings { length round.old.ceilings ≡ length state.now.dossier.schools }
-    requires begun { round.old.bars ≡ round.old.ceilings }
-    ensures found { Finds result
-        (pass_fault state.now round.old.orders round.old.ceilings pass.now) }
-    ensures offers { IfOk result (λ v. v.items ≡ proposed state.now round.old.orders
-        (bars_by state.now round.old.ceilings pass.now.falls)) }
-{
-    check_lines(alloc, round, state, index, pass.falls.as_slice(), steps)?;
-    if let Some(school) = first_overfilled(round) {
-        return Err(CheckStop::Rejected(pass.next_row, CheckReason::StillOver { school }));
-    }
-    Ok(round.proposed(alloc)?)
-}
-
-/// The same with a counter that nobody reads.
+/// The offers of a pass that has just begun, with a counter that nobody reads.
 fn counted_offers<L: Ledger>(
     alloc: Global,
     blank: Blank,
-    state: &DayState<'_>,
-    grounds: &Grounds<'_, '_>,
-    ceilings: &[u32],
+    test: PassTest<'_, '_>,
     pass: &PassChain,
 ) -> Result<Vec<u32>, CheckStop>
     requires name { blank.name ≡ L.name }
     requires parts { blank.parts ≡ L.parts }
     requires shared { 0 < L.parts }
-    requires same { grounds.now.dossier ≡ state.now.dossier }
-    requires ceilings { length ceilings.now ≡ length state.now.dossier.schools }
-    ensures found { Finds result (pass_fault state.now grounds.now.orders ceilings.now pass.now) }
-    ensures offers { IfOk result (λ v. v.items ≡ proposed state.now grounds.now.orders
-        (bars_by state.now ceilings.now pass.now.falls)) }
+    requires begun { test.bars ≡ test.ceilings }
+    ensures found { Finds result
+        (pass_fault test.entry.state test.entry.orders test.entry.ceilings pass.now) }
+    ensures offers { IfOk result (λ v. v.items ≡ proposed test.entry.state test.entry.orders
+        (bars_by test.entry.state test.entry.ceilings pass.now.falls)) }
 {
+    let mut test = test;
     let mut steps: Steps<L> = Steps::new(blank);
-    let mut round = grounds.begin_round(alloc, state, ceilings)?;
-    offers_on(alloc, &mut round, state, grounds.index(), pass, &mut steps)
+    test.offers(alloc, pass, &mut steps)
 }

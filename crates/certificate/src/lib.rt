@@ -3,7 +3,7 @@
 //! `fall S FROM TO W W ..` and, at the end, `end`. One space stands between two words.
 //!
 //! `let verdict = check_day(alloc, &index, &orders, &morning, ceilings, day, chain)?;`, or for many
-//! days `let grounds = Grounds::build(alloc, &index, &orders, &first)?;` and
+//! days `let grounds = Grounds::along(&roster, &index);` and
 //! `let mut desk = CheckDesk::begin(alloc, first);`, and then, day by day,
 //! `desk.make_morning(alloc, terms, day)?;` and
 //! `desk.check_day(alloc, &grounds, ceilings, day, chain)?;`.
@@ -17,6 +17,7 @@ mod fault;
 mod grounds;
 mod line;
 mod named;
+mod pass_test;
 mod passes;
 mod read;
 mod reading;

@@ -155,8 +155,7 @@ pub(crate) fn needed(
     ensures early { TellsMore (told picker.old) (told picker.new) }
     ensures choice { choice picker.new ≡ choice picker.old }
 {
-    let (days, last) = led.into_parts();
-    let along = last.into_along(alloc)?;
+    let (days, along) = led.into_along(alloc)?;
     let text = school_text(alloc, input, days.as_slice(), &along, school, picker)?;
     Ok(done(text))
 }

@@ -31,7 +31,6 @@ pub(crate) fn envied(alloc: Global, led: Led<'_, '_>) -> Result<Reply, OutOfMemo
         (blocked_text led.entry.last.desk.present led.entry.last.orders)
         reply.exit reply.text.items) }
 {
-    let along = led.into_last().into_along(alloc)?;
-    let (evening, roster) = along.into_now();
+    let (evening, roster) = led.into_last().into_now_along(alloc)?;
     Ok(done(blocked_text(alloc, &evening, &roster)?))
 }

@@ -1,6 +1,5 @@
 //! The mode `check`: the days of a chain, tested one after another.
 ghost use Rattle.std.specs.Prelude.{◌≡◌, ◌≤◌, ◌<◌, ◌^◌, All, IfErr, IfOk, IfSome, OnOk, length, option_copied, option_map};
-ghost use Rattle.admit_core.specs.CallOrder.{AreCallOrders};
 ghost use Rattle.admit_core.specs.Chains.{IsDayChain, day_fault};
 ghost use Rattle.admit_core.specs.Days.{first_evening};
 ghost use Rattle.admit_core.specs.Lapses.{AreTermsFor};
@@ -20,13 +19,14 @@ use crate::led::Led;
 use crate::replay::push_final_lines;
 use crate::reply::Reply;
 use crate::unproved::Unproved;
-use admit_core::{CallOrders, DayChain, Dossier, OutOfMemory, Terms};
+use admit_core::{DayChain, Dossier, OutOfMemory, Terms};
 use certificate::{
     ChainRefusal, CheckDesk, CheckStop, Grounds, chain_fault_text, read_chain, verdict_text,
 };
 use day_state::DayState;
 use desk_day::ceilings_on;
 use intake::{DatedTerms, Input};
+use played::LastDesk;
 use report::refusal_text;
 use std::alloc::Global;
 
@@ -148,32 +148,31 @@ fn unproved(alloc: Global, dossier: &Dossier, why: Unproved) -> Result<Reply, Ou
     }
 }
 
-/// Tests these days of a chain from the first evening on, and replies.
+/// Tests these days of a chain from the first evening on, along the roster of the run, and replies.
 fn check_chain(
     alloc: Global,
     input: &Input,
     dated: Option<&DatedTerms>,
-    orders: &CallOrders,
-    first: DayState<'_>,
+    last: LastDesk<'_, '_>,
     days: &[DayChain],
 ) -> Result<Reply, OutOfMemory>
     requires index { input.now.index ≡ ids_in input.now.dossier }
     requires dated { IfSome (option_copied dated) (AreDatedFor input.now.dossier) }
-    requires orders { AreCallOrders input.now.dossier.groups orders.now.orders }
-    requires first { first ≡ first_evening input.now.dossier }
+    requires first { last.desk.present ≡ first_evening input.now.dossier }
     requires days { length days.now ≤ 366 }
     requires passes { All (λ day. length day.passes < 2 ^ 32) days.now }
 
     ensures { IfOk result (λ reply. EndsProof input.now.dossier
-        (why_none (terms_in (option_copied dated.entry)) orders.now.orders 1
+        (why_none (terms_in (option_copied dated.entry)) last.entry.orders 1
         (first_evening input.now.dossier) days.now)
         (proved_text (length days.now)
-        (evening_after (terms_in (option_copied dated.entry)) orders.now.orders 1
+        (evening_after (terms_in (option_copied dated.entry)) last.entry.orders 1
         (first_evening input.now.dossier) days.now)
         (option_copied dated.entry))
         reply.exit reply.text.items) }
 {
-    let grounds = Grounds::build(alloc, &input.index, orders, &first)?;
+    let (first, roster) = last.into_now_along(alloc)?;
+    let grounds = Grounds::along(&roster, &input.index);
     let mut desk = CheckDesk::begin(alloc, first);
     match check_days(alloc, &grounds, terms_in(dated), &mut desk, days) {
         Ok(()) => Ok(reply(
@@ -184,35 +183,9 @@ fn check_chain(
     }
 }
 
-/// Reads the chain that is handed in, tests its days from the first evening on, and replies. No
-/// picker is asked.
-fn checked(
-    alloc: Global,
-    input: &Input,
-    dated: Option<&DatedTerms>,
-    orders: &CallOrders,
-    first: DayState<'_>,
-) -> Result<Reply, OutOfMemory>
-    requires index { input.now.index ≡ ids_in input.now.dossier }
-    requires dated { IfSome (option_copied dated) (AreDatedFor input.now.dossier) }
-    requires orders { AreCallOrders input.now.dossier.groups orders.now.orders }
-    requires first { first ≡ first_evening input.now.dossier }
-
-    ensures { IfOk result (λ reply. IsChecked
-        input.now.dossier input.now.chain (option_copied dated.entry) orders.now.orders
-        reply.exit reply.text.items) }
-{
-    match read_chain(alloc, input.chain.as_slice()) {
-        Ok(chain) => check_chain(alloc, input, dated, orders, first, chain.days.as_slice()),
-        Err(ChainRefusal::Fault(fault)) => {
-            let line = chain_fault_text(alloc, fault)?;
-            Ok(reply(Exit::NotProved, line))
-        }
-        Err(ChainRefusal::OutOfMemory) => Err(OutOfMemory),
-    }
-}
-
-/// How the mode `check` ends, whose desk is the first one.
+/// How the mode `check` ends, whose desk is the first one: reads the chain that is handed in, tests
+/// its days, and replies. No picker is asked. Where the text is no chain, neither a state nor a
+/// roster is made.
 pub(crate) fn tested(
     alloc: Global,
     input: &Input,
@@ -221,14 +194,18 @@ pub(crate) fn tested(
 ) -> Result<Reply, OutOfMemory>
     requires index { input.now.index ≡ ids_in input.now.dossier }
     requires dated { IfSome (option_copied dated) (AreDatedFor input.now.dossier) }
-    requires orders { AreCallOrders input.now.dossier.groups led.last.orders }
     requires first { led.last.desk.present ≡ first_evening input.now.dossier }
     ensures { IfOk result (λ reply. IsChecked
         input.now.dossier input.now.chain (option_copied dated.entry) led.entry.last.orders
         reply.exit reply.text.items) }
 {
     let last = led.into_last();
-    let orders = last.orders();
-    let first = last.into_now(alloc)?;
-    checked(alloc, input, dated, orders, first)
+    match read_chain(alloc, input.chain.as_slice()) {
+        Ok(chain) => check_chain(alloc, input, dated, last, chain.days.as_slice()),
+        Err(ChainRefusal::Fault(fault)) => {
+            let line = chain_fault_text(alloc, fault)?;
+            Ok(reply(Exit::NotProved, line))
+        }
+        Err(ChainRefusal::OutOfMemory) => Err(OutOfMemory),
+    }
 }

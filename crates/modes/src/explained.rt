@@ -8,11 +8,12 @@ ghost use Rattle.played.specs.LastDays.{IsDeskAfter};
 
 use crate::led::Led;
 use crate::reply::{Reply, done};
-use admit_core::{CallOrders, DayRecord, OutOfMemory, PassEnd};
-use desk_day::{Desk, ceilings_on};
+use admit_core::{DayRecord, OutOfMemory, PassEnd};
+use desk_day::ceilings_on;
 use dossier_check::wish_place;
 use explanations::explain_on_desk;
 use intake::Input;
+use played::DeskAlong;
 use report::explain_text;
 use std::alloc::Global;
 
@@ -26,20 +27,19 @@ fn last_bars(passes: &[PassEnd]) -> &[u32]
     }
 }
 
-/// The line that explains the wish of this id.
+/// The line that explains the wish of this id, along the roster of the days.
 fn explained_text(
     alloc: Global,
     input: &Input,
-    orders: &CallOrders,
     days: &[DayRecord],
-    desk: &Desk<'_>,
+    along: &DeskAlong<'_, '_>,
     wish: u32,
 ) -> Result<Vec<u8>, OutOfMemory>
     requires named { IsTrue (is_among wish input.now.index.wishes) }
     requires some_day { 0 < length days.now }
-    requires desk { IsDeskAfter input.now.dossier orders.now.orders days.now desk.now }
-    ensures { IfOk result (λ text. IsExplained
-        input.now.dossier input.now.index orders.now.orders days.now desk.now wish text.items) }
+    requires desk { IsDeskAfter input.now.dossier along.now.orders days.now along.now.desk }
+    ensures { IfOk result (λ text. IsExplained input.now.dossier input.now.index along.now.orders
+        days.now along.now.desk wish text.items) }
 {
     let Some(place) = wish_place(&input.index, wish) else {
         unreachable!()
@@ -49,7 +49,8 @@ fn explained_text(
     };
     let ceilings = ceilings_on(alloc, &input.dossier, day.day)?;
     let bars = last_bars(day.passes.as_slice());
-    let why = explain_on_desk(desk, orders, &ceilings, bars, place);
+    let orders = along.roster().orders();
+    let why = explain_on_desk(along.desk(), orders, &ceilings, bars, place);
     explain_text(alloc, &input.dossier, place, why)
 }
 
@@ -69,9 +70,7 @@ pub(crate) fn explained(
         led.entry.days.items led.entry.last.desk wish)
         reply.exit reply.text.items) }
 {
-    let (days, last) = led.into_parts();
-    let orders = last.orders();
-    let along = last.into_along(alloc)?;
-    let text = explained_text(alloc, input, orders, days.as_slice(), along.desk(), wish)?;
+    let (days, along) = led.into_along(alloc)?;
+    let text = explained_text(alloc, input, days.as_slice(), &along, wish)?;
     Ok(done(text))
 }

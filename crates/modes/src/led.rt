@@ -1,8 +1,9 @@
 //! Days that led to a desk.
-ghost use Rattle.std.specs.Prelude.{◌≡◌};
+ghost use Rattle.std.specs.Prelude.{◌≡◌, IfOk};
 
-use admit_core::{CallOrders, DayRecord};
-use played::LastDesk;
+use admit_core::{CallOrders, DayRecord, OutOfMemory};
+use played::{DeskAlong, LastDesk};
+use std::alloc::Global;
 
 /// All days that were asked for, and what they left: the desk after them, with the call orders by
 /// which they were run and the roster, which is made when it is asked for where no day was run.
@@ -41,6 +42,23 @@ impl<'a, 'd> Led<'a, 'd> {
     {
         let Led { days: _, last } = self;
         last
+    }
+
+    /// The days, and the desk and the roster that they left. Both are made here where no day was
+    /// run.
+    pub fn into_along(
+        self,
+        alloc: Global,
+    ) -> Result<(Vec<DayRecord>, DeskAlong<'a, 'd>), OutOfMemory>
+        ensures days { IfOk result (λ parts. parts.0.items ≡ self.entry.days.items) }
+        ensures along { IfOk result (λ parts. parts.1 ≡ record {
+          desk = self.entry.last.desk;
+          orders = self.entry.last.orders;
+        }) }
+    {
+        let Led { days, last } = self;
+        let along = last.into_along(alloc)?;
+        Ok((days, along))
     }
 
     /// The days, and what they left.

@@ -1,6 +1,7 @@
 //! What the days of a run leave.
 ghost use Rattle.std.specs.Prelude.{◌≡◌, true, false, IfOk, IsOk};
 ghost use Rattle.admit_core.specs.CallOrder.{AreCallOrders};
+ghost use Rattle.admit_core.specs.Days.{first_evening};
 ghost use Rattle.played.specs.PlayedDays.{first_desk};
 
 use admit_core::{CallOrders, Dossier, OutOfMemory};
@@ -86,6 +87,24 @@ impl<'a, 'd> DeskAlong<'a, 'd> {
         let DeskAlong { desk, roster } = self;
         (desk.into_now(), roster)
     }
+}
+
+/// The state that a dossier comes in with, and the roster of its call orders.
+fn first_along<'a, 'd>(
+    alloc: Global,
+    dossier: &'d Dossier,
+    orders: &'a CallOrders,
+) -> Result<(DayState<'d>, Roster<'a, 'd>), OutOfMemory>
+    requires { AreCallOrders dossier.now.groups orders.now.orders }
+    ensures state { IfOk result (λ parts. parts.0 ≡ first_evening dossier.now) }
+    ensures roster { IfOk result (λ parts. parts.1 ≡ record {
+      dossier = dossier.now;
+      orders = orders.now.orders;
+    }) }
+{
+    let state = DayState::begin(alloc, dossier)?;
+    let roster = Roster::build(alloc, &state, orders)?;
+    Ok((state, roster))
 }
 
 /// The desk after the days of a run, with the roster along which they were run. Where no day was
@@ -176,6 +195,30 @@ impl<'a, 'd> LastDesk<'a, 'd> {
         match along {
             Some(along) => Ok(along),
             None => DeskAlong::begin(alloc, dossier, orders),
+        }
+    }
+
+    /// The present state alone, and the roster. Where days were run both are there, and no memory
+    /// is taken; elsewhere no other state is begun.
+    pub fn into_now_along(
+        self,
+        alloc: Global,
+    ) -> Result<(DayState<'d>, Roster<'a, 'd>), OutOfMemory>
+        ensures now { IfOk result (λ parts. parts.0 ≡ self.entry.desk.present) }
+        ensures roster { IfOk result (λ parts. parts.1 ≡ record {
+          dossier = self.entry.desk.present.dossier;
+          orders = self.entry.orders;
+        }) }
+        ensures begun { self.entry.is_begun ≡ true → IsOk result }
+    {
+        let LastDesk {
+            dossier,
+            orders,
+            along,
+        } = self;
+        match along {
+            Some(along) => Ok(along.into_now()),
+            None => first_along(alloc, dossier, orders),
         }
     }
 

@@ -2,7 +2,7 @@ use Rattle.std.proofs.Common.{◌∙◌, ◌<◌, length, sym, rules}
 use Rattle.admit_core.specs.Boarding.{boarding}
 use Rattle.admit_core.specs.Falls.{is_overfilled}
 use Rattle.certificate.proofs.Testing.{none_at, one_at, over_by_rank}
-use Rattle.certificate.proofs.falls.first_overfilled.Goals as goal
+use Rattle.certificate.proofs.pass_test.first_overfilled.Goals as goal
 
 pub returns-then-is_some : goal.returns-then-is_some
 returns-then-is_some c =

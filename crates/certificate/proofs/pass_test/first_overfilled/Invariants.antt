@@ -4,7 +4,7 @@ use Rattle.std.specs.List.{range_with_len}
 use Rattle.admit_core.specs.Boarding.{boarding}
 use Rattle.admit_core.specs.Chains.{first_overfilled}
 use Rattle.admit_core.specs.Falls.{is_overfilled}
-use Rattle.certificate.proofs.falls.first_overfilled.Given as goal
+use Rattle.certificate.proofs.pass_test.first_overfilled.Given as goal
 
 abbrev pub invariant-loop-school : goal.invariant-loop-school
 invariant-loop-school l =

@@ -1,9 +1,9 @@
-use Rattle.std.proofs.Common.{◌≡◌, ◌∙◌, ◌<◌, List, ap, length, refl, sym, subst}
+use Rattle.std.proofs.Common.{◌∙◌, ◌<◌, List, ap, length, refl, sym, subst}
 use Rattle.admit_core.specs.declared.ranking.CallOrder.{CallOrder}
 use Rattle.admit_core.specs.declared.records.DayRecord.{DayRecord}
 use Rattle.desk_day.specs.DeskStates.{DeskStates}
 use Rattle.played.specs.LastDays.{IsDeskAfter}
-use Rattle.played.specs.LastDesks.{DeskBy, DeskLeft}
+use Rattle.played.specs.LastDesks.{DeskBy}
 use Rattle.std.proofs.lemmas.Result.{IfOk-from_err}
 use Rattle.desk_day.proofs.PassesSoFar.{tells_still}
 use Rattle.modes.specs.Asking.{TellsPicks}
@@ -14,28 +14,26 @@ use Rattle.modes.proofs.beds.needed.Goals as goal
 pub school_text-requires-clause-some_day : goal.school_text-requires-clause-some_day
 school_text-requires-clause-some_day g c =
     subst (λ (ds : List DayRecord). 0 < length ds)
-    (sym (c.as_slice.ensures.value ∙ c.into_parts-days.ensures.days))
+    (sym (c.as_slice.ensures.value ∙ c.in_ok-days.ensures.days))
     c.requires.some_day
 
 pub school_text-requires-clause-desk : goal.school_text-requires-clause-desk
 school_text-requires-clause-desk g c =
-    let called = ap (λ (x : DeskBy). x.orders) c.in_ok-along.ensures.along
-    ∙ ap (λ (x : DeskLeft). x.orders) c.into_parts-days.ensures.last in
-    let led = ap (λ (x : DeskBy). x.desk) c.in_ok-along.ensures.along
-    ∙ ap (λ (x : DeskLeft). x.desk) c.into_parts-days.ensures.last in
+    let called = ap (λ (x : DeskBy). x.orders) c.in_ok-days.ensures.along in
+    let led = ap (λ (x : DeskBy). x.desk) c.in_ok-days.ensures.along in
     same_led (λ (o : List CallOrder) (ds : List DayRecord) (k : DeskStates). IsDeskAfter c.args.input.now.dossier o ds
     k)
-    (sym called) (sym (c.as_slice.ensures.value ∙ c.into_parts-days.ensures.days))
+    (sym called) (sym (c.as_slice.ensures.value ∙ c.in_ok-days.ensures.days))
     (sym led) c.requires.desk
 
-pub returns-in_err-along-clause-text : goal.returns-in_err-along-clause-text
-returns-in_err-along-clause-text g c = IfOk-from_err _ _ c.from_residual.ensures.0
+pub returns-in_err-days-clause-text : goal.returns-in_err-days-clause-text
+returns-in_err-days-clause-text g c = IfOk-from_err _ _ c.from_residual.ensures.0
 
-pub returns-in_err-along-clause-picks : goal.returns-in_err-along-clause-picks
-returns-in_err-along-clause-picks g c = IfOk-from_err _ _ c.from_residual.ensures.0
+pub returns-in_err-days-clause-picks : goal.returns-in_err-days-clause-picks
+returns-in_err-days-clause-picks g c = IfOk-from_err _ _ c.from_residual.ensures.0
 
-pub returns-in_err-along-clause-early : goal.returns-in_err-along-clause-early
-returns-in_err-along-clause-early g c = tells_still _ _ refl
+pub returns-in_err-days-clause-early : goal.returns-in_err-days-clause-early
+returns-in_err-days-clause-early g c = tells_still _ _ refl
 
 pub returns-in_err-text-clause-text : goal.returns-in_err-text-clause-text
 returns-in_err-text-clause-text g c = IfOk-from_err _ _ c.from_residual-in_err-text.ensures.0
@@ -45,10 +43,8 @@ returns-in_err-text-clause-picks g c = IfOk-from_err _ _ c.from_residual-in_err-
 
 pub returns-clause-text : goal.returns-clause-text
 returns-clause-text g c =
-    let called = ap (λ (x : DeskBy). x.orders) c.in_ok-along.ensures.along
-    ∙ ap (λ (x : DeskLeft). x.orders) c.into_parts-days.ensures.last in
-    let led = ap (λ (x : DeskBy). x.desk) c.in_ok-along.ensures.along
-    ∙ ap (λ (x : DeskLeft). x.desk) c.into_parts-days.ensures.last in
+    let called = ap (λ (x : DeskBy). x.orders) c.in_ok-days.ensures.along in
+    let led = ap (λ (x : DeskBy). x.desk) c.in_ok-days.ensures.along in
     let d = c.args.input.now.dossier in
     let index = c.args.input.now.index in
     let school = c.args.school in (
@@ -57,16 +53,14 @@ returns-clause-text g c =
           (sym c.done.ensures.text)
           (same_led (λ (o : List CallOrder) (ds : List DayRecord) (k : DeskStates). TellsFigures d index o ds k school
           c.in_ok-text.text.items)
-          called (c.as_slice.ensures.value ∙ c.into_parts-days.ensures.days)
+          called (c.as_slice.ensures.value ∙ c.in_ok-days.ensures.days)
           led c.in_ok-text.ensures.text),
     )
 
 pub returns-clause-picks : goal.returns-clause-picks
 returns-clause-picks g c =
-    let called = ap (λ (x : DeskBy). x.orders) c.in_ok-along.ensures.along
-    ∙ ap (λ (x : DeskLeft). x.orders) c.into_parts-days.ensures.last in
-    let led = ap (λ (x : DeskBy). x.desk) c.in_ok-along.ensures.along
-    ∙ ap (λ (x : DeskLeft). x.desk) c.into_parts-days.ensures.last in
+    let called = ap (λ (x : DeskBy). x.orders) c.in_ok-days.ensures.along in
+    let led = ap (λ (x : DeskBy). x.desk) c.in_ok-days.ensures.along in
     let d = c.args.input.now.dossier in
     let index = c.args.input.now.index in
     let school = c.args.school in
@@ -76,5 +70,5 @@ returns-clause-picks g c =
     TellsPicks (PicksForFigures d index o ds k school (before.choice c.args.picker.now.1)
     (before.told c.args.picker.now.1))
     (before.told c.args.picker.now.1) (after.told c.school_text.new.picker))
-    called (c.as_slice.ensures.value ∙ c.into_parts-days.ensures.days)
+    called (c.as_slice.ensures.value ∙ c.in_ok-days.ensures.days)
     led c.in_ok-text.ensures.picks

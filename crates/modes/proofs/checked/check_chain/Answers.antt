@@ -1,12 +1,11 @@
 use Rattle.std.proofs.Common.{◌≡◌, ◌∙◌, None, ap, length, subst, sym}
 use Rattle.std.specs.Option.{option_copied}
 use Rattle.std.proofs.lemmas.Result.{IfOk-weaker}
-use Rattle.admit_core.specs.CallOrder.{AreCallOrders}
 use Rattle.admit_core.specs.Days.{first_evening}
 use Rattle.admit_core.specs.Lapses.{AreTermsFor}
 use Rattle.admit_core.specs.State.{State}
 use Rattle.certificate.specs.Checked.{ids_in}
-use Rattle.certificate.specs.Grounds.{Ground}
+use Rattle.linked_demand.specs.Rosters.{Setting}
 use Rattle.certificate.specs.ProvedDays.{evening_after}
 use Rattle.intake.specs.Dated.{terms_in}
 use Rattle.intake.proofs.DatedOffers.{terms_known}
@@ -16,18 +15,15 @@ use Rattle.modes.specs.Replay.{CanBeDated}
 use Rattle.modes.proofs.CheckedDay.{days_stay, evening_alike, evening_dated, proof_ends, stop_ends, why_alike}
 use Rattle.modes.proofs.checked.check_chain.Goals as goal
 
-pub build-requires-clause-index : goal.build-requires-clause-index
-build-requires-clause-index c = c.requires.index ∙ ap (λ (s : State). ids_in s.dossier) (sym c.requires.first)
-
-pub build-requires-clause-orders : goal.build-requires-clause-orders
-build-requires-clause-orders c =
-    subst (λ (s : State). AreCallOrders s.dossier.groups c.args.orders.now.orders) (sym c.requires.first)
-    c.requires.orders
+pub along-grounds-requires : goal.along-grounds-requires
+along-grounds-requires c =
+    c.requires.index ∙ ap (λ (s : State). ids_in s.dossier) (sym c.requires.first)
+    ∙ ap (λ (x : Setting). ids_in x.dossier) (sym c.in_ok-first.ensures.roster)
 
 pub check_days-requires-clause-same : goal.check_days-requires-clause-same
 check_days-requires-clause-same c =
-    ap (λ (g : Ground). g.dossier) c.in_ok-grounds.ensures
-    ∙ ap (λ (s : State). s.dossier) (sym c.begin-desk.ensures)
+    ap (λ (g : Setting). g.dossier) (c.along-grounds.ensures ∙ c.in_ok-first.ensures.roster)
+    ∙ ap (λ (s : State). s.dossier) (sym (c.begin-desk.ensures ∙ c.in_ok-first.ensures.now))
 
 pub check_days-requires-clause-terms : goal.check_days-requires-clause-terms
 check_days-requires-clause-terms c =
@@ -35,32 +31,33 @@ check_days-requires-clause-terms c =
     subst (AreTermsFor c.begin-desk.result.dossier)
     (sym c.terms_in.ensures)
     (subst (λ (s : State). AreTermsFor s.dossier (terms_in dated))
-    (sym (c.begin-desk.ensures ∙ c.requires.first))
+    (sym (c.begin-desk.ensures ∙ c.in_ok-first.ensures.now ∙ c.requires.first))
     (terms_known c.args.input.now.dossier dated c.requires.dated))
 
 pub unproved-requires : goal.unproved-requires
 unproved-requires c =
     subst (λ (s : State). KeepsIn (length s.dossier.schools) c.in-Err.why)
-    (c.begin-desk.ensures ∙ c.requires.first) c.in-Err.ensures.school
+    (c.begin-desk.ensures ∙ c.in_ok-first.ensures.now ∙ c.requires.first) c.in-Err.ensures.school
 
 pub proved_text-requires : goal.proved_text-requires
 proved_text-requires c =
     let dated = option_copied c.args.dated in
     let stays = ap (λ (t : State). t.dossier) c.in-Ok.ensures.evening
-    ∙ days_stay (option_copied c.terms_in.result) c.in_ok-grounds.grounds.orders 1 c.begin-desk.result
+    ∙ days_stay (option_copied c.terms_in.result) c.along-grounds.result.orders 1 c.begin-desk.result
     c.args.days.now in
     subst (CanBeDated dated) (sym c.now.ensures)
     (evening_dated c.args.input.now.dossier dated c.begin-desk.result c.check_days.new.desk
-    (c.begin-desk.ensures ∙ c.requires.first) stays c.in-Ok.ensures.stamps c.requires.dated)
+    (c.begin-desk.ensures ∙ c.in_ok-first.ensures.now ∙ c.requires.first) stays c.in-Ok.ensures.stamps c.requires.dated)
 
 pub returns-in-Ok : goal.returns-in-Ok
 returns-in-Ok c =
     let d = c.args.input.now.dossier in
     let dated = option_copied c.args.dated in
-    let orders = c.args.orders.now.orders in
+    let orders = c.args.last.orders in
     let days = c.args.days.now in
-    let lent = ap (λ (g : Ground). g.orders) c.in_ok-grounds.ensures in
-    let begun : c.begin-desk.result ≡ first_evening d = c.begin-desk.ensures ∙ c.requires.first in
+    let lent = ap (λ (g : Setting). g.orders) (c.along-grounds.ensures ∙ c.in_ok-first.ensures.roster) in
+    let begun : c.begin-desk.result ≡ first_evening d =
+    c.begin-desk.ensures ∙ c.in_ok-first.ensures.now ∙ c.requires.first in
     let none : why_none (terms_in dated) orders 1 (first_evening d) days ≡ None =
     sym (why_alike days c.terms_in.ensures lent begun) ∙ c.in-Ok.ensures.found in
     let evening : c.check_days.new.desk ≡ evening_after (terms_in dated) orders 1 (first_evening d) days =
@@ -76,10 +73,11 @@ pub returns : goal.returns
 returns c =
     let d = c.args.input.now.dossier in
     let dated = option_copied c.args.dated in
-    let orders = c.args.orders.now.orders in
+    let orders = c.args.last.orders in
     let days = c.args.days.now in
-    let lent = ap (λ (g : Ground). g.orders) c.in_ok-grounds.ensures in
-    let begun : c.begin-desk.result ≡ first_evening d = c.begin-desk.ensures ∙ c.requires.first in
+    let lent = ap (λ (g : Setting). g.orders) (c.along-grounds.ensures ∙ c.in_ok-first.ensures.roster) in
+    let begun : c.begin-desk.result ≡ first_evening d =
+    c.begin-desk.ensures ∙ c.in_ok-first.ensures.now ∙ c.requires.first in
     let stops = subst (StopsBy c.in-Err.why) (why_alike days c.terms_in.ensures lent begun) c.in-Err.ensures.found in
     IfOk-weaker c.unproved.result _ _ (λ reply is. stop_ends d c.in-Err.why
     (why_none (terms_in dated) orders 1 (first_evening d) days)

@@ -1,29 +1,23 @@
-use Rattle.std.proofs.Common.{◌∙◌, ◌<◌, ◌+◌, drop, ℕ, List, ap, sym, subst, slice_index, arith}
+use Rattle.std.proofs.Common.{◌∙◌, ◌+◌, drop, ap}
 use Rattle.std.proofs.lemmas.Result.{err_from_is_err_and}
 use Rattle.admit_core.specs.Chains.{bars_by, lines_fault}
-use Rattle.admit_core.specs.Falls.{IsAtMost}
-use Rattle.linked_demand.specs.Rounds.{Round}
-use Rattle.linked_demand.proofs.BarEach.{bar_each_is}
-use Rattle.certificate.proofs.Testing.{falls_under}
 use Rattle.certificate.proofs.Lowering.{bars_pass, drop_item, keeps_round, line_passes, line_stops}
-use Rattle.certificate.proofs.falls.check_lines.Goals as goal
+use Rattle.certificate.proofs.pass_test.PassTest.check_lines.Goals as goal
 
 pub returns-in_err-school-clause-found : goal.returns-in_err-school-clause-found
 returns-in_err-school-clause-found g c =
-    let s = c.args.state.now in
-    let now = c.loop-line.round in
+    let now = c.loop-line.self in
     let lines = c.args.lines.now in
     let i = c.loop-line.line-index in
     let here = drop_item lines i c.line-item.result c.loop-line-test.true c.line-item.is in
     let told = err_from_is_err_and c.from_residual.result c.from_residual.ensures.1 in
-    let whole = c.loop-line.invariant.fault ∙ ap (lines_fault s now.orders now.ceilings now.bars) here in
-    rw (told.1, told.2) (line_stops s now c.line-item.result
-    (drop (i + 1) lines) _ _ whole c.in_err-school.ensures.found)
+    let whole = c.loop-line.invariant.fault ∙ ap (lines_fault now.state now.orders now.ceilings now.bars) here in
+    rw (told.1, told.2) (line_stops now c.line-item.result (drop (i + 1) lines) _ _ whole
+    c.in_err-school.ensures.found)
 
 pub loop-line-preserved : goal.loop-line-preserved
 loop-line-preserved g c =
-    let s = c.args.state.now in
-    let now = c.loop-line.round in
+    let now = c.loop-line.self in
     let new = c.lower.new.self in
     let lines = c.args.lines.now in
     let i = c.loop-line.line-index in
@@ -33,20 +27,10 @@ loop-line-preserved g c =
     let here = drop_item lines i line c.loop-line-test.true c.line-item.is in
     let inv = c.loop-line.invariant in
     let school = c.in_ok-school.ensures.school in
-    let fell = c.lower.ensures.round in
-    let under = falls_under now.bars now.ceilings h line.to inv.under (omega
-    (arith, c.in_ok-school.ensures.within, inv.under.as_many)) c.in_ok-school.ensures.falls in
+    let fell = c.lower.ensures in
     record {
-      fault = line_passes s now new line h rest school fell _ (inv.fault
-          ∙ ap (lines_fault s now.orders now.ceilings now.bars) here) c.in_ok-school.ensures.found;
-      bars = bars_pass s now new line h rest school fell _ (inv.bars ∙ ap (bars_by s now.bars) here);
-      round = keeps_round c.args.round.now now new _ inv.round fell;
-      under = subst (λ (r : Round). IsAtMost r.bars r.ceilings) (sym fell) under;
+      fault = line_passes now new line h rest school fell _ (inv.fault
+          ∙ ap (lines_fault now.state now.orders now.ceilings now.bars) here) c.in_ok-school.ensures.found;
+      bars = bars_pass now new line h rest school fell _ (inv.bars ∙ ap (bars_by now.state now.bars) here);
+      round = keeps_round c.args.self.now now new _ inv.round fell;
     }
-
-pub lower-requires-clause-lower : goal.lower-requires-clause-lower
-lower-requires-clause-lower g c =
-    let now = c.loop-line.round in
-    subst (λ (bs : List ℕ). c.line-item.result.to < slice_index bs c.in_ok-school.school)
-    (sym (bar_each_is now.ceilings now.bars c.loop-line.invariant.under.as_many))
-    c.in_ok-school.ensures.falls

@@ -1,16 +1,14 @@
 use Rattle.std.proofs.Common.{◌≡◌, drop}
 use Rattle.admit_core.specs.Chains.{bars_by, lines_fault}
-use Rattle.admit_core.specs.Falls.{IsAtMost}
-use Rattle.certificate.proofs.falls.check_lines.Given as goal
+use Rattle.certificate.proofs.pass_test.PassTest.check_lines.Given as goal
 
 abbrev pub invariant-loop-line : goal.invariant-loop-line
 invariant-loop-line g l =
-    let old = l.fn.round in
+    let old = l.fn.self in
     let rest = drop l.line-index l.lines in
     record {
-      fault : lines_fault l.state old.orders old.ceilings old.bars l.lines
-          ≡ lines_fault l.state l.round.orders l.round.ceilings l.round.bars rest;
-      bars : bars_by l.state old.bars l.lines ≡ bars_by l.state l.round.bars rest;
-      round : l.round ≡ record old { bars = l.round.bars };
-      under : IsAtMost l.round.bars l.round.ceilings;
+      fault : lines_fault old.state old.orders old.ceilings old.bars l.lines
+          ≡ lines_fault l.self.state l.self.orders l.self.ceilings l.self.bars rest;
+      bars : bars_by old.state old.bars l.lines ≡ bars_by l.self.state l.self.bars rest;
+      round : l.self ≡ record old { bars = l.self.bars };
     }
