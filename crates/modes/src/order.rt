@@ -1,5 +1,5 @@
 //! The mode `order`: the lines of the call orders.
-ghost use Rattle.std.specs.Prelude.{◌≡◌, ◌++◌, IfOk, OnOk, string_bytes};
+ghost use Rattle.std.specs.Prelude.{◌≡◌, [], ◌++◌, IfOk, IsOk, OnOk, string_bytes};
 ghost use Rattle.modes.specs.Endings.{IsDoneWith};
 ghost use Rattle.modes.specs.Order.{orders_text};
 
@@ -15,8 +15,9 @@ pub(crate) fn push_orders(
     groups: &[RankGroup],
     orders: &[CallOrder],
 ) -> Result<(), AllocError>
-    ensures { OnOk result
+    ensures adds { OnOk result
         (string_bytes text.new ≡ string_bytes text.old ++ orders_text groups.now orders.now) }
+    ensures always { groups.now ≡ [] → IsOk result }
 {
     for (group, order) in groups.iter().zip(orders) {
         push_order(text, group.id, order)?;
@@ -24,13 +25,14 @@ pub(crate) fn push_orders(
     Ok(())
 }
 
-/// The lines of all groups.
-pub(crate) fn orders_text(
+/// The lines of all groups. Where there is none, no memory is taken.
+fn orders_text(
     alloc: Global,
     groups: &[RankGroup],
     orders: &[CallOrder],
 ) -> Result<Vec<u8>, OutOfMemory>
-    ensures { IfOk result (λ text. text.items ≡ orders_text groups.now orders.now) }
+    ensures text { IfOk result (λ text. text.items ≡ orders_text groups.now orders.now) }
+    ensures always { groups.now ≡ [] → IsOk result }
 {
     let mut text = String::new(alloc);
     push_orders(&mut text, groups, orders)?;
@@ -43,9 +45,10 @@ pub(crate) fn ordered(
     dossier: &Dossier,
     led: Led<'_, '_>,
 ) -> Result<Reply, OutOfMemory>
-    ensures { IfOk result (λ reply. IsDoneWith
+    ensures ends { IfOk result (λ reply. IsDoneWith
         (orders_text dossier.now.groups led.entry.last.orders)
         reply.exit reply.text.items) }
+    ensures always { dossier.now.groups ≡ [] → IsOk result }
 {
     let called = led.into_orders().orders.as_slice();
     Ok(done(orders_text(alloc, dossier.groups.as_slice(), called)?))

@@ -1,10 +1,11 @@
 -- The desk that days leave, where one was run, and by which call orders they were run.
-use Rattle.std.specs.Prelude.{◌≡◌, ℕ, Bool, true, false, List, Option, None, Some, Result, Ok, Err, IfOk, nat_lt}
+use Rattle.std.specs.Prelude.{◌≡◌, ℕ, Bool, true, false, List, Option, None, Some, Result, Ok, Err, IfOk, IsOk, nat_lt}
 use Rattle.admit_core.specs.DossierRows.{DossierRows}
 use Rattle.admit_core.specs.declared.ranking.CallOrder.{CallOrder}
 use Rattle.admit_core.specs.declared.records.DayRecord.{DayRecord}
 use Rattle.admit_core.specs.declared.refusal.Refusal.{Refusal}
 use Rattle.desk_day.specs.DeskStates.{DeskStates}
+use Rattle.played.specs.Lent.{Lent, Untold}
 use Rattle.played.specs.PlayedDays.{Played, first_desk}
 
 -- a desk, and the call orders by which its days are run
@@ -39,3 +40,8 @@ pub record EndsBy (orders : List CallOrder) (number : ℕ) (IsPlayed : Played �
     (days : List DayRecord) (end : Result DeskLeft Refusal) : Type 0 where
   pub plays : IsPlayed (record { orders = orders; days = days; end = desk_in end })
   pub left : IfOk end (IsLeftBy orders number)
+
+-- a run for which no day is asked always has an outcome, and asks no picker
+pub record IsUnasked {X E : Type 0} (before after : Lent) (result : Result X E) : Type 0 where
+  pub always : IsOk result
+  pub untold : Untold before after

@@ -3,8 +3,8 @@ ghost use Rattle.std.specs.Prelude.{◌≡◌, ◌≤◌, ◌<◌, false, [], �
 ghost use Rattle.admit_core.specs.CallOrder.{AreCallOrders};
 ghost use Rattle.admit_core.specs.Lapses.{AreTermsFor};
 ghost use Rattle.played.specs.KeptDays.{IsPlayedKept, PlaysDaysKept};
-ghost use Rattle.played.specs.LastDesks.{EndsBy};
-ghost use Rattle.played.specs.Lent.{AreBack, AreThere, Untold, lent};
+ghost use Rattle.played.specs.LastDesks.{EndsBy, IsUnasked};
+ghost use Rattle.played.specs.Lent.{AreBack, AreThere, lent};
 ghost use Rattle.played.specs.PlayedDays.{IsPlayed, first_desk};
 
 use crate::day::next_day;
@@ -143,8 +143,8 @@ pub fn play<'a, 'd>(
     ensures there { AreThere pickers.new }
     ensures back { AreBack (lent (λ p. told p) (λ p. choice p) pickers.old)
         (lent (λ p. told p) (λ p. choice p) pickers.new) }
-    ensures idle { number ≡ 0 → Untold (lent (λ p. told p) (λ p. choice p) pickers.old)
-        (lent (λ p. told p) (λ p. choice p) pickers.new) }
+    ensures idle { number ≡ 0 → IsUnasked (lent (λ p. told p) (λ p. choice p) pickers.old)
+        (lent (λ p. told p) (λ p. choice p) pickers.new) result }
     ensures ends { IfOk result (λ p. EndsBy orders.now.orders number
         (λ played. IsPlayed dossier.now (option_copied terms.entry) number who
         (lent (λ p. told p) (λ p. choice p) pickers.old) played
@@ -176,8 +176,8 @@ pub fn play_wanted<'a, 'd>(
     ensures there { AreThere pickers.new }
     ensures back { AreBack (lent (λ p. told p) (λ p. choice p) pickers.old)
         (lent (λ p. told p) (λ p. choice p) pickers.new) }
-    ensures idle { wanted.number ≡ 0 → Untold (lent (λ p. told p) (λ p. choice p) pickers.old)
-        (lent (λ p. told p) (λ p. choice p) pickers.new) }
+    ensures idle { wanted.number ≡ 0 → IsUnasked (lent (λ p. told p) (λ p. choice p) pickers.old)
+        (lent (λ p. told p) (λ p. choice p) pickers.new) result }
     ensures ends { IfOk result (λ p. EndsBy orders.now.orders wanted.number
         (λ played. IsPlayedKept wanted.keeps_falls
         dossier.now (option_copied terms.entry) wanted.number wanted.who

@@ -5,8 +5,8 @@ use Rattle.replay_cli.proofs.Played.{by_orders, can_end_kept, no_days, reply_end
 use Rattle.replay_cli.proofs.answer.play_out.Goals as goal
 
 pub returns-in_err-played-clause-idle : goal.returns-in_err-played-clause-idle
-returns-in_err-played-clause-idle g c = λ idle. c.in_err-played.ensures.idle
-    (c.days_of-number.ensures ∙ no_days c.args.request.now idle.no_day)
+returns-in_err-played-clause-idle g c = λ idle. (c.in_err-played.ensures.idle
+    (c.days_of-number.ensures ∙ no_days c.args.request.now idle.no_day)).untold
 
 pub ending-requires-clause-can : goal.ending-requires-clause-can
 ending-requires-clause-can g c =
@@ -22,7 +22,8 @@ pub returns-clause-back : goal.returns-clause-back
 returns-clause-back g c = back_again _ _ _ c.in_ok-played.ensures.back c.ending.ensures.ends.lends.back
 
 pub returns-clause-idle : goal.returns-clause-idle
-returns-clause-idle g c = untold_idle _ _ _ _ (λ none. c.in_ok-played.ensures.idle (c.days_of-number.ensures ∙ none))
+returns-clause-idle g c =
+    untold_idle _ _ _ _ (λ none. (c.in_ok-played.ensures.idle (c.days_of-number.ensures ∙ none)).untold)
     c.ending.ensures.ends.lends
 
 pub returns-clause-ends : goal.returns-clause-ends
