@@ -1,5 +1,6 @@
 -- The picker that the ending is lent.
-use Rattle.std.proofs.Common.{◌≡◌, ◌∙◌, List, [], Option, None, Some, Result, Ok, Err, IfOk, refl, subst, sym}
+use Rattle.std.proofs.Common.{◌≡◌, ◌∙◌, List, [], Option, None, Some, Result, Ok, Err, IfOk, ap, option_map, refl}
+use Rattle.std.proofs.Common.{subst, sym}
 use Rattle.std.specs.Prelude.{⊤}
 use Rattle.std.proofs.lemmas.List.{append-nil}
 use Rattle.admit_core.specs.declared.ranking.CallOrder.{CallOrder}
@@ -10,12 +11,17 @@ use Rattle.desk_day.specs.DeskStates.{DeskStates}
 use Rattle.played.specs.Lent.{Lent, Untold}
 use Rattle.played.specs.PlayedDays.{Played}
 use Rattle.played.proofs.Naming.{OnlyNamed, back_untouched, each_named}
+use Rattle.request.specs.Modes.{picks_after}
+use Rattle.request.specs.Pickers.{picker_on}
 use Rattle.request.specs.declared.modes.Mode.{Mode}
 use Rattle.request.specs.declared.pickers.PickerName.{PickerName}
+use Rattle.request.specs.declared.request.Request.{Request}
 use Rattle.modes.specs.Asking.{ArePicks, Asked, IsLent, TellsLent, TellsPicks, asked}
-use Rattle.modes.specs.Endings.{EndsAfter, EndsLent, IsEndOf, IsRefusedWith, lines_before}
+use Rattle.modes.specs.Endings.{EndsAfter, EndsLent, IsEndOf, IsRefusedWith, asked_by, lines_before}
 use Rattle.modes.specs.Jobs.{Seen, picker_after}
 use Rattle.modes.specs.declared.reply.Reply.{Reply}
+use Rattle.modes.specs.declared.task.Asking.{Asking}
+use Rattle.modes.specs.declared.task.Asking.TheVariants as askings
 
 -- no picker is asked
 pub nobody_lent : (name : Option PickerName) (pickers : Lent) → IsLent name pickers pickers
@@ -81,7 +87,7 @@ told_nothing : {E : Type 0} (result : Result Reply E) → IfOk result (λ reply.
 told_nothing (Ok reply) = tt
 told_nothing (Err e) = tt
 
-pub ends_unlent : {E : Type 0} (seen : Seen) (played : Played) (desk : DeskStates) (pickers : Lent)
+ends_unlent : {E : Type 0} (seen : Seen) (played : Played) (desk : DeskStates) (pickers : Lent)
     (result : Result Reply E) → None ≡ picker_after seen.request
     → IfOk result (λ reply. IsEndOf seen.request.mode seen played desk reply.exit reply.text.items)
     → EndsAfter (Ok desk) seen played pickers pickers result
@@ -91,6 +97,31 @@ ends_unlent seen played desk pickers result none ends = record {
       (λ reply. TellsLent n (ArePicks seen.request.mode seen played desk) pickers pickers)) none (told_nothing result);
   lends = nobody_lent (picker_after seen.request) pickers;
 }
+
+-- a mode that asks nobody
+pub ends_unasked : {E : Type 0} {seen : Seen} {played : Played} {desk : DeskStates} {pickers : Lent} (mode : Mode)
+    → seen.request.mode ≡ mode → picks_after mode seen.request.days ≡ None → (result : Result Reply E)
+    → IfOk result (λ reply. IsEndOf mode seen played desk reply.exit reply.text.items)
+    → EndsAfter (Ok desk) seen played pickers pickers result
+ends_unasked {seen = seen} {played = played} {desk = desk} {pickers = pickers} mode is none result ends =
+    let who = picker_on seen.request.picker in
+    let nobody = ap (λ (m : Mode). option_map who (picks_after m seen.request.days)) is ∙ ap (option_map who) none in
+    ends_unlent seen played desk pickers result (sym nobody)
+    (subst (λ (m : Mode). IfOk result (λ reply. IsEndOf m seen played desk reply.exit reply.text.items)) (sym is) ends)
+
+-- a mode that asks somebody
+pub asks_some : (asking : Asking) (request : Request) → request.mode ≡ asked_by asking
+    → picker_after request ≡ None → ⊥
+asks_some (askings.Beds school) request is none =
+    let who = picker_on request.picker in
+    let some : Some (who request.days) ≡ None =
+    sym (ap (λ (m : Mode). option_map who (picks_after m request.days)) is) ∙ none in
+    absurd (cc (some))
+asks_some askings.Market request is none =
+    let who = picker_on request.picker in
+    let some : Some (who 1) ≡ None =
+    sym (ap (λ (m : Mode). option_map who (picks_after m request.days)) is) ∙ none in
+    absurd (cc (some))
 
 -- the days were cut short, and nobody is asked after them
 untold_after : {E : Type 0} (pickers : Lent) (result : Result Reply E) → IfOk result (λ reply. Untold pickers pickers)

@@ -1,5 +1,6 @@
 -- How a run over a job ends, by its mode.
 use Rattle.std.specs.Prelude.{◌≡◌, ℕ, Bool, List, [], ◌++◌, All, IfOk, IfSome, Result, Ok, Err, length}
+use Rattle.std.specs.Option.{option_copied}
 use Rattle.admit_core.specs.CallOrder.{AreCallOrders}
 use Rattle.admit_core.specs.Days.{first_evening}
 use Rattle.admit_core.specs.declared.refusal.Refusal.{Refusal}
@@ -25,13 +26,25 @@ use Rattle.modes.specs.Blocked.{blocked_text}
 use Rattle.modes.specs.Checking.{IsChecked}
 use Rattle.modes.specs.Explained.{IsExplained}
 use Rattle.modes.specs.Market.{TellsMarket}
-use Rattle.modes.specs.Jobs.{Seen, days_of, dossier, picker_after, seen_of, terms_of}
+use Rattle.modes.specs.Jobs.{Seen, days_of, dossier, picker_after, seen_by, seen_of, terms_of}
 use Rattle.modes.specs.Order.{orders_text}
 use Rattle.modes.specs.Replay.{CanBeDated, CanBeWritten, days_text, replay_text}
 use Rattle.modes.specs.declared.exit.Exit.{Exit}
 use Rattle.modes.specs.declared.exit.Exit.TheVariants.{Done, Refused}
 use Rattle.modes.specs.declared.led.Led.{Led}
 use Rattle.modes.specs.declared.reply.Reply.{Reply}
+use Rattle.modes.specs.declared.task.Asking.{Asking}
+use Rattle.modes.specs.declared.task.Asking.TheVariants as asking
+use Rattle.modes.specs.declared.task.Task.{Task}
+
+-- what the modes see of what a run is to do
+abbrev pub seen_in : Task → Seen
+seen_in task = seen_by task.request.now task.input.now (option_copied task.dated)
+
+-- the mode that asks something of a picker
+abbrev pub asked_by : Asking → Mode
+asked_by (asking.Beds school) = Beds school
+asked_by asking.Market = Market
 
 -- what was played where all days have led to a desk
 abbrev pub led_by : Led → Played
@@ -125,6 +138,16 @@ pub record EndsAfter {E : Type 0} (end : Result DeskStates Refusal) (seen : Seen
   pub ends : IfOk result (λ reply. EndsWith end seen played reply.exit reply.text.items)
   pub tells : IfOk result (λ reply. TellsAfter end seen played between after)
   pub lends : IsLent (picker_after seen.request) between after
+
+-- the same of what a run is to do, and of days that led to a desk
+abbrev pub CanEndLed : Task → Led → Type 0
+CanEndLed task led = CanBeEnded (seen_in task) (led_by led) led.last.desk
+
+abbrev pub LendsLed : {E : Type 0} → Task → Led → Asked → Asked → Result Reply E → Type 0
+LendsLed task led = EndsLent (seen_in task) (led_by led) led.last.desk
+
+abbrev pub EndsLed : {E : Type 0} → Task → Led → Lent → Lent → Result Reply E → Type 0
+EndsLed task led = EndsAfter (Ok led.last.desk) (seen_in task) (led_by led)
 
 -- a job's days were played with these pickers, and the run ends by its mode, with the pickers as
 -- they stand between the two

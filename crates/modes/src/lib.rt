@@ -18,6 +18,7 @@ mod order;
 mod replay;
 mod reply;
 mod sample;
+mod task;
 mod unproved;
 
 pub use endings::ending;

@@ -6,5 +6,6 @@ use Rattle.modes.proofs.endings.cut_short.Goals as goal
 
 pub days_text-requires : goal.days_text-requires
 days_text-requires c =
-    subst (λ (days : List DayRecord). All (CanBeWritten c.args.input.now.dossier (option_copied c.args.dated)) days)
+    subst (λ (days : List DayRecord). All (CanBeWritten c.args.task.now.input.now.dossier
+    (option_copied c.args.task.now.dated)) days)
     (sym c.as_slice.ensures.value) c.requires

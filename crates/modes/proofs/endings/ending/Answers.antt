@@ -5,8 +5,8 @@ use Rattle.modes.proofs.Lending.{ends_by_orders, ends_cut_short}
 use Rattle.modes.proofs.OnDesks.{ends_led_by, written}
 use Rattle.modes.proofs.endings.ending.Goals as goal
 
-pub ended_by-requires-clause-can : goal.ended_by-requires-clause-can
-ended_by-requires-clause-can g c =
+pub ended-requires-clause-can : goal.ended-requires-clause-can
+ended-requires-clause-can g c =
     let same = subst (λ (e : Result DeskLeft Refusal). IfOk e (λ last. last.orders ≡ c.args.orders.now.orders))
     c.in-Ok.is c.requires.by_orders in
     ends_led_by _ _ _ _ _ _ c.requires.can (ap desk_in c.in-Ok.is) same
@@ -15,7 +15,7 @@ pub returns-in-Ok-clause-ends : goal.returns-in-Ok-clause-ends
 returns-in-Ok-clause-ends g c =
     let same = subst (λ (e : Result DeskLeft Refusal). IfOk e (λ last. last.orders ≡ c.args.orders.now.orders))
     c.in-Ok.is c.requires.by_orders in
-    ends_by_orders _ _ _ _ _ _ _ _ c.ended_by.result (ap desk_in c.in-Ok.is) same c.ended_by.ensures.ends
+    ends_by_orders _ _ _ _ _ _ _ _ c.ended.result (ap desk_in c.in-Ok.is) same c.ended.ensures.ends
 
 pub cut_short-requires : goal.cut_short-requires
 cut_short-requires g c = (written _ _ c.requires.can).0

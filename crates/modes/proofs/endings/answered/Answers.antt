@@ -1,0 +1,40 @@
+use Rattle.std.proofs.Common.{◌≡◌, ◌∙◌, ap, arith, length, subst}
+use Rattle.std.specs.Prelude.{if◌then◌else◌}
+use Rattle.intake.specs.Input.{NamesIn}
+use Rattle.request.specs.Modes.{runs_days}
+use Rattle.request.specs.declared.modes.Mode.{Mode}
+use Rattle.request.specs.declared.modes.Mode.TheVariants.{Beds, Market}
+use Rattle.modes.specs.Endings.{asked_by}
+use Rattle.modes.proofs.Lending.{ends_lent_by}
+use Rattle.modes.proofs.endings.answered.Goals as goal
+
+pub needed-requires-clause-named : goal.needed-requires-clause-named
+needed-requires-clause-named g c =
+    subst (λ (m : Mode). NamesIn m c.args.task.now.input.now.index) (c.requires.asks ∙ ap asked_by c.in-Beds.is)
+    c.requires.can.named
+
+pub needed-requires-clause-desk : goal.needed-requires-clause-desk
+needed-requires-clause-desk g c = c.requires.can.last
+
+pub needed-requires-clause-some_day : goal.needed-requires-clause-some_day
+needed-requires-clause-some_day g c =
+    let request = c.args.task.now.request.now in
+    let number : length c.args.led.days.items ≡ request.days =
+    c.requires.can.number
+    ∙ ap (λ (m : Mode). if runs_days m then request.days else 0) (c.requires.asks ∙ ap asked_by c.in-Beds.is) in
+    omega (arith, number, c.requires.can.request.some_day)
+
+pub matched-requires : goal.matched-requires
+matched-requires g c = c.requires.can.called
+
+pub returns-in-Beds : goal.returns-in-Beds
+returns-in-Beds g c =
+    let ends = c.needed.ensures in
+    ends_lent_by ends.early ends.choice (Beds c.in-Beds.school) (c.requires.asks ∙ ap asked_by c.in-Beds.is)
+    c.needed.result ends.text ends.picks
+
+pub returns-in-Market : goal.returns-in-Market
+returns-in-Market g c =
+    let ends = c.matched.ensures in
+    ends_lent_by ends.early ends.choice Market (c.requires.asks ∙ ap asked_by c.in-Market.is) c.matched.result
+    ends.text ends.picks

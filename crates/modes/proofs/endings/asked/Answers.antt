@@ -1,0 +1,25 @@
+use Rattle.std.proofs.Common.{◌∙◌, Some, ap, sym}
+use Rattle.played.proofs.Naming.{only_first, only_last, only_turn}
+use Rattle.request.specs.declared.pickers.PickerName.TheVariants.{First, Last, Turn}
+use Rattle.modes.proofs.Lending.{asks_some, ends_lent}
+use Rattle.modes.proofs.endings.asked.Goals as goal
+
+pub unreachable-requires : goal.unreachable-requires
+unreachable-requires g c =
+    absurd (asks_some c.args.asking c.args.task.now.request.now c.requires.asks
+    (sym c.picker_after.ensures ∙ c.in_default.is))
+
+pub returns-in-First-clause-ends : goal.returns-in-First-clause-ends
+returns-in-First-clause-ends g c =
+    ends_lent _ _ _ _ _ c.lent.result First c.lent.ensures.ends (only_first _ _ _ _ _ _)
+    (ap Some (sym c.in-First.is) ∙ sym c.in-Some.is ∙ c.picker_after.ensures)
+
+pub returns-in-Last-clause-ends : goal.returns-in-Last-clause-ends
+returns-in-Last-clause-ends g c =
+    ends_lent _ _ _ _ _ c.lent-in-Last.result Last c.lent-in-Last.ensures.ends (only_last _ _ _ _ _ _)
+    (ap Some (sym c.in-Last.is) ∙ sym c.in-Some.is ∙ c.picker_after.ensures)
+
+pub returns-in-Turn-clause-ends : goal.returns-in-Turn-clause-ends
+returns-in-Turn-clause-ends g c =
+    ends_lent _ _ _ _ _ c.lent-in-Turn.result Turn c.lent-in-Turn.ensures.ends (only_turn _ _ _ _ _ _)
+    (ap Some (sym c.in-Turn.is) ∙ sym c.in-Some.is ∙ c.picker_after.ensures)
