@@ -60,8 +60,8 @@ def topics(program: str) -> dict[str, list[Checks]]:
                      *given(answered.check_random)],
         "tabled": [tabled.check_lycee, tabled.check_names, tabled.check_other_wishes, tabled.check_long_ids,
                    *given(tabled.check_queues), tabled.check_ids_stay],
-        "whys": [whys.check_lycee, whys.check_by_hand, whys.check_lost_record, whys.check_answerer,
-                 whys.check_stopped, *given(whys.check_campaigns)],
+        "whys": [whys.check_lycee, whys.check_by_hand, whys.check_lost_record, whys.check_other_wishes,
+                 whys.check_answerer, whys.check_stopped, *given(whys.check_campaigns)],
     }
 
 

@@ -104,6 +104,19 @@ def check_lost_record(tally: Tally) -> None:
             tally.check(f"{told.decode()}", told in ended.output, ended)
 
 
+def check_other_wishes(tally: Tally) -> None:
+    """What the record of a day says of a number is not told of somebody who had another wish on that day."""
+    tally.begin("why, wishes that changed hands between two days")
+    with scratch() as place:
+        folder = made(place, ())
+        wishes = folder / "wishes.csv"
+        wishes.write_text(wishes.read_text().replace("\n1,1,1,1,0\n", "\n4,1,1,1,0\n").replace("\n4,3,", "\n1,3,"))
+        run(TOOLS / "next_day", folder)
+        ended = why(folder, "V06", "V07")
+        for told in (b"It was accepted before day 2.", b"refused its offer before day 2,"):
+            tally.check(told.decode(), told in ended.output, ended)
+
+
 def check_answerer(tally: Tally) -> None:
     """Who ranks their wishes and accepted one in person is told what the automatic answerer does for them."""
     tally.begin("why, accepted in person by somebody who ranks their wishes")

@@ -69,7 +69,8 @@ class Evening:
         held = self.last.before.get(wish, WAITS)
         for day, later in zip(self.days[-2::-1], self.days[:0:-1]):
             # What changed between two records, by hand or on a day whose record is gone, is told as before the later.
-            if day.after.get(wish, WAITS).status != held.status:
+            # So is all that is older than the wishes of the last day: the number may have been another's.
+            if day.after.get(wish, WAITS).status != held.status or not day.had_wishes_of(self.last):
                 return Moment(self.day(later.number), is_before=True), 0
             if day.before.get(wish, WAITS).status != held.status:
                 return Moment(self.day(day.number)), day.last_passes.get(wish, 0)
