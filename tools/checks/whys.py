@@ -72,6 +72,13 @@ def check_refusals(tally: Tally, folder: Path) -> None:
     ended = why(folder, "V14")
     tally.check("a broken record", ended.status == 3 and "is not as next_day wrote it" in ended.complaint, ended)
     report.write_bytes(whole)
+    ids = (folder / "ids.csv").read_bytes()
+    (folder / "ids.csv").write_bytes(ids.replace(b"E01", b"E0x").replace(b"E02", b"E01").replace(b"E0x", b"E02"))
+    for tool, word in (("why", "V01"), ("tables", folder.parent / "other")):
+        ended = run(TOOLS / tool, folder, word)
+        tally.check(f"{tool}: ids that changed", ended.status == 3 and "ids.csv changed" in ended.complaint, ended)
+    (folder / "ids.csv").write_bytes(ids)
+    tally.equal("ids that were put back", why(folder, "V01").status, 0)
     (folder / "programmes.csv").write_text((folder / "programmes.csv").read_text() + "\n")
     ended = why(folder, "V01")
     tally.check("a slot that changed", ended.status == 3 and "programmes.csv changed" in ended.complaint, ended)

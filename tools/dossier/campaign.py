@@ -29,6 +29,7 @@ CALENDAR = "campaign.csv"
 CHANGING = ("state.csv", "answers.csv", "ceilings.csv")
 LASTING = tuple(slot.file for slot in SLOTS if slot.file not in CHANGING)
 CHECKSUMS = "slots.sha256"
+IDS, IDS_CHECKSUM = "ids.csv", "ids.sha256"
 STAGING = ".day-"
 FINAL = b"final\n"
 REFUSAL = re.compile(rb"refused (?P<slot>[a-z]+) row (?P<row>[0-9]+) reason .*")
@@ -88,6 +89,12 @@ def checksums(folder: Path) -> bytes:
         return "".join(f"{checksum(folder / name)}  {name}\n" for name in LASTING).encode()
     except OSError as error:
         raise unread(error) from None
+
+
+def ids_checksum(folder: Path) -> bytes:
+    """The same line for the table of ids, where there is one."""
+    ids = folder / IDS
+    return f"{checksum(ids)}  {IDS}\n".encode() if ids.is_file() else b""
 
 
 def slots_changed(sums: bytes, earlier: bytes) -> list[str]:
@@ -274,6 +281,8 @@ def make_record(folder: Path, files: Files, calendar: Calendar, kept: Path) -> R
             raise Stopped(program.READ_FAULT, "a file of the dossier changed while the day was run; the day is not "
                                               "made, call again.")
         record = record_of(report, sums, files, calendar)
+        if ids := ids_checksum(folder):
+            write_file(staging / IDS_CHECKSUM, ids)
         write_record(staging, record)
         os.rename(staging, kept)
         settle(kept.parent)

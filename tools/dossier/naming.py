@@ -5,12 +5,11 @@ from collections.abc import Iterable
 from dataclasses import dataclass
 from pathlib import Path
 
-from .campaign import Stopped
+from .campaign import IDS, Stopped
 from .headers import fold
 from .program import READ_FAULT
 from .slots import Thing
 
-IDS = "ids.csv"
 NUMBER = "number"
 KINDS = tuple(Thing)
 HEADER = (NUMBER, *(thing.value for thing in KINDS))

@@ -10,7 +10,8 @@ from functools import cached_property
 from pathlib import Path
 from typing import NamedTuple
 
-from .campaign import CALENDAR, CHANGING, CHECKSUMS, LASTING, Stopped, checksums, slots_changed, unread
+from .campaign import (CALENDAR, CHANGING, CHECKSUMS, IDS, IDS_CHECKSUM, LASTING, Stopped, checksums, ids_checksum,
+                       slots_changed, unread)
 from .dating import Calendar
 from .faults import shown
 from .program import READ_FAULT
@@ -118,12 +119,14 @@ class KeptDay:
 
     @cached_property
     def checksums(self) -> bytes:
-        """The checksums of the slots that do not change from day to day, as they were for this one."""
-        return (self.folder / CHECKSUMS).read_bytes()
+        """The checksums of the slots that do not change from day to day, as they were for this one, and of the table
+        of ids."""
+        ids = self.folder / IDS_CHECKSUM
+        return (self.folder / CHECKSUMS).read_bytes() + (ids.read_bytes() if ids.is_file() else b"")
 
     def had_wishes_of(self, other: "KeptDay") -> bool:
-        """Whether the wishes were the same on the other day: a number of a wish may have changed hands meanwhile."""
-        return WISHES.file not in slots_changed(self.checksums, other.checksums)
+        """Whether the wishes and the ids were the same on the other day: a number may have changed hands meanwhile."""
+        return {WISHES.file, IDS}.isdisjoint(slots_changed(self.checksums, other.checksums))
 
     @cached_property
     def offers(self) -> list[tuple[int, int]]:
@@ -152,8 +155,8 @@ class KeptDay:
             yield number, word, rest
 
     def test_slots(self, dossier: Path) -> None:
-        """The slots that do not change from day to day must be as they were for this one."""
-        changed = slots_changed(checksums(dossier), self.checksums)
+        """The slots that do not change from day to day, and the ids, must be as they were for this one."""
+        changed = slots_changed(self.checksums, checksums(dossier) + ids_checksum(dossier))
         if changed:
             raise Stopped(READ_FAULT, f"{', '.join(changed)} changed since day {self.number} was made, so what the "
                                       "program said of that day cannot be told; put it back as it was, or make the "
