@@ -26,8 +26,9 @@ PROGRAMME = Text("programme", "formation")
 SCHOOL = Text("boarding school", "internat")
 OFFERS = Text("offers of day", "propositions du jour")
 BARS = Text("bars", "barres")
-CHANGED = Text("The wishes have changed since: of the offers of day {days} the tables name the wish alone.",
-               "Les vœux ont changé depuis : des propositions du jour {days}, les tableaux ne nomment que le vœu.")
+CHANGED = Text("The wishes or ids have changed since: of the offers of day {days} the tables name the wish alone.",
+               "Les vœux ou les identifiants ont changé depuis : des propositions du jour {days}, les tableaux ne "
+               "nomment que le vœu.")
 WRITTEN = Text("{count} tables of the evening of day {day} are in {folder}.",
                "{count} tableaux du soir du jour {day} sont dans {folder}.")
 
