@@ -115,9 +115,10 @@ def check_long_ids(tally: Tally) -> None:
     """Ids of any length, and of letters that take four bytes each, make names of files."""
     tally.begin("tables, long ids")
     with scratch() as place:
-        folder = made(place, ())
+        folder = made(place)
         ids = folder / "ids.csv"
         ids.write_text(ids.read_text().replace("MPSI", "\U0001d49c" * 90).replace("Nord", "n" * 300))
+        run(TOOLS / "next_day", folder)
         ended = tables(folder, place / "out", "--lang", "en")
         names = sorted(path.name for path in (place / "out").iterdir()) if ended.status == 0 else []
         is_there = {name[:11] for name in names} >= {"boarding-sc", "programme-\U0001d49c"}
