@@ -44,7 +44,7 @@ module _ (orders : List CallOrder) (ceilings : List ℕ) (day : ℕ) (choice : L
   told_along k s told told_after (p ∷ ps) is =
       tells_from told (told ++ schools_of p.pass.falls) told_after (schools_of p.pass.falls) refl
       (told_along (k + 1) (closing s orders p.pass.bars (stamp_of day k))
-          (told ++ schools_of p.pass.falls) told_after ps
+      (told ++ schools_of p.pass.falls) told_after ps
       is.3)
 
   pub told_more : (s : State) (told told_after : List ℕ)
