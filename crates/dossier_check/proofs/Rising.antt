@@ -1,5 +1,6 @@
 -- Numbers of which each is greater than the one before it.
-use Rattle.std.proofs.Common.{◌≡◌, ℕ, ◌+◌, ◌<◌, suc, Bool, true, false, nat_eq, nat_le, nat_lt, List, [], ◌∷◌, Less, get_or}
+use Rattle.std.proofs.Common.{◌≡◌, ℕ, ◌+◌, ◌<◌, suc, Bool, true, false, nat_eq, nat_le, nat_lt, List, [], ◌∷◌, Less}
+use Rattle.std.proofs.Common.{get_or}
 use Rattle.std.proofs.Common.{length, map, refl, subst, sym, arith}
 use Rattle.std.specs.List.{IsDistinct, IsAllAdjacentAnswer}
 use Rattle.std.specs.List.Sorted.{IsStrictlySortedBy}

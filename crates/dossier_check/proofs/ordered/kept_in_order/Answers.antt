@@ -23,7 +23,8 @@ returns-clause-fault c there =
     let h = c.in_ok-apart in
     let moved : IsPermutation t.wishes rows =
     subst (λ xs. IsPermutation xs rows) c.as_slice.ensures
-    (subst (IsPermutation c.as_slice.result.now) (sym c.as_slice-rows.ensures.value) (subst (IsPermutation _) (sym c.in_ok-ordered.ensures.rows) (IsPermutation-sorted_by _ _))) in
+    (subst (IsPermutation c.as_slice.result.now) (sym c.as_slice-rows.ensures.value)
+    (subst (IsPermutation _) (sym c.in_ok-ordered.ensures.rows) (IsPermutation-sorted_by _ _))) in
     let ok : c.scanned.result ≡ Ok c.in-Some.tests = rw c.in-Some.is at c.in_ok-tests-2.ensures in
     no_fault_moved t t.wishes rows moved
     (sym (found_others t rows h.apart.wishes h.apart.preferences _ h.ensures.wishes h.ensures.preferences
@@ -36,10 +37,12 @@ returns-clause-candidates c =
     let rows = c.as_slice-rows.result.now in
     let moved : IsPermutation t.wishes rows =
     subst (λ xs. IsPermutation xs rows) c.as_slice.ensures
-    (subst (IsPermutation c.as_slice.result.now) (sym c.as_slice-rows.ensures.value) (subst (IsPermutation _) (sym c.in_ok-ordered.ensures.rows) (IsPermutation-sorted_by _ _))) in
+    (subst (IsPermutation c.as_slice.result.now) (sym c.as_slice-rows.ensures.value)
+    (subst (IsPermutation _) (sym c.in_ok-ordered.ensures.rows) (IsPermutation-sorted_by _ _))) in
     let ok : c.scanned.result ≡ Ok c.in-Some.tests = rw c.in-Some.is at c.in_ok-tests-2.ensures in
     let seen = rw ok at c.scanned.ensures.seen in
     let firsts : AreFirstWishes (get nat_eq c.in_ok-by_file.field-0.firsts) rows =
-    subst (λ m. AreFirstWishes (get nat_eq m) rows) (sym (c.in_ok-by_file.ensures ∙ c.kept_in-kept.ensures)) seen.1.1.0.0 in
+    subst (λ m. AreFirstWishes (get nat_eq m) rows)
+    (sym (c.in_ok-by_file.ensures ∙ c.kept_in-kept.ensures)) seen.1.1.0.0 in
     candidates_moved (get nat_eq c.in_ok-by_file.field-0.firsts) t.wishes rows moved
     (kept_candidates (get nat_eq c.in_ok-by_file.field-0.firsts) rows firsts)
