@@ -2,12 +2,13 @@
 ghost use Rattle.std.specs.Prelude.{◌≡◌, ◌<◌, length};
 ghost use Rattle.admit_core.specs.CallOrder.{AreCallOrders};
 
-use crate::tables::{call_orders_of, ceilings_of};
+use crate::tables::call_orders_of;
 use crate::views::push_view;
 use admit_core::{CallOrders, Dossier, OutOfMemory, Steps};
 use bar_fixpoint::Falling;
 use day_state::DayState;
 use demand::{PlainRound, proposed};
+use desk_day::own_ceilings;
 use linked_demand::{Lineup, LinkedRound};
 use round::bars_of;
 use std::alloc::Global;
@@ -149,7 +150,7 @@ fn seen_alike<L: Ledger>(
 /// What is seen in a dossier on its first day, if both rounds answer alike.
 pub(crate) fn seen_of(alloc: Global, dossier: &Dossier) -> Result<Option<Seen>, OutOfMemory> {
     let orders = call_orders_of(alloc, dossier)?;
-    let ceilings = ceilings_of(alloc, dossier)?;
+    let ceilings = own_ceilings(alloc, dossier)?;
     let state = DayState::begin(alloc, dossier)?;
     seen_alike::<Brand>(alloc, Blank::new(1), &state, &orders, &ceilings)
 }

@@ -1,14 +1,16 @@
 //! Looks at worked dossiers, and prints a line for each thing that is looked at: whether it is as
 //! its file says. The bars fall in the plain and in the linked system of boarding schools side by
-//! side, which must answer alike from fall to fall; the tables of next mornings are made; and
-//! chains of a first day are tested. Its words are the names of the files.
+//! side, which must answer alike from fall to fall; the tables of next mornings are made; chains of
+//! a first day are tested; and single calls of passes and days are made. Its words are the names of
+//! the files.
 //!
-//! `worked_dossiers dossiers.txt mornings.txt chains.txt`
+//! `worked_dossiers dossiers.txt mornings.txt chains.txt calls.txt`
 #![tactic(auto)]
 
 ghost use Rattle.std.specs.Prelude.{◌<◌};
 
 mod alike;
+mod calls;
 mod chains;
 mod mornings;
 mod tables;
@@ -16,6 +18,7 @@ mod views;
 
 use admit_core::InFault;
 use alike::{Seen, seen_of};
+use calls::called_in;
 use case_file::{Section, Slots, sections, slot_named};
 use chains::verdict_in;
 use dossier_check::check;
@@ -105,6 +108,11 @@ fn take_other(
         }
         "verdict" => {
             let seen = verdict_in(alloc, slots);
+            Ok(Some(seen_line(alloc, name, section.line, &seen, text)?))
+        }
+        "pass" | "run_day" | "run_dated_day" | "make_morning" | "auto_one" | "envy_list" => {
+            let number = section.words.parse::<u32>().unwrap_or(0);
+            let seen = called_in(alloc, slots, section.name, number);
             Ok(Some(seen_line(alloc, name, section.line, &seen, text)?))
         }
         other => match slot_named(other) {

@@ -1,5 +1,5 @@
 //! Dossiers from the bytes of their slots.
-ghost use Rattle.std.specs.Prelude.{◌≡◌, length, IfOk};
+ghost use Rattle.std.specs.Prelude.{IfOk};
 ghost use Rattle.admit_core.specs.CallOrder.{AreCallOrders};
 ghost use Rattle.admit_core.specs.Ranges.{AreTables};
 
@@ -43,12 +43,4 @@ pub(crate) fn call_orders_of(alloc: Global, dossier: &Dossier) -> Result<CallOrd
 {
     let groups = dossier.groups.as_slice();
     call_orders(alloc, groups)
-}
-
-/// The own ceilings of a dossier's schools.
-pub(crate) fn ceilings_of(alloc: Global, dossier: &Dossier) -> Result<Vec<u32>, OutOfMemory>
-    ensures { IfOk result (λ v. length v.items ≡ length dossier.now.schools) }
-{
-    let schools = dossier.schools.as_slice();
-    Ok(schools.iter().map(|school| school.ceiling).collect(alloc)?)
 }

@@ -5,8 +5,20 @@ use bar_fixpoint::Falling;
 use std::alloc::Global;
 use std::fmt::Write;
 
+/// The number of the school at a place; 0 past the last.
+pub(crate) fn school_id(dossier: &Dossier, place: u32) -> u32 {
+    match dossier.schools.as_slice().get(place as usize) {
+        Some(school) => school.id,
+        None => 0,
+    }
+}
+
 /// The numbers of the wishes at these places.
-fn push_wishes(text: &mut String, dossier: &Dossier, places: &[u32]) -> Result<(), OutOfMemory> {
+pub(crate) fn push_wishes(
+    text: &mut String,
+    dossier: &Dossier,
+    places: &[u32],
+) -> Result<(), OutOfMemory> {
     for place in places {
         if let Some(wish) = dossier.wishes.as_slice().get(*place as usize) {
             write!(text, " {}", wish.id)?;
