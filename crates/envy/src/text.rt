@@ -1,22 +1,13 @@
 //! The lines of blocks.
 ghost use Rattle.std.specs.Prelude.{◌≡◌, ◌<◌, [], All, IfOk, IsOk, flat_map, length};
-ghost use Rattle.report.specs.Ids.{wish_id};
 ghost use Rattle.report.specs.Pushes.{Pushes};
 ghost use Rattle.report.specs.Words.{further};
 ghost use Rattle.envy.specs.Text.{block_line, envied_words, envy_text};
 
 use crate::blocks::Block;
 use admit_core::{Dossier, OutOfMemory};
-use report::{Piece, push_all, push_text};
+use report::{Piece, push_all, push_text, wish_id};
 use std::alloc::{AllocError, Global};
-
-/// The id of the wish at a place.
-fn wish_id(dossier: &Dossier, place: u32) -> u32
-    requires { place < length dossier.now.wishes }
-    ensures { result ≡ wish_id dossier.now place }
-{
-    dossier.wishes.as_slice()[place as usize].id
-}
 
 /// Adds the end of a line: who is envied, where somebody is.
 fn push_envied(text: &mut String, envied: Option<u32>) -> Result<(), AllocError>

@@ -4,8 +4,8 @@ ghost use Rattle.std.specs.List.Sorted.{IsNonDecreasingBy, IsPartitionPoint};
 ghost use Rattle.day_state.specs.Spans.{IsWithin, part_of};
 ghost use Rattle.linked_demand.specs.Claims.{IsSpanOf, begins_at, lower_before};
 
-use crate::rising::first_not_below;
 use day_state::{Span, part};
+use proposals::first_not_below;
 use std::marker::Model;
 
 /// The first place in a rising list of candidates that is above this one, from the first place that

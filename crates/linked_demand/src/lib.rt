@@ -29,7 +29,6 @@ mod open_wishes;
 mod opening;
 mod over;
 mod overfilled;
-mod rising;
 mod roster;
 mod round;
 mod rows;

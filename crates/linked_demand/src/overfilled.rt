@@ -2,9 +2,9 @@
 ghost use Rattle.std.specs.Prelude.{◌≡◌, ◌<◌, None, length, replicate, slice_index_or, slice_set, IfOk};
 ghost use Rattle.linked_demand.specs.Listed.{answered};
 
-use crate::rising::first_not_below;
 use admit_core::OutOfMemory;
 use place_queue::PlaceQueue;
+use proposals::first_not_below;
 use std::alloc::Global;
 use std::marker::Model;
 

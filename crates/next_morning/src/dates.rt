@@ -2,13 +2,13 @@
 ghost use Rattle.std.specs.Prelude.{◌≡◌, ◌<◌, IfOk, length};
 ghost use Rattle.calendar.specs.Dates.{IsCivil, date_of};
 ghost use Rattle.dossier_csv.specs.Columns.{since_of};
-ghost use Rattle.report.specs.DayText.{date_on};
-ghost use Rattle.report.specs.FinalText.{HasDate, HasDates, offer_day_at};
+ghost use Rattle.report.specs.FinalText.{HasDate, HasDates};
 ghost use Rattle.text_laws.specs.ReadBack.{dated_rows, since_when};
 
 use admit_core::{OutOfMemory, Since, StateRow, Status, Terms};
-use calendar::{Civil, on_day, parts};
+use calendar::{Civil, parts};
 use day_state::DayState;
+use report::offer_date;
 use std::alloc::Global;
 
 /// A date, as a row of the state has it.
@@ -17,23 +17,6 @@ fn since_of(date: Civil) -> Since
 {
     let (year, month, day) = parts(date);
     Since { year, month, day }
-}
-
-/// The date of the offer of the wish at a place, which is offered.
-fn offer_date(evening: &DayState<'_>, start: Civil, terms: &Terms, place: u32) -> Civil
-    requires start { IsCivil start }
-    requires place { place < length evening.now.dossier.wishes }
-    requires before { place < length terms.now.before }
-    requires date { IsCivil (date_on start (offer_day_at evening.now terms.now.before place)) }
-    ensures { result ≡ date_on start (offer_day_at evening.now terms.now.before place) }
-{
-    let stamp = evening.stamp(place);
-    let day = if stamp.day > 0 {
-        stamp.day as i32
-    } else {
-        terms.before.as_slice()[place as usize]
-    };
-    on_day(start, day)
 }
 
 /// Since when the wish at a place is offered; none where it is not.

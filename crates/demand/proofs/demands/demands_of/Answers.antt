@@ -13,7 +13,8 @@ returns-clause-firsts c =
 pub returns-clause-proposed : goal.returns-clause-proposed
 returns-clause-proposed c = λ orders bars are.
     let by_place = demands_in c.args.state.now c.args.places.now c.args.school in
-    let firsts : dedup same_rank c.sort_by_rank.new.items.items ≡ firsts_by_rank by_place = rw (← c.in_ok-demands.ensures.demands)
+    let firsts : dedup same_rank c.sort_by_rank.new.items.items ≡ firsts_by_rank by_place =
+    rw (← c.in_ok-demands.ensures.demands)
     (firsts_are c.in_ok-demands.demands.items c.sort_by_rank.new.items.items c.sort_by_rank.ensures.moved
     c.in_ok-sort_by_rank.ensures.rises c.in_ok-sort_by_rank.ensures.stable) in
     c.keep_firsts.ensures ∙ firsts
