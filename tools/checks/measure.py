@@ -20,7 +20,8 @@ SIZES = (10_000, 100_000)
 LEAST_SIZE, MOST_SIZE, MOST_DAYS = 100, 1_000_000, 366
 LONGEST = 600.0
 HEAD = ("dossier", "candidates", "rows", "run", "s", "MB", "times wc -l", "s grow", "MB grow")
-STAND_IN = '#!/bin/sh\nprintf %s "$GLIBC_TUNABLES"\n'
+SET = ("GLIBC_TUNABLES", "LD_BIND_NOW")
+STAND_IN = "#!/bin/sh\nprintenv " + " ".join(SET) + "\n"
 
 
 @dataclass(frozen=True)
@@ -58,7 +59,7 @@ class Task:
 
 
 def surroundings(folder: Path) -> dict[str, str]:
-    """How the script `parcours` has the C library allocate in this folder, asked of the script itself."""
+    """How the script `parcours` has the C library start and allocate in this folder, asked of the script itself."""
     with scratch() as tree:
         shutil.copy(TOP / "parcours", tree)
         (tree / "tools").mkdir()
@@ -66,7 +67,8 @@ def surroundings(folder: Path) -> dict[str, str]:
         (tree / "installed").touch()
         (tree / "program").write_text(STAND_IN)
         (tree / "program").chmod(0o755)
-        return {"GLIBC_TUNABLES": run(tree / "parcours", "order", folder=folder).output.decode()}
+        given = run(tree / "parcours", "order", folder=folder).output.decode().splitlines()
+        return dict(zip(SET, given, strict=True))
 
 
 def make(kind: str, candidates: int, place: Path) -> Made:

@@ -86,9 +86,10 @@ def check_start(tally: Tally) -> None:
         for length, threshold in ((0, 8 << 20), (LARGE, 32 << 20)):
             with (folder / "rankings.csv").open("wb") as file:
                 file.truncate(length)
-            given = surroundings(folder)["GLIBC_TUNABLES"].split(":")
+            given = surroundings(folder)
             expected = ["glibc.malloc.hugetlb=1", f"glibc.malloc.mmap_threshold={threshold}"]
-            tally.equal(f"rankings of {length} bytes", given[:2], expected)
+            tally.equal(f"rankings of {length} bytes", given["GLIBC_TUNABLES"].split(":")[:2], expected)
+            tally.equal("symbols are bound at once", given["LD_BIND_NOW"], "1")
 
 
 def columns(folder: Path, slot: str) -> list[dict[str, str]]:
