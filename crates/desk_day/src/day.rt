@@ -10,7 +10,7 @@ ghost use Rattle.desk_day.specs.DayPlaces.{AreWishesOf};
 ghost use Rattle.desk_day.specs.KeptDays.{EndsDayKept, kept_day};
 ghost use Rattle.desk_day.specs.RunDay.{EndsDay, IsDayDone};
 ghost use Rattle.desk_day.specs.Running.{IsUndone, moment_on};
-ghost use Rattle.round.specs.KeptFalls.{IsKeptOf};
+ghost use Rattle.round.specs.KeptFalls.{IsKeptOf, are_kept};
 
 use crate::desk::{Desk, keep_evening};
 use crate::evening::record_day;
@@ -25,6 +25,7 @@ use admit_core::{DayRecord, Lapse, Terms};
 use bar_fixpoint::Picker;
 use day_state::DayState;
 use linked_demand::Roster;
+use round::Falls;
 use std::alloc::Global;
 
 /// Runs a day, with its lapse where terms are given, along a roster of the desk's dossier, which
@@ -51,13 +52,12 @@ pub fn run_day_along(
         ceilings,
         terms,
         day,
-        keeps_falls: true,
+        falls: Falls::Kept,
     };
     run_day_by(alloc, desk, roster, plan, picker)
 }
 
-/// Runs a day as [`run_day_along`] does, by a plan. Where the plan keeps no falls, the record has
-/// none, and the day takes no memory for them.
+/// Runs a day as [`run_day_along`] does, by a plan.
 pub fn run_day_by(
     alloc: Global,
     desk: &mut Desk<'_>,
@@ -70,8 +70,8 @@ pub fn run_day_by(
     requires before { AreTermsFor desk.old.present.dossier (option_copied plan.terms) }
     requires day { IsDayNumber plan.day }
 
-    ensures { EndsDayKept plan.entry.keeps_falls (option_copied plan.entry.terms) roster.now.orders
-        plan.entry.ceilings.now plan.entry.day
+    ensures { EndsDayKept (are_kept plan.entry.falls) (option_copied plan.entry.terms)
+        roster.now.orders plan.entry.ceilings.now plan.entry.day
         (record { desk = desk.old; told = told picker.old; choice = choice picker.old })
         (record { desk = desk.new; told = told picker.new; choice = choice picker.new }) result }
 {
@@ -108,7 +108,7 @@ impl Running<'_> {
         requires before { AreTermsFor self.old.present.dossier (option_copied plan.terms) }
         requires day { IsDayNumber plan.day }
 
-        ensures done { IfOk result (IsKeptOf (kept_day plan.entry.keeps_falls) (λ done.
+        ensures done { IfOk result (IsKeptOf (kept_day (are_kept plan.entry.falls)) (λ done.
             IsDayDone (option_copied plan.entry.terms) roster.now.orders plan.entry.ceilings.now
             plan.entry.day
             (moment_on self.old self.old.present (told picker.old) (choice picker.old)) done

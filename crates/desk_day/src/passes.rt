@@ -10,7 +10,7 @@ ghost use Rattle.desk_day.specs.DayPasses.{TellsOfPasses, offered_along};
 ghost use Rattle.desk_day.specs.DayPlaces.{AreWishesOf};
 ghost use Rattle.desk_day.specs.KeptDays.{ArePassesPicked, IsPassPicked, kept_end};
 ghost use Rattle.desk_day.specs.Running.{opening_after};
-ghost use Rattle.round.specs.KeptFalls.{IsKeptOf};
+ghost use Rattle.round.specs.KeptFalls.{IsKeptOf, are_kept};
 
 use crate::changes::{answered_changes, changes_beside};
 use crate::once::ask_beside;
@@ -40,7 +40,7 @@ impl Running<'_> {
         requires roster { roster.now.dossier ≡ self.old.present.dossier }
         requires ceilings { length plan.ceilings.now ≡ length self.old.present.dossier.schools }
 
-        ensures made { IfOk result (λ ends. IsKeptOf (map (kept_end plan.entry.keeps_falls))
+        ensures made { IfOk result (λ ends. IsKeptOf (map (kept_end (are_kept plan.entry.falls)))
             (ArePassesPicked roster.now.orders plan.entry.ceilings.now plan.entry.day
             self.old.present (choice picker.old) (told picker.old) (told picker.new) self.new)
             ends.items) }
@@ -85,7 +85,7 @@ impl Running<'_> {
         requires roster { roster.now.dossier ≡ self.old.present.dossier }
         requires ceilings { length plan.ceilings.now ≡ length self.old.present.dossier.schools }
 
-        ensures made { IfOk result (IsKeptOf (kept_end plan.entry.keeps_falls)
+        ensures made { IfOk result (IsKeptOf (kept_end (are_kept plan.entry.falls))
             (IsPassPicked roster.now.orders plan.entry.ceilings.now stamp self.old.present
             (choice picker.old) (told picker.old) (told picker.new) self.new)) }
         ensures early { OnErr result (TellsOfFalls
@@ -105,7 +105,7 @@ impl Running<'_> {
             plan.ceilings,
             stamp,
             picker,
-            plan.keeps_falls,
+            plan.falls,
         )?;
         let offers = pass.offers.as_slice();
         ask_beside(&mut self.beside, &self.present, offers, is_answered)?;

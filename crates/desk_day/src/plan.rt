@@ -1,6 +1,7 @@
 //! How a day is run.
 
 use admit_core::Terms;
+use round::Falls;
 
 /// How a day is run, and what is kept of it.
 #[derive(Clone, Copy)]
@@ -11,6 +12,6 @@ pub struct DayPlan<'a> {
     pub terms: Option<&'a Terms>,
     /// The day's number, from 1.
     pub day: u32,
-    /// Whether the record has the falls of its passes, each with the wishes that it names.
-    pub keeps_falls: bool,
+    /// What the record has of the falls of its passes.
+    pub falls: Falls,
 }

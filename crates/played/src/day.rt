@@ -6,7 +6,7 @@ ghost use Rattle.desk_day.specs.KeptDays.{kept_result};
 ghost use Rattle.played.specs.Lent.{AreThere, choice_in, lent, told_in};
 ghost use Rattle.played.specs.OneDay.{DayEndsWith};
 ghost use Rattle.played.specs.PlayedDays.{EndsNext};
-ghost use Rattle.round.specs.KeptFalls.{IsKeptOf};
+ghost use Rattle.round.specs.KeptFalls.{IsKeptOf, are_kept};
 
 use crate::pickers::Pickers;
 use crate::wanted::Wanted;
@@ -15,6 +15,7 @@ use bar_fixpoint::Picker;
 use desk_day::{DayPlan, DayRefusal, Desk, ceilings_on, run_day_by};
 use linked_demand::Roster;
 use request::{PickerName, picker_on};
+use round::Falls;
 use std::alloc::Global;
 
 /// Runs a day under its own ceilings, with this picker.
@@ -24,14 +25,14 @@ fn run_with(
     roster: &Roster<'_, '_>,
     terms: Option<&Terms>,
     day: u32,
-    keeps_falls: bool,
+    falls: Falls,
     picker: &mut dyn Picker,
 ) -> Result<DayRecord, DayRefusal>
     requires roster { roster.now.dossier ≡ desk.old.present.dossier }
     requires terms { AreTermsFor desk.old.present.dossier (option_copied terms) }
     requires day { IsDayNumber day }
 
-    ensures { IsKeptOf (kept_result keeps_falls)
+    ensures { IsKeptOf (kept_result (are_kept falls))
         (DayEndsWith roster.now.orders (option_copied terms.entry) day
         (record { desk = desk.old; told = told picker.old; choice = choice picker.old })
         (record { desk = desk.new; told = told picker.new; choice = choice picker.new })) result }
@@ -43,7 +44,7 @@ fn run_with(
         ceilings: &ceilings,
         terms,
         day,
-        keeps_falls,
+        falls,
     };
     run_day_by(alloc, desk, roster, plan, picker)
 }
@@ -55,7 +56,7 @@ fn run_lent(
     roster: &Roster<'_, '_>,
     terms: Option<&Terms>,
     day: u32,
-    keeps_falls: bool,
+    falls: Falls,
     place: &mut Option<Box<dyn Picker>>,
 ) -> Result<DayRecord, DayRefusal>
     requires roster { roster.now.dossier ≡ desk.old.present.dossier }
@@ -64,7 +65,7 @@ fn run_lent(
     requires there { IsSome place.old }
 
     ensures there { IsSome place.new }
-    ensures ends { IsKeptOf (kept_result keeps_falls)
+    ensures ends { IsKeptOf (kept_result (are_kept falls))
         (DayEndsWith roster.now.orders (option_copied terms.entry) day
         (record {
           desk = desk.old;
@@ -80,9 +81,20 @@ fn run_lent(
     let Some(mut picker) = place.take() else {
         unreachable!()
     };
-    let done = run_with(alloc, desk, roster, terms, day, keeps_falls, &mut *picker);
+    let done = run_with(alloc, desk, roster, terms, day, falls, &mut *picker);
     *place = Some(picker);
     done
+}
+
+/// What the records of these days have of the falls.
+fn falls_in(wanted: Wanted) -> Falls
+    ensures { are_kept result ≡ wanted.keeps_falls }
+{
+    if wanted.keeps_falls {
+        Falls::Kept
+    } else {
+        Falls::LeftOut
+    }
 }
 
 /// Runs a day with the picker of the day; an answer that does not fit leaves the evening before.
@@ -110,10 +122,10 @@ pub(crate) fn next_day(
         desk.old (lent (λ p. told p) (λ p. choice p) pickers.old) whole
         desk.new (lent (λ p. told p) (λ p. choice p) pickers.new)) result }
 {
-    let keeps = wanted.keeps_falls;
+    let falls = falls_in(wanted);
     match picker_on(wanted.who, day) {
-        PickerName::First => run_lent(alloc, desk, roster, terms, day, keeps, &mut pickers.first),
-        PickerName::Last => run_lent(alloc, desk, roster, terms, day, keeps, &mut pickers.last),
-        PickerName::Turn => run_lent(alloc, desk, roster, terms, day, keeps, &mut pickers.turn),
+        PickerName::First => run_lent(alloc, desk, roster, terms, day, falls, &mut pickers.first),
+        PickerName::Last => run_lent(alloc, desk, roster, terms, day, falls, &mut pickers.last),
+        PickerName::Turn => run_lent(alloc, desk, roster, terms, day, falls, &mut pickers.turn),
     }
 }

@@ -1,5 +1,5 @@
 -- Passes that keep their falls, and passes that keep none.
-use Rattle.std.specs.Prelude.{◌≡◌, ℕ, Bool, List, [], ◌++◌, if◌then◌else◌}
+use Rattle.std.specs.Prelude.{◌≡◌, ℕ, Bool, true, false, List, [], ◌++◌, if◌then◌else◌}
 use Rattle.admit_core.specs.declared.ranking.CallOrder.{CallOrder}
 use Rattle.admit_core.specs.declared.records.Fall.{Fall}
 use Rattle.admit_core.specs.declared.records.PassRecord.{PassRecord}
@@ -11,6 +11,13 @@ use Rattle.admit_core.specs.State.{State}
 use Rattle.bar_fixpoint.specs.Chosen.{AreChosen, IsRunBy}
 use Rattle.bar_fixpoint.specs.Runs.{schools_of}
 use Rattle.round.specs.PassLaws.{KeepsPassLaws}
+use Rattle.round.specs.declared.falls.Falls.{Falls}
+use Rattle.round.specs.declared.falls.Falls.TheVariants.{Kept, LeftOut}
+
+-- whether the falls are kept
+abbrev pub are_kept : Falls → Bool
+are_kept Kept = true
+are_kept LeftOut = false
 
 -- all falls where they are kept, and none elsewhere
 abbrev pub kept_falls : Bool → List Fall → List Fall

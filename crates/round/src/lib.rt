@@ -5,9 +5,11 @@
 #![tactic(auto)]
 
 mod bars;
+mod falls;
 mod laws;
 mod one_pass;
 
 pub use bars::bars_of;
+pub use falls::Falls;
 pub use laws::laws_of_passes;
 pub use one_pass::{pass, pass_along, pass_keeping};

@@ -5,11 +5,12 @@ ghost use Rattle.admit_core.specs.CallOrder.{AreCallOrders};
 ghost use Rattle.admit_core.specs.Days.{IsPass, offered};
 ghost use Rattle.admit_core.specs.Falls.{IsGreatest};
 ghost use Rattle.bar_fixpoint.specs.Chosen.{EndsEarly, TellsOfFalls};
-ghost use Rattle.round.specs.KeptFalls.{AreKeptOfRun, IsKeptOf, IsPassBy, IsPassOffered, kept_pass};
+ghost use Rattle.round.specs.KeptFalls.{AreKeptOfRun, IsKeptOf, IsPassBy, IsPassOffered, are_kept, kept_pass};
 ghost use Rattle.round.specs.PassLaws.{KeepsPassLaws};
 ghost use Rattle.round.specs.Picks.{PicksFalls};
 
 use crate::bars::bars_of;
+use crate::falls::Falls;
 use admit_core::{CallOrders, Fall, OutOfMemory, PassRecord, Sequence, Stamp, Steps};
 use bar_fixpoint::{Falling, Picker, greatest, settle};
 use day_state::DayState;
@@ -69,11 +70,10 @@ pub fn pass_along(
     // Memory ran out: nothing was offered, but the picker may have told of schools by then.
     ensures refused { OnErr result (state.new ≡ state.old) }
 {
-    pass_keeping(alloc, state, roster, ceilings, stamp, picker, true)
+    pass_keeping(alloc, state, roster, ceilings, stamp, picker, Falls::Kept)
 }
 
-/// Makes a pass as [`pass_along`] does. Where its falls are not kept, nobody whom they name is
-/// listed, and it takes no memory for them: the record has no falls then.
+/// Makes a pass as [`pass_along`] does, and keeps its falls or leaves them out.
 pub fn pass_keeping(
     alloc: Global,
     state: &mut DayState<'_>,
@@ -81,12 +81,12 @@ pub fn pass_keeping(
     ceilings: &[u32],
     stamp: Stamp,
     picker: &mut dyn Picker,
-    keeps_falls: bool,
+    falls: Falls,
 ) -> Result<PassRecord, OutOfMemory>
     requires same { roster.now.dossier ≡ state.old.dossier }
     requires ceilings { length ceilings.now ≡ length state.old.dossier.schools }
 
-    ensures pass { IfOk result (IsKeptOf (kept_pass keeps_falls)
+    ensures pass { IfOk result (IsKeptOf (kept_pass (are_kept falls))
         (IsPassOffered state.old state.new roster.now.orders ceilings.now stamp
         (choice picker.old) (told picker.old) (told picker.new))) }
     ensures early { OnErr result (TellsOfFalls (boarding state.old roster.now.orders ceilings.now)
@@ -98,7 +98,7 @@ pub fn pass_keeping(
     let _ = &dossier.wishes; // learns that the dossier is valid
     let _ = roster.orders(); // these are the dossier's
     let blank = Blank::new(1);
-    let found = find::<Brand>(alloc, blank, state, roster, ceilings, picker, keeps_falls)?;
+    let found = find::<Brand>(alloc, blank, state, roster, ceilings, picker, falls)?;
     state.offer_all(found.offers.as_slice(), stamp);
     Ok(found)
 }
@@ -111,7 +111,7 @@ fn find<L: Ledger>(
     roster: &Roster<'_, '_>,
     ceilings: &[u32],
     picker: &mut dyn Picker,
-    keeps_falls: bool,
+    falls: Falls,
 ) -> Result<PassRecord, OutOfMemory>
     requires name { blank.name ≡ L.name }
     requires parts { blank.parts ≡ L.parts }
@@ -119,7 +119,7 @@ fn find<L: Ledger>(
     requires same { roster.now.dossier ≡ state.now.dossier }
     requires ceilings { length ceilings.now ≡ length state.now.dossier.schools }
 
-    ensures pass { IfOk result (IsKeptOf (kept_pass keeps_falls)
+    ensures pass { IfOk result (IsKeptOf (kept_pass (are_kept falls))
         (IsPassBy state.now roster.now.orders ceilings.now
         (choice picker.old) (told picker.old) (told picker.new))) }
     ensures early { OnErr result (TellsOfFalls (boarding state.now roster.now.orders ceilings.now)
@@ -128,7 +128,7 @@ fn find<L: Ledger>(
 {
     let mut steps: Steps<L> = Steps::new(blank);
     let mut round = roster.begin_round(alloc, state, ceilings)?;
-    let falls = lower(alloc, &mut round, picker, &mut steps, keeps_falls)?;
+    let falls = lower(alloc, &mut round, picker, &mut steps, falls)?;
     let bars = bars_of(alloc, &round)?;
     let offers = round.proposed(alloc)?;
     Ok(PassRecord {
@@ -144,22 +144,24 @@ fn lower<F: Falling, L: Ledger>(
     system: &mut F,
     picker: &mut dyn Picker,
     steps: &mut Steps<L>,
-    keeps_falls: bool,
+    falls: Falls,
 ) -> Result<Vec<Fall>, OutOfMemory>
     requires { F.bars system.old ≡ (F.system system.old).ceilings }
 
     ensures greatest { OnOk result (IsGreatest (F.system system.old) (F.bars system.new)) }
-    ensures run { IfOk result (λ falls. AreKeptOfRun keeps_falls (F.system system.old)
-        (choice picker.old) (told picker.old) (told picker.new) (F.bars system.new) falls.items) }
+    ensures run { IfOk result (λ kept. AreKeptOfRun (are_kept falls) (F.system system.old)
+        (choice picker.old) (told picker.old) (told picker.new) (F.bars system.new) kept.items) }
     ensures early { OnErr result (EndsEarly (F.system system.old) (choice picker.old)
         (told picker.old) (told picker.new) (F.bars system.new)) }
     ensures same { F.system system.new ≡ F.system system.old }
     ensures offers { F.offers system.new ≡ F.offers system.old }
     ensures choice { choice picker.new ≡ choice picker.old }
 {
-    if keeps_falls {
-        return greatest(alloc, system, picker, steps);
+    match falls {
+        Falls::Kept => greatest(alloc, system, picker, steps),
+        Falls::LeftOut => {
+            settle(alloc, system, picker, steps)?;
+            Ok(Vec::new(alloc))
+        }
     }
-    settle(alloc, system, picker, steps)?;
-    Ok(Vec::new(alloc))
 }

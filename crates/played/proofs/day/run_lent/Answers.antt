@@ -1,7 +1,7 @@
 use Rattle.std.proofs.Common.{subst}
 use Rattle.std.specs.Option.{option_copied}
 use Rattle.desk_day.specs.KeptDays.{kept_result}
-use Rattle.round.specs.KeptFalls.{IsKeptOf}
+use Rattle.round.specs.KeptFalls.{IsKeptOf, are_kept}
 use Rattle.played.specs.OneDay.{DayEndsWith}
 use Rattle.played.proofs.day.run_lent.Goals as goal
 
@@ -9,7 +9,7 @@ pub returns-clause-ends : goal.returns-clause-ends
 returns-clause-ends g c =
     rw (← c.in-Some.ensures.value)
     (subst
-    (λ p. IsKeptOf (kept_result c.args.keeps_falls)
+    (λ p. IsKeptOf (kept_result (are_kept c.args.falls))
     (DayEndsWith c.args.roster.now.orders (option_copied c.args.terms) c.args.day
     (record {
       desk = c.args.desk.now;

@@ -1,10 +1,13 @@
+use Rattle.std.proofs.Common.{ap}
+use Rattle.round.specs.KeptFalls.{are_kept}
 use Rattle.round.proofs.KeptFalls.{all_kept, none_kept}
 use Rattle.round.proofs.one_pass.lower.Goals as goal
 
-pub returns-then-keeps_falls-clause-run : goal.returns-then-keeps_falls-clause-run
-returns-then-keeps_falls-clause-run g c =
-    all_kept _ _ _ _ _ _ (λ falls. falls.items) c.greatest.result c.if-keeps_falls.true c.greatest.ensures.run
+pub returns-in-Kept-clause-run : goal.returns-in-Kept-clause-run
+returns-in-Kept-clause-run g c =
+    all_kept _ _ _ _ _ _ (λ kept. kept.items) c.greatest.result (ap are_kept c.in-Kept.is) c.greatest.ensures.run
     c.greatest.ensures.bars c.greatest.ensures.told c.greatest.ensures.chosen
 
-pub returns-clause-run : goal.returns-clause-run
-returns-clause-run g c = none_kept _ _ _ _ _ _ _ c.if-keeps_falls.false c.new.ensures.items c.in_ok-settle.ensures.run
+pub returns-in_ok-settle-in-LeftOut-clause-run : goal.returns-in_ok-settle-in-LeftOut-clause-run
+returns-in_ok-settle-in-LeftOut-clause-run g c =
+    none_kept _ _ _ _ _ _ _ (ap are_kept c.in-LeftOut.is) c.new.ensures.items c.in_ok-settle-in-LeftOut.ensures.run

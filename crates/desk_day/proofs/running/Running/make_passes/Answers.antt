@@ -4,7 +4,7 @@ use Rattle.admit_core.proofs.Plain.{on_err}
 use Rattle.admit_core.specs.declared.state.Mark.{Mark}
 use Rattle.admit_core.specs.DossierRows.{DossierRows}
 use Rattle.admit_core.specs.State.{State}
-use Rattle.round.specs.KeptFalls.{IsKeptOf}
+use Rattle.round.specs.KeptFalls.{IsKeptOf, are_kept}
 use Rattle.desk_day.specs.KeptDays.{kept_end}
 use Rattle.desk_day.proofs.KeptPasses.{PickedSoFar, picked_all, picked_fewer, picked_more, picked_none, picked_opening}
 use Rattle.desk_day.proofs.OnePass.{open_at_most}
@@ -23,7 +23,7 @@ passes-init g c =
     let orders = c.args.roster.now.orders in
     let ceilings = c.args.plan.ceilings.now in
     record {
-      so_far = subst (λ (t : State). IsKeptOf (map (kept_end c.args.plan.keeps_falls))
+      so_far = subst (λ (t : State). IsKeptOf (map (kept_end (are_kept c.args.plan.falls)))
           (PickedSoFar orders ceilings c.args.plan.day 1 s t choice told told) c.new-ends.result.items)
           (sym c.open.ensures.present)
           (picked_none _ orders ceilings c.args.plan.day s choice told c.new-ends.result.items

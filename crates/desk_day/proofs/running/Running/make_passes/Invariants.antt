@@ -1,5 +1,5 @@
 use Rattle.std.proofs.Common.{◌≡◌, map}
-use Rattle.round.specs.KeptFalls.{IsKeptOf}
+use Rattle.round.specs.KeptFalls.{IsKeptOf, are_kept}
 use Rattle.desk_day.proofs.KeptPasses.{PickedSoFar}
 use Rattle.desk_day.specs.DayPasses.{open_wishes}
 use Rattle.desk_day.specs.KeptDays.{kept_end}
@@ -10,7 +10,7 @@ invariant-passes g l =
     let first = goal.Picker-dyn g l.fn.picker.now in
     let now = goal.Picker-dyn g l.picker.now in
     record {
-      so_far : IsKeptOf (map (kept_end l.plan.keeps_falls))
+      so_far : IsKeptOf (map (kept_end (are_kept l.plan.falls)))
           (PickedSoFar l.roster.orders l.plan.ceilings.now l.plan.day l.number l.fn.self.present l.self.present
           (first.choice l.fn.picker.now.1) (first.told l.fn.picker.now.1) (now.told l.picker.now.1)) l.ends.items;
       opening : l.self.opening ≡ l.self.present;
