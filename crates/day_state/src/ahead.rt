@@ -30,6 +30,8 @@ pub(crate) struct Ahead<'a> {
     rows: Vec<Placed>,
     /// The place in `rows` of the next one.
     at: usize,
+    /// How many of the next ones stand in turn, and so are not read ahead.
+    in_turn: usize,
 }
 
 impl<'a> Model for Ahead<'a> {
@@ -72,6 +74,15 @@ fn placed_wish(wishes: &[Wish], read: Option<Placed>, place: u32) -> Wish
     }
 }
 
+/// Whether places may stand one behind another: the rows of such are near already. It decides
+/// nothing but the cost.
+fn stand_in_turn(places: &[u32]) -> bool {
+    match (places.first(), places.last()) {
+        (Some(first), Some(last)) => u64::from(last.abs_diff(*first)) + 1 == places.len() as u64,
+        _ => false,
+    }
+}
+
 impl<'a> Ahead<'a> {
     /// Nothing is read yet.
     pub(crate) fn along(
@@ -87,10 +98,11 @@ impl<'a> Ahead<'a> {
             unread: 0,
             rows: Vec::with_capacity(alloc, AT_ONCE)?,
             at: 0,
+            in_turn: 0,
         })
     }
 
-    /// Reads the next wishes of the order.
+    /// Reads the next wishes of the order, where they do not stand in turn.
     fn read_on(&mut self) -> Result<(), OutOfMemory>
         ensures { self.new ≡ self.old }
     {
@@ -100,6 +112,10 @@ impl<'a> Ahead<'a> {
         self.at = 0;
         self.unread = to;
         self.rows.clear();
+        if stand_in_turn(places) {
+            self.in_turn = places.len();
+            return Ok(());
+        }
         read_rows(self.wishes, places, &mut self.rows)
     }
 
@@ -109,8 +125,12 @@ impl<'a> Ahead<'a> {
         ensures wish { IfOk result (λ wish. wish ≡ wish_in self.old place) }
         ensures same { self.new ≡ self.old }
     {
-        if self.rows.len() <= self.at {
+        if self.in_turn == 0 && self.rows.len() <= self.at {
             self.read_on()?;
+        }
+        if self.in_turn > 0 {
+            self.in_turn -= 1;
+            return Ok(wish_at(self.wishes, place));
         }
         let read = self.rows.get(self.at).copied();
         self.at = self.at.saturating_add(1);
