@@ -69,7 +69,9 @@ impl<'d> DayState<'d> {
         let index = Rc::new(alloc, CandidateIndex::build(alloc, dossier)?)?;
         let mut live = CountedMarks::waiting(alloc, dossier, index.order())?;
         for (place, status) in dossier.statuses.as_slice().iter().enumerate() {
-            live.set_other(place as u32, first_mark(*status));
+            if !status.is_waiting() {
+                live.set_other(place as u32, first_mark(*status));
+            }
         }
         Ok(DayState { index, live })
     }
