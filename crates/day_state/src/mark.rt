@@ -123,8 +123,11 @@ pub fn live_preference(wishes: &[Wish], marks: &[Mark], place: u32) -> Option<u3
     requires mark { place < length marks.now }
     ensures { result ≡ live_preference wishes.now marks.now place }
 {
+    if !marks[place as usize].is_live() {
+        return None; // without a look at its row
+    }
     let preference = wishes[place as usize].preference;
-    if marks[place as usize].is_live() && preference > 0 {
+    if preference > 0 {
         Some(preference)
     } else {
         None
