@@ -1,7 +1,8 @@
 -- Reading order. Each file says in its first line what it shows.
 -- One mark: Counting, Places, KeptCounts, Lost, Freeing, Change, SameMarks, Flagged (who waits).
 -- The order by candidate: Ordering, Keys, Runs. A candidate's wishes: Along, Changing, Best, Taking.
--- Bundles, from bottom to top: Numbering (their first wishes), Sharing (which have a count),
+-- Bundles, from bottom to top: Numbering (their first wishes), Laters (the others), Sharing (which
+-- have a count), Ascending, Numbered (how they get their numbers),
 -- Bundled (how many of a bundle are live), Telling (what that tells of its candidate).
 -- Days: OneAccepted, Filled, Lapsing, Answering, Independence (candidates stand apart), and last
 -- FittingLists.
@@ -14,7 +15,10 @@ pub mod Keys
 pub mod Runs
 pub mod Along
 pub mod Numbering
+pub mod Laters
 pub mod Sharing
+pub mod Ascending
+pub mod Numbered
 pub mod Lost
 pub mod Freeing
 pub mod Changing

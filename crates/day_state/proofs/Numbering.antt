@@ -10,7 +10,7 @@ use Rattle.std.proofs.lemmas.Bool.{cases_Bool, cases_eq, eqb-true, eq-eqb, and_p
 use Rattle.std.proofs.lemmas.Bool.{false_from_ne_true, false≢true}
 use Rattle.std.proofs.lemmas.Option.{unwrap_or-slice_get}
 use Rattle.std.proofs.lemmas.List.{length-set, length-replicate, get_or-replicate, get_or-set_same, get_or-set_other}
-use Rattle.std.proofs.lemmas.List.{get_or_default, ext_get_or}
+use Rattle.std.proofs.lemmas.List.{get_or_default}
 use Rattle.std.proofs.lemmas.List.Folds.{list_any_at, Any-from_list_any}
 use Rattle.std.proofs.lemmas.List.FromFn.{length-range_with_len, get_or-range_with_len, length-map-range_with_len}
 use Rattle.std.proofs.lemmas.List.FromFn.{get_or-map-range_with_len}
@@ -18,10 +18,9 @@ use Rattle.admit_core.specs.declared.dossier.Wish.{Wish}
 use Rattle.admit_core.proofs.NextCalls.{find_passes}
 use Rattle.admit_core.proofs.Plain.{any-filter, find_same}
 use Rattle.day_state.specs.declared.bundles.Sites.{Sites}
-use Rattle.day_state.specs.declared.bundles.Sites.TheVariants.{Programmes, Schools}
 use Rattle.day_state.specs.Kept.{candidate_in, wish_in, IsIndex}
 use Rattle.day_state.specs.Bundles.{site_of, is_same, together, number_in, joined, bundle_there, noted, bundle_of}
-use Rattle.day_state.specs.Bundles.{bundles_of, noted_candidate, AreSitesBelow, AreTheirs, AreWithin}
+use Rattle.day_state.specs.Bundles.{bundles_of, noted_candidate, AreSitesBelow, AreTheirs}
 use Rattle.day_state.proofs.Places.{candidate_in as candidate_there}
 use Rattle.day_state.proofs.Along.{among-filter}
 
@@ -34,7 +33,7 @@ some_is_same : (a b : Option ℕ) (n : ℕ) → a ≡ Some n → b ≡ Some n �
 some_is_same a b n p q = rw (p, q) (eq-eqb n n refl)
 
 -- what together says
-together_parts : (sites : Sites) (v w : Wish) → together sites v w ≡ true
+pub together_parts : (sites : Sites) (v w : Wish) → together sites v w ≡ true
     → (w.candidate ≡ v.candidate) × (n : ℕ) × (site_of sites v ≡ Some n) × (site_of sites w ≡ Some n)
 together_parts sites v w e =
     let parts = and_parts (w.candidate == v.candidate) (is_same (site_of sites v) (site_of sites w)) e in
@@ -105,17 +104,8 @@ pub record IsWalked (sites : Sites) (ws : List Wish) (order : List ℕ) (count :
   pub last_at : (h : ℕ) → h < count → LastAt sites ws order i h (number_in last h)
   pub walked : (j : ℕ) → j < i → number_in numbers (slice_index order j) ≡ first_in sites ws order (slice_index order j)
 
-number_none : (n k : ℕ) → k < n → number_in (replicate n None) k ≡ None
+pub number_none : (n k : ℕ) → k < n → number_in (replicate n None) k ≡ None
 number_none n k lt = unwrap_or-slice_get (replicate n None) k None ∙ get_or-replicate n k None None lt
-
-pub walked_none : (sites : Sites) (ws : List Wish) (order : List ℕ) (count : ℕ)
-    → IsWalked sites ws order count (replicate count None) (replicate (length ws) None) 0
-walked_none sites ws order count = record {
-  sites_long = length-replicate count None;
-  long = length-replicate (length ws) None;
-  last_at = λ h lt. rw (number_none count h lt) (λ j j_lt e. absurd (omega arith));
-  walked = λ j j_lt. absurd (omega arith);
-}
 
 candidates_rise : (ws : List Wish) (order : List ℕ) (i j : ℕ) → IsIndex ws order → i ≤ j → j < length order
     → (wish_in ws (slice_index order i)).candidate ≤ (wish_in ws (slice_index order j)).candidate
@@ -162,7 +152,7 @@ joins sites ws order i h (Some f) index lt site last =
           absurd (let yes = eq-eqb (wish_in ws f).candidate (wish_in ws x).candidate same in cc))))
     ]
 
-number_here : (sites : Sites) (ws : List Wish) (order : List ℕ) (count : ℕ) (last numbers : List (Option ℕ)) (i : ℕ)
+pub number_here : (sites : Sites) (ws : List Wish) (order : List ℕ) (count : ℕ) (last numbers : List (Option ℕ)) (i : ℕ)
     (o : Option ℕ) → IsIndex ws order → i < length order
     → IsWalked sites ws order count last numbers i
     → let x = slice_index order i in
@@ -275,23 +265,6 @@ walked_more sites ws order count last numbers new_last new_numbers i o index lt 
     rw (last_is, numbers_is, site)
     (more_walked sites ws order count last numbers i index lt (below x (index.within i 0 lt)) walk)
 
--- what the next step asks
-pub record CanWalkOn (last numbers : List (Option ℕ)) (o : Option ℕ) (x : ℕ) : Type 0 where
-  pub first : x < length numbers
-  pub site : ForSome o (λ h. h < length last)
-
-pub can_walk_on : (sites : Sites) (ws : List Wish) (order : List ℕ) (count : ℕ) (last numbers : List (Option ℕ))
-    (i : ℕ) (o : Option ℕ) → IsIndex ws order → i < length order → AreSitesBelow sites ws count
-    → let x = slice_index order i in
-    o ≡ site_of sites (wish_in ws x) → IsWalked sites ws order count last numbers i → CanWalkOn last numbers o x
-can_walk_on sites ws order count last numbers i o index lt below site walk =
-    let x = slice_index order i in
-    let x_in : x < length ws = index.within i 0 lt in
-    record {
-      first = omega (arith, x_in, walk.long);
-      site = λ h e. omega (arith, below x x_in h (sym site ∙ e), walk.sites_long);
-    }
-
 -- a wish and the first one of its bundle are of one candidate
 joined_candidate : (ws : List Wish) (found : Option ℕ) (place : ℕ)
     → (wish_in ws (joined ws found place)).candidate ≡ (wish_in ws place).candidate
@@ -351,21 +324,8 @@ pub theirs_more : (ws : List Wish) (last : List (Option ℕ)) (candidates : List
 theirs_more ws last candidates new_last new_candidates o place candidate own within are last_is candidates_are =
     rw (last_is, candidates_are) (theirs_noted ws last candidates o place candidate own within are)
 
--- the walk by programme and by school
-pub record AreWalked (ws : List Wish) (order : List ℕ) (programmes schools : ℕ)
-    (last_programmes in_programmes last_schools in_schools : List (Option ℕ)) (i : ℕ) : Type 0 where
-  pub by_programme : IsWalked Programmes ws order programmes last_programmes in_programmes i
-  pub by_school : IsWalked Schools ws order schools last_schools in_schools i
-
-pub walks_begin : (ws : List Wish) (order : List ℕ) (p h : ℕ) (last_p in_p last_h in_h : List (Option ℕ))
-    → last_p ≡ replicate p None → in_p ≡ replicate (length ws) None → last_h ≡ replicate h None
-    → in_h ≡ replicate (length ws) None → AreWalked ws order p h last_p in_p last_h in_h 0
-walks_begin ws order p h last_p in_p last_h in_h last_p_is in_p_is last_h_is in_h_is =
-    rw (last_p_is, in_p_is, last_h_is, in_h_is)
-    (record { by_programme = walked_none Programmes ws order p; by_school = walked_none Schools ws order h })
-
 -- each place stands somewhere in the order
-place_of : (ws : List Wish) (order : List ℕ) (k : ℕ) → IsIndex ws order → k < length ws
+pub place_of : (ws : List Wish) (order : List ℕ) (k : ℕ) → IsIndex ws order → k < length ws
     → (j : ℕ) × (j < length order) × (slice_index order j ≡ k)
 place_of ws order k index lt =
     let q = λ (x : ℕ). candidate_in ws x == candidate_in ws k in
@@ -410,7 +370,7 @@ find_among p q weaker (x ∷ xs) =
     ]
 
 -- the first place in the order is the first place of all
-first_is : (sites : Sites) (ws : List Wish) (order : List ℕ) (k : ℕ) → IsIndex ws order
+pub first_is : (sites : Sites) (ws : List Wish) (order : List ℕ) (k : ℕ) → IsIndex ws order
     → first_in sites ws order k ≡ bundle_of sites ws k
 first_is sites ws order k index =
     let c = candidate_in ws k in
@@ -437,7 +397,7 @@ below_all n i d lt =
     let i_lt : i < n = omega (arith, lt, length-range_with_len 0 n) in
     rw (range_at n i d i_lt) i_lt
 
-bundle_in : (sites : Sites) (ws : List Wish) (k : ℕ) → k < length ws
+pub bundle_in : (sites : Sites) (ws : List Wish) (k : ℕ) → k < length ws
     → number_in (bundles_of sites ws) k ≡ bundle_of sites ws k
 bundle_in sites ws k lt =
     unwrap_or-slice_get (bundles_of sites ws) k None
@@ -455,32 +415,3 @@ bundles_are sites ws =
           (bundles_shared sites ws (range_with_len 0 n) j k
           (k, omega (arith, k_lt, length-range_with_len 0 n), range_at n k 0 k_lt));
     }
-
-bundles_within : (sites : Sites) (ws : List Wish) → AreWithin (bundles_of sites ws)
-bundles_within sites ws k lt b e =
-    let are = bundles_are sites ws in
-    omega (arith, are.as_long, are.within k (omega (arith, lt, are.as_long)) b e)
-
--- a list of the bundles is as long as the wishes, and each bundle is one of them
-pub bundles_fit : (sites : Sites) (ws : List Wish) (firsts : List (Option ℕ)) → firsts ≡ bundles_of sites ws
-    → length ws < 2147483648
-    → (length firsts < 2147483648) × AreWithin firsts
-bundles_fit sites ws firsts are few = rw are (
-  omega (arith, (bundles_are sites ws).as_long, few),
-  bundles_within sites ws,
-)
-
--- at the end all wishes have their bundles
-pub walked_all : (sites : Sites) (ws : List Wish) (order : List ℕ) (count : ℕ) (last numbers : List (Option ℕ))
-    (i : ℕ) → IsIndex ws order → length order ≤ i
-    → IsWalked sites ws order count last numbers i → numbers ≡ bundles_of sites ws
-walked_all sites ws order count last numbers i index le walk =
-    ext_get_or None numbers (bundles_of sites ws)
-    (walk.long ∙ sym (length-map-range_with_len (bundle_of sites ws) 0 (length ws)))
-    (λ k lt.
-    let here : k < length ws = omega (arith, lt, walk.long) in
-    let place = place_of ws order k index here in
-    let is : number_in numbers k ≡ first_in sites ws order k =
-    rw place.2 at (walk.walked place.0 (omega (arith, place.1))) in
-    sym (unwrap_or-slice_get numbers k None) ∙ is ∙ first_is sites ws order k index ∙ sym (bundle_in sites ws k here)
-    ∙ unwrap_or-slice_get (bundles_of sites ws) k None)

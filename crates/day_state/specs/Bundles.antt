@@ -1,11 +1,12 @@
 -- Bundles: the wishes of one candidate in one programme, or in one school.
-use Rattle.std.specs.Prelude.{◌≡◌, ℕ, ◌+◌, ◌<◌, Bool, true, false, not, ◌&&◌, nat_lt, List, length, map, filter, take}
+use Rattle.std.specs.Prelude.{◌≡◌, ℕ, ◌<◌, Bool, true, false, not, ◌&&◌, nat_lt, List, [], ◌∷◌, length, map, filter, take, All, IsTrue}
 use Rattle.std.specs.Prelude.{Option, Some, None, ◌==◌, slice_get, slice_index, slice_set, unwrap_or, if◌then◌else◌}
 use Rattle.std.specs.Option.{ForSome}
 use Rattle.std.specs.List.{find, list_any, range_with_len}
 use Rattle.admit_core.specs.declared.dossier.Wish.{Wish}
 use Rattle.admit_core.specs.declared.state.Mark.{Mark}
 use Rattle.admit_core.specs.State.{State, is_live, is_school}
+use Rattle.day_state.specs.declared.bundle_numbers.Later.{Later}
 use Rattle.day_state.specs.declared.bundles.Sites.{Sites}
 use Rattle.day_state.specs.declared.bundles.Sites.TheVariants.{Programmes, Schools}
 use Rattle.day_state.specs.declared.numbers.Number.{Number}
@@ -44,11 +45,6 @@ abbrev pub AreSitesBelow : Sites → List Wish → ℕ → Type 0
 AreSitesBelow sites ws count =
     (k : ℕ) → k < length ws → ForSome (site_of sites (wish_in ws k)) (λ h. h < count)
 
--- each bundle begins at a place
-abbrev pub AreWithin : List (Option ℕ) → Type 0
-AreWithin bundles =
-    (k : ℕ) → k < length bundles → ForSome (number_in bundles k) (λ b. b < length bundles)
-
 -- the wish at k is in the bundle that begins at b, and is not its first
 abbrev pub is_later : List (Option ℕ) → ℕ → ℕ → Bool
 is_later bundles b k = not (k == b) && is_same (Some b) (number_in bundles k)
@@ -63,10 +59,6 @@ shared_flags bundles = map (is_shared bundles) (range_with_len 0 (length bundles
 -- how many of the first k flags are true
 abbrev pub true_before : List Bool → ℕ → ℕ
 true_before flags k = length (filter (λ b. b) (take k flags))
-
--- that for each place, and for the end
-abbrev pub all_ranks : List Bool → List ℕ
-all_ranks flags = map (true_before flags) (range_with_len 0 (length flags + 1))
 
 -- the number of a bundle of two wishes or more: how many of them begin before it
 abbrev pub rank_of : List (Option ℕ) → ℕ → ℕ
@@ -166,16 +158,35 @@ pub record AreTheirs (ws : List Wish) (last : List (Option ℕ)) (candidates : L
   pub each : (h : ℕ) → h < length last
       → ForSome (number_in last h) (λ b. slice_index candidates h ≡ (wish_in ws b).candidate)
 
--- the flags once the wish at k is known to belong to a bundle
-abbrev pub with_later : List Bool → Option ℕ → ℕ → List Bool
-with_later flags None k = flags
-with_later flags (Some b) k = if b == k then flags else slice_set flags b true
+-- where bundles of two wishes or more begin, ascending
+abbrev pub shared_places : List (Option ℕ) → List ℕ
+shared_places bundles = filter (is_shared bundles) (range_with_len 0 (length bundles))
 
--- the flag at a place
-abbrev pub flag_in : List Bool → ℕ → Bool
-flag_in flags b = unwrap_or (slice_get flags b) false
+-- a wish is in a bundle, and is not its first one
+pub record IsLater (bundles : List (Option ℕ)) (l : Later) : Type 0 where
+  pub within : l.wish < length bundles
+  pub begins : l.first < length bundles
+  pub bundle : number_in bundles l.wish ≡ Some l.first
+  pub other : l.first ≡ l.wish → ⊥
 
--- what flags and ranks tell of a bundle
-abbrev pub numbered : List Bool → List ℕ → Option ℕ → Number
-numbered flags ranks None = NoSite
-numbered flags ranks (Some b) = if flag_in flags b then Shared (slice_index ranks b) else Alone
+-- all such wishes
+pub record AreLaters (bundles : List (Option ℕ)) (laters : List Later) : Type 0 where
+  pub each : All (IsLater bundles) laters
+  pub all : (k b : ℕ) → k < length bundles → number_in bundles k ≡ Some b → (b ≡ k → ⊥)
+      → IsTrue (list_any (λ l. l.wish == k) laters)
+
+-- the wish at a place, where it is one
+abbrev pub later_at : ℕ → Option ℕ → List Later
+later_at k None = []
+later_at k (Some b) = if b == k then [] else record { wish = k; first = b } ∷ []
+
+-- the number of a bundle by its site, while none has a number of its own
+abbrev pub bare_number : Option ℕ → Number
+bare_number None = NoSite
+bare_number (Some site) = Alone
+
+-- the first wish of each bundle of two wishes or more has its number, and all others what they had
+pub record AreFirstsNumbered (bundles : List (Option ℕ)) (old new : List Number) : Type 0 where
+  pub long : length new ≡ length old
+  pub each : (k : ℕ) → k < length bundles → number_at new k
+      ≡ (if is_shared bundles k then Shared (rank_of bundles k) else number_at old k)

@@ -1,14 +1,13 @@
 //! The walks that number the bundles of a dossier's wishes.
-ghost use Rattle.std.specs.Prelude.{◌≡◌, ℕ, ◌<◌, ◌^◌, List, map, length, slice_set, IfOk, replicate, false, None};
+ghost use Rattle.std.specs.Prelude.{◌≡◌, ℕ, ◌<◌, ◌^◌, ◌++◌, List, Option, map, length, IfOk, OnOk, replicate, None};
 ghost use Rattle.admit_core.specs.declared.dossier.Wish.{Wish};
 ghost use Rattle.std.specs.Option.{ForSome};
 ghost use Rattle.day_state.specs.declared.bundles.Sites.TheVariants.{Programmes, Schools};
-ghost use Rattle.day_state.specs.Bundles.{site_of, number_in, AreSitesBelow, AreTheirs, bundles_of, joined, bundle_there, noted, noted_candidate, shared_flags, with_later, AreWithin, all_ranks, flag_in, number_of, numbered};
+ghost use Rattle.day_state.specs.Bundles.{site_of, AreSitesBelow, AreTheirs, bundles_of, joined, bundle_there, noted, noted_candidate, AreLaters, later_at, shared_places, bare_number, AreFirstsNumbered, all_numbers};
 ghost use Rattle.day_state.specs.Kept.{IsIndex, wish_in};
 
 use crate::ahead::Ahead;
 use crate::bundles::Sites;
-use crate::mark::counted;
 use crate::numbers::{Number, Numbers};
 use admit_core::{OutOfMemory, Wish};
 use std::alloc::Global;
@@ -23,11 +22,19 @@ fn site_of(sites: Sites, wish: Wish) -> Option<u32>
     }
 }
 
-/// Of each wish the first one of its bundle, by its programme and by its school.
+/// A wish that is not the first one of its bundle, and that first one.
+#[derive(Clone, Copy)]
+pub struct Later {
+    pub wish: u32,
+    pub first: u32,
+}
+
+/// The later wishes of all bundles, by programme and by school. Most wishes are alone in theirs, so
+/// these are few.
 #[derive(Drop)]
-pub struct Firsts {
-    pub programmes: Vec<Option<u32>>,
-    pub schools: Vec<Option<u32>>,
+pub struct Laters {
+    pub programmes: Vec<Later>,
+    pub schools: Vec<Later>,
 }
 
 /// What came last to each site on a walk: its bundle, and the bundle's candidate. So the walk reads
@@ -49,25 +56,28 @@ fn none_came(alloc: Global, sites: usize) -> Result<Last, OutOfMemory>
     })
 }
 
-/// The first wish of each wish's bundle, which is the first one in an order by candidate. Most of
-/// the time goes into reading the rows in that order, so one walk finds both kinds.
-pub fn firsts_of(
+/// The later wishes of all bundles. The first wish of a bundle is its first one in an order by
+/// candidate. Most of the time goes into reading the rows in that order, so one walk finds both
+/// kinds.
+pub fn laters_of(
     alloc: Global,
     wishes: &[Wish],
     order: &[u32],
     programmes: usize,
     schools: usize,
-) -> Result<Firsts, OutOfMemory>
+) -> Result<Laters, OutOfMemory>
     requires order { IsIndex wishes.now order.now }
     requires programmes { AreSitesBelow Programmes wishes.now programmes }
     requires schools { AreSitesBelow Schools wishes.now schools }
-    ensures programmes { IfOk result (λ f. f.programmes.items ≡ bundles_of Programmes wishes.now) }
-    ensures schools { IfOk result (λ f. f.schools.items ≡ bundles_of Schools wishes.now) }
+    ensures programmes { IfOk result (λ l. AreLaters (bundles_of Programmes wishes.now)
+        l.programmes.items) }
+    ensures schools { IfOk result (λ l. AreLaters (bundles_of Schools wishes.now)
+        l.schools.items) }
 {
     let mut last_programmes = none_came(alloc, programmes)?;
-    let mut in_programmes = no_numbers(alloc, wishes.len())?;
+    let mut in_programmes = Vec::new(alloc);
     let mut last_schools = none_came(alloc, schools)?;
-    let mut in_schools = no_numbers(alloc, wishes.len())?;
+    let mut in_schools = Vec::new(alloc);
     let mut ahead = Ahead::along(alloc, wishes, order)?;
     for place in order {
         let wish = ahead.next(*place)?;
@@ -78,7 +88,7 @@ pub fn firsts_of(
             programme,
             *place,
             wish.candidate,
-        );
+        )?;
         let school = site_of(Sites::Schools, wish);
         walk_on(
             &mut last_schools,
@@ -86,23 +96,23 @@ pub fn firsts_of(
             school,
             *place,
             wish.candidate,
-        );
+        )?;
     }
-    Ok(Firsts {
+    Ok(Laters {
         programmes: in_programmes,
         schools: in_schools,
     })
 }
 
-/// Notes the first wish of the bundle of the wish that comes next in the order.
+/// Notes the bundle of the wish that comes next in the order, and lists the wish where it is not
+/// the first one there.
 fn walk_on(
     last: &mut Last,
-    firsts: &mut Vec<Option<u32>>,
+    laters: &mut Vec<Later>,
     site: Option<u32>,
     place: u32,
     candidate: u32,
-)
-    requires first { place < length firsts.old.items }
+) -> Result<(), OutOfMemory>
     requires site { ForSome site (λ h. h < length last.old.firsts.items) }
     requires long { length last.old.candidates.items ≡ length last.old.firsts.items }
     ensures last { (ws : List Wish) → AreTheirs ws last.old.firsts.items last.old.candidates.items
@@ -110,27 +120,24 @@ fn walk_on(
         ≡ noted last.old.firsts.items site (bundle_there ws last.old.firsts.items site place) }
     ensures candidates { last.new.candidates.items
         ≡ noted_candidate last.old.candidates.items site candidate }
-    ensures firsts { (ws : List Wish) → AreTheirs ws last.old.firsts.items last.old.candidates.items
-        → (wish_in ws place).candidate ≡ candidate → firsts.new.items
-        ≡ slice_set firsts.old.items place (bundle_there ws last.old.firsts.items site place) }
+    ensures laters { (ws : List Wish) → AreTheirs ws last.old.firsts.items last.old.candidates.items
+        → (wish_in ws place).candidate ≡ candidate → OnOk result (laters.new.items
+        ≡ laters.old.items ++ later_at place (bundle_there ws last.old.firsts.items site place)) }
 {
     let first = bundle_there(last, site, place, candidate);
     note(last, site, first, candidate);
-    set_first(firsts, place, first);
+    push_later(laters, place, first)
 }
 
-fn set_first(firsts: &mut Vec<Option<u32>>, place: u32, first: Option<u32>)
-    requires { place < length firsts.old.items }
-    ensures { firsts.new.items ≡ slice_set firsts.old.items place first }
+/// Lists a wish that is not the first one of its bundle.
+fn push_later(laters: &mut Vec<Later>, place: u32, first: Option<u32>) -> Result<(), OutOfMemory>
+    ensures { OnOk result (laters.new.items ≡ laters.old.items ++ later_at place first) }
 {
-    firsts[place as usize] = first;
-}
-
-fn first_at(firsts: &[Option<u32>], place: u32) -> Option<u32>
-    requires { place < length firsts.now }
-    ensures { result ≡ number_in firsts.now place }
-{
-    firsts[place as usize]
+    match first {
+        Some(first) if first != place => laters.push(Later { wish: place, first })?,
+        _ => {}
+    }
+    Ok(())
 }
 
 fn no_numbers(alloc: Global, count: usize) -> Result<Vec<Option<u32>>, OutOfMemory>
@@ -181,87 +188,63 @@ fn note(last: &mut Last, site: Option<u32>, number: Option<u32>, candidate: u32)
     }
 }
 
-/// Whether the bundle that begins at a place has two wishes or more.
-pub fn shared_among(alloc: Global, firsts: &[Option<u32>]) -> Result<Vec<bool>, OutOfMemory>
-    requires few { length firsts.now < 2 ^ 31 }
-    requires within { AreWithin firsts.now }
-    ensures { IfOk result (λ v. v.items ≡ shared_flags firsts.now) }
+/// The first wishes of the bundles that have two wishes or more, ascending.
+pub fn shared_firsts(alloc: Global, laters: &[Later]) -> Result<Vec<u32>, OutOfMemory>
+    ensures { IfOk result (λ v. (bundles : List (Option ℕ)) → AreLaters bundles laters.now
+        → v.items ≡ shared_places bundles) }
 {
-    let mut shared = no_flags(alloc, firsts.len())?;
-    for place in 0..firsts.len() as u32 {
-        note_later(&mut shared, first_at(firsts, place), place);
+    let mut firsts = Vec::with_capacity(alloc, laters.len())?;
+    for later in laters {
+        firsts.push(later.first)?;
     }
-    Ok(shared)
+    firsts.sort_unstable();
+    firsts.dedup();
+    Ok(firsts)
 }
 
-fn no_flags(alloc: Global, count: usize) -> Result<Vec<bool>, OutOfMemory>
-    ensures { IfOk result (λ v. v.items ≡ replicate count false) }
+/// What stands for a bundle by its site, while no bundle has a number.
+fn bare_number(site: Option<u32>) -> Number
+    ensures { result ≡ bare_number site }
 {
-    Ok(vec![in alloc; false; count]?)
-}
-
-/// Flags a bundle that has a wish beside its first.
-fn note_later(shared: &mut Vec<bool>, first: Option<u32>, place: u32)
-    requires { ForSome first (λ b. b < length shared.old.items) }
-    ensures { shared.new.items ≡ with_later shared.old.items first place }
-{
-    match first {
-        Some(first) if first != place => shared[first as usize] = true,
-        _ => {}
+    match site {
+        None => Number::NoSite,
+        Some(_) => Number::Alone,
     }
 }
 
-fn flag_at(flags: &[bool], place: u32) -> bool
-    requires { place < length flags.now }
-    ensures { result ≡ flag_in flags.now place }
+/// The numbers of bundles of which each has one wish.
+pub fn bare_numbers(alloc: Global, sites: Sites, wishes: &[Wish]) -> Result<Numbers, OutOfMemory>
+    ensures { IfOk result (λ n. n ≡ map (λ w. bare_number (site_of sites w)) wishes.now) }
 {
-    flags[place as usize]
-}
-
-/// How many flags before each place are true, and at the end how many there are.
-pub fn ranks_of(alloc: Global, flags: &[bool]) -> Result<Vec<u32>, OutOfMemory>
-    requires { length flags.now < 2 ^ 31 }
-    ensures { IfOk result (λ v. v.items ≡ all_ranks flags.now) }
-{
-    let mut ranks = Vec::with_capacity(alloc, flags.len() + 1)?;
-    let mut rank = 0;
-    for place in 0..flags.len() as u32 {
-        ranks.push(rank)?;
-        rank = counted(rank, false, flag_at(flags, place));
-    }
-    ranks.push(rank)?;
-    Ok(ranks)
-}
-
-/// The number of each wish's bundle.
-pub fn numbers_of(
-    alloc: Global,
-    firsts: &[Option<u32>],
-    shared: &[bool],
-    ranks: &[u32],
-) -> Result<Numbers, OutOfMemory>
-    requires few { length firsts.now < 2 ^ 31 }
-    requires within { AreWithin firsts.now }
-    requires shared { shared.now ≡ shared_flags firsts.now }
-    requires ranks { ranks.now ≡ all_ranks shared.now }
-    ensures { IfOk result (λ n. n ≡ map (number_of firsts.now) firsts.now) }
-{
-    let mut numbers = Numbers::with_capacity(alloc, firsts.len())?;
-    for place in 0..firsts.len() as u32 {
-        numbers.push(number_of(first_at(firsts, place), shared, ranks))?;
+    let mut numbers = Numbers::with_capacity(alloc, wishes.len())?;
+    for wish in wishes {
+        numbers.push(bare_number(site_of(sites, *wish)))?;
     }
     Ok(numbers)
 }
 
-/// The number of a bundle by the place of its first wish.
-fn number_of(first: Option<u32>, shared: &[bool], ranks: &[u32]) -> Number
-    requires shared { ForSome first (λ b. b < length shared.now) }
-    requires ranks { ForSome first (λ b. b < length ranks.now) }
-    ensures { result ≡ numbered shared.now ranks.now first }
+/// Numbers the bundles of two wishes or more, at the first wish of each.
+pub fn number_firsts(numbers: &mut Numbers, sites: Sites, wishes: &[Wish], shared: &[u32])
+    requires few { length wishes.now < 2 ^ 31 }
+    requires long { length numbers.old ≡ length wishes.now }
+    requires shared { shared.now ≡ shared_places (bundles_of sites wishes.now) }
+    ensures { AreFirstsNumbered (bundles_of sites wishes.now) numbers.old numbers.new }
 {
-    match first {
-        None => Number::NoSite,
-        Some(first) if shared[first as usize] => Number::Shared(ranks[first as usize]),
-        Some(_) => Number::Alone,
+    for (number, first) in shared.iter().enumerate() {
+        numbers.set(*first, Number::Shared(number as u32));
+    }
+}
+
+/// Gives the later wishes of each bundle the number of its first one.
+pub fn number_laters(numbers: &mut Numbers, sites: Sites, wishes: &[Wish], laters: &[Later])
+    requires few { length wishes.now < 2 ^ 31 }
+    requires laters { AreLaters (bundles_of sites wishes.now) laters.now }
+    requires firsts { AreFirstsNumbered (bundles_of sites wishes.now)
+        (map (λ w. bare_number (site_of sites w)) wishes.now) numbers.old }
+    ensures { numbers.new ≡ all_numbers sites wishes.now }
+{
+    for later in laters {
+        let number = numbers.get(later.first);
+        numbers.set(later.wish, number);
     }
 }

@@ -1,15 +1,15 @@
 //! Bundles: the wishes of one candidate in one programme, or in one school.
 ghost use Rattle.std.specs.Prelude.{◌≡◌, ◌<◌, ◌≤◌, ◌+◌, ◌^◌, length, slice_index, IfOk, replicate};
 ghost use Rattle.std.specs.Option.{ForSome};
-ghost use Rattle.day_state.specs.Bundles.{AreWithin, number_at, count_of, count_at, numbers_by, shared_by, has_live};
+ghost use Rattle.day_state.specs.Bundles.{AreLaters, all_numbers, bundles_of, number_at, count_of, count_at, has_live, shared_in_all};
 ghost use Rattle.admit_core.specs.State.{is_live};
 ghost use Rattle.day_state.specs.Kept.{mark_in, one_if, recount_some};
 
-use crate::bundle_numbers::{numbers_of, ranks_of, shared_among};
+use crate::bundle_numbers::{Later, bare_numbers, number_firsts, number_laters, shared_firsts};
 use crate::counts::{copy_counts, recount_some, zeros};
 use crate::flagged_marks::FlaggedMarks;
 use crate::numbers::{Number, Numbers};
-use admit_core::OutOfMemory;
+use admit_core::{OutOfMemory, Wish};
 use std::alloc::Global;
 use std::rc::Rc;
 
@@ -37,17 +37,24 @@ pub struct Turn {
 }
 
 impl Bundles {
-    /// The bundles of wishes by the first wish of each one's bundle; none is live.
-    pub fn build(alloc: Global, firsts: &[Option<u32>]) -> Result<Bundles, OutOfMemory>
-        requires few { length firsts.now < 2 ^ 31 }
-        requires within { AreWithin firsts.now }
-        ensures numbers { IfOk result (λ b. b.numbers.value ≡ numbers_by firsts.now) }
-        ensures live { IfOk result (λ b. b.live.items ≡ replicate (shared_by firsts.now) 0) }
+    /// The bundles of wishes by those that are not the first ones of theirs; none is live.
+    pub fn build(
+        alloc: Global,
+        sites: Sites,
+        wishes: &[Wish],
+        laters: &[Later],
+    ) -> Result<Bundles, OutOfMemory>
+        requires few { length wishes.now < 2 ^ 31 }
+        requires laters { AreLaters (bundles_of sites wishes.now) laters.now }
+        ensures numbers { IfOk result (λ b. b.numbers.value ≡ all_numbers sites wishes.now) }
+        ensures live { IfOk result (λ b. b.live.items
+            ≡ replicate (shared_in_all sites wishes.now) 0) }
     {
-        let shared = shared_among(alloc, firsts)?;
-        let ranks = ranks_of(alloc, shared.as_slice())?;
-        let live = zeros(alloc, ranks[firsts.len()] as usize)?;
-        let numbers = numbers_of(alloc, firsts, shared.as_slice(), ranks.as_slice())?;
+        let shared = shared_firsts(alloc, laters)?;
+        let live = zeros(alloc, shared.len())?;
+        let mut numbers = bare_numbers(alloc, sites, wishes)?;
+        number_firsts(&mut numbers, sites, wishes, &shared);
+        number_laters(&mut numbers, sites, wishes, laters);
         Ok(Bundles {
             numbers: Rc::new(alloc, numbers)?,
             live,

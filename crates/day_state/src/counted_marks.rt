@@ -10,8 +10,8 @@ ghost use Rattle.day_state.specs.Along.{change_own, changed_by};
 ghost use Rattle.day_state.specs.Best.{best_among};
 ghost use Rattle.day_state.specs.Kept.{mark_in, lives_at, has_seat_there, has_bed_there, waiting_mark, state_of, IsIndex};
 
-use crate::bundle_numbers::firsts_of;
-use crate::bundles::Bundles;
+use crate::bundle_numbers::laters_of;
+use crate::bundles::{Bundles, Sites};
 use crate::counts::{copy_counts, recount, recount_some, zeros};
 use crate::flagged_marks::FlaggedMarks;
 use crate::mark::{
@@ -65,9 +65,11 @@ impl<'d> CountedMarks<'d> {
         let marks = FlaggedMarks::all_waiting(alloc, wishes.len())?;
         let seats = zeros(alloc, programmes)?;
         let beds = zeros(alloc, schools)?;
-        let firsts = firsts_of(alloc, wishes, order, programmes, schools)?;
-        let in_programmes = Bundles::build(alloc, firsts.programmes.as_slice())?;
-        let in_schools = Bundles::build(alloc, firsts.schools.as_slice())?;
+        let laters = laters_of(alloc, wishes, order, programmes, schools)?;
+        let by_programme = laters.programmes.as_slice();
+        let in_programmes = Bundles::build(alloc, Sites::Programmes, wishes, by_programme)?;
+        let by_school = laters.schools.as_slice();
+        let in_schools = Bundles::build(alloc, Sites::Schools, wishes, by_school)?;
         Ok(CountedMarks {
             dossier,
             marks,

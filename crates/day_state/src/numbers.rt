@@ -1,5 +1,5 @@
 //! The numbers of bundles, in four bytes a wish.
-ghost use Rattle.std.specs.Prelude.{◌≡◌, ◌<◌, ◌++◌, [], ◌∷◌, length, IfOk, OnOk};
+ghost use Rattle.std.specs.Prelude.{◌≡◌, ◌<◌, ◌++◌, [], ◌∷◌, length, slice_set, IfOk, OnOk};
 ghost use Rattle.std.specs.Option.{ForSome};
 ghost use Rattle.day_state.specs.Bundles.{number_at, count_of, unpacked};
 
@@ -65,6 +65,15 @@ impl Numbers {
         ensures { result ≡ number_at self.now wish }
     {
         unpacked(self.packed[wish as usize])
+    }
+
+    /// Gives a wish another number.
+    pub fn set(&mut self, wish: u32, number: Number)
+        requires place { wish < length self.old }
+        requires number { ForSome (count_of number) (λ n. n < 4294967294) }
+        ensures { self.new ≡ slice_set self.old wish number }
+    {
+        self.packed[wish as usize] = packed(number);
     }
 
     /// Gives the next wish its number.

@@ -1,16 +1,15 @@
-use Rattle.std.proofs.Common.{ℕ, List, Option, ◌∙◌, ap, length, replicate, subst, sym}
+use Rattle.std.proofs.Common.{List, ◌∙◌, ap, length, replicate, subst, sym}
 use Rattle.admit_core.specs.declared.dossier.Wish.{Wish}
 use Rattle.admit_core.specs.DossierRows.{DossierRows}
 use Rattle.admit_core.specs.Validity.{IsValid}
 use Rattle.day_state.specs.declared.bundles.Sites.TheVariants.{Programmes, Schools}
-use Rattle.day_state.specs.Bundles.{numbers_by, shared_by}
+use Rattle.day_state.specs.Bundles.{AreLaters, bundles_of}
 use Rattle.day_state.specs.Kept.{IsIndex, state_of, waiting_mark}
 use Rattle.day_state.proofs.Bundled.{few_wishes, keeps_waiting, programme_in, school_in}
-use Rattle.day_state.proofs.Numbering.{bundles_fit}
 use Rattle.day_state.proofs.counted_marks.CountedMarks.waiting.Goals as goal
 
-pub firsts_of-requires : goal.firsts_of-requires
-firsts_of-requires c =
+pub laters_of-requires : goal.laters_of-requires
+laters_of-requires c =
     let wishes = c.as_slice-wishes.ensures ∙ ap (λ (d : DossierRows). d.wishes) c.dossier.view_is in
     let valid = subst IsValid c.dossier.view_is c.dossier.invariant in
     record {
@@ -26,32 +25,31 @@ build-requires c =
     let few = few_wishes c.args.dossier.now c.as_slice-wishes.result.now
     (c.as_slice-wishes.ensures ∙ ap (λ (d : DossierRows). d.wishes) c.dossier.view_is)
     (subst IsValid c.dossier.view_is c.dossier.invariant) in
-    let fit = bundles_fit Programmes c.as_slice-wishes.result.now c.as_slice.result.now
-    (c.as_slice.ensures.value ∙ c.in_ok-firsts.ensures.programmes) few in
-    record { few = fit.0; within = fit.1 }
+    record {
+      few = few;
+      laters = subst (AreLaters (bundles_of Programmes c.as_slice-wishes.result.now))
+          (sym c.as_slice-by_programme.ensures.value) c.in_ok-laters.ensures.programmes;
+    }
 
 pub build-requires-2 : goal.build-requires-2
 build-requires-2 c =
     let few = few_wishes c.args.dossier.now c.as_slice-wishes.result.now
     (c.as_slice-wishes.ensures ∙ ap (λ (d : DossierRows). d.wishes) c.dossier.view_is)
     (subst IsValid c.dossier.view_is c.dossier.invariant) in
-    let fit = bundles_fit Schools c.as_slice-wishes.result.now c.as_slice-2.result.now
-    (c.as_slice-2.ensures.value ∙ c.in_ok-firsts.ensures.schools) few in
-    record { few = fit.0; within = fit.1 }
+    record {
+      few = few;
+      laters = subst (AreLaters (bundles_of Schools c.as_slice-wishes.result.now))
+          (sym c.as_slice-by_school.ensures.value) c.in_ok-laters.ensures.schools;
+    }
 
 pub invariant_of-result : goal.invariant_of-result
 invariant_of-result c =
-    let programmes = c.as_slice.ensures.value ∙ c.in_ok-firsts.ensures.programmes in
-    let schools = c.as_slice-2.ensures.value ∙ c.in_ok-firsts.ensures.schools in
-    let none = λ (firsts : List (Option ℕ)). replicate (shared_by firsts) 0 in
     keeps_waiting c.args.dossier.now c.as_slice-wishes.result.now
     (c.as_slice-wishes.ensures ∙ ap (λ (d : DossierRows). d.wishes) c.dossier.view_is)
     (c.len-programmes.ensures ∙ ap (λ (d : DossierRows). length d.programmes) c.dossier.view_is)
     (c.len-schools.ensures ∙ ap (λ (d : DossierRows). length d.schools) c.dossier.view_is)
-    c.in_ok-marks.ensures c.in_ok-seats.ensures c.in_ok-beds.ensures
-    (c.in_ok-in_programmes.ensures.numbers ∙ ap numbers_by programmes)
-    (c.in_ok-in_programmes.ensures.live ∙ ap none programmes)
-    (c.in_ok-in_schools.ensures.numbers ∙ ap numbers_by schools) (c.in_ok-in_schools.ensures.live ∙ ap none schools)
+    c.in_ok-marks.ensures c.in_ok-seats.ensures c.in_ok-beds.ensures c.in_ok-in_programmes.ensures.numbers
+    c.in_ok-in_programmes.ensures.live c.in_ok-in_schools.ensures.numbers c.in_ok-in_schools.ensures.live
 
 pub returns : goal.returns
 returns c =
