@@ -106,6 +106,7 @@ pub fn laters_of(
 
 /// Notes the bundle of the wish that comes next in the order, and lists the wish where it is not
 /// the first one there.
+#[inline(always)]
 fn walk_on(
     last: &mut Last,
     laters: &mut Vec<Later>,
