@@ -25,36 +25,13 @@ use Rattle.admit_core.specs.DossierRows.{DossierRows, candidate_of}
 use Rattle.admit_core.specs.Lists.{is_among}
 use Rattle.admit_core.specs.OwnWishes.{own_places}
 use Rattle.admit_core.specs.State.{State, status_number}
-use Rattle.admit_core.proofs.Tests.{Ascends, same_members}
+use Rattle.admit_core.proofs.Tests.{same_members}
 use Rattle.day_state.specs.Kept.{mark_in}
+use Rattle.day_state.proofs.Ascending.{ascends_from, range_rises}
 use Rattle.auto_answer.specs.Laws.{SameOthers}
 use Rattle.desk_day.specs.Changes.{is_answered_change, answered_changes, wishes_beside}
 use Rattle.desk_day.proofs.ChangedMarks.{change_of, is_answered}
 use Rattle.desk_day.proofs.Listed.{listed, listed_some, listed_none}
-
--- rising numbers, by recursion
-above_all : (n : ℕ) (ns : List ℕ) → ((i : ℕ) → i < length ns → n < get_or ns i 0) → AllByRecursion (λ m. n < m) ns
-above_all n [] above = tt
-above_all n (m ∷ ms) above = (above 0 (omega arith), above_all n ms (λ i lt. above (suc i) (omega arith)))
-
-ascends : (ns : List ℕ) → ((i j : ℕ) → i < j → j < length ns → get_or ns i 0 < get_or ns j 0) → Ascends ns
-ascends [] rises = tt
-ascends (n ∷ ns) rises = (
-  above_all n ns (λ i lt. rises 0 (suc i) (omega arith) (omega arith)),
-  ascends ns
-      (λ i j lt within. rises (suc i) (suc j) (omega arith) (omega arith)),
-)
-
-ascends_from : (ns : List ℕ) → IsStrictlyIncreasing ns → Ascends ns
-ascends_from ns rises = ascends ns (λ i j lt within. AllPairs-from_increasing ns rises i j 0 lt within)
-
-range_rises : (a n : ℕ) → IsStrictlyIncreasing (range_with_len a n)
-range_rises a n k lt =
-    let long = length-range_with_len a n in
-    let here : get_or (range_with_len a n) k 0 ≡ a + k = get_or-range_with_len a n k 0 (omega (arith, lt, long)) in
-    let next : get_or (range_with_len a n) (k + 1) 0 ≡ a + (k + 1) =
-    get_or-range_with_len a n (k + 1) 0 (omega (arith, lt, long)) in
-    rw (here, next) (omega arith)
 
 or_and : (r t u : Bool) → ((t && r) || (u && r)) ≡ ((t || u) && r)
 or_and true true u = refl
