@@ -7,7 +7,7 @@ ghost use Rattle.dossier_csv.specs.Layout.{Layout};
 ghost use Rattle.dossier_csv.specs.Rest.{GivesNext, HasLeft, HasSome};
 ghost use Rattle.dossier_csv.specs.Shape.{Answers, at_row, records_of, row_of, rows_from, same_texts, shape};
 
-use admit_core::{InFault, MAX_ROWS, Reason, Refusal, Slot};
+use admit_core::{InFault, MAX_ROWS, OutOfMemory, Reason, Refusal, Slot};
 use csv::{ByteRecord, ErrorKind, Reader, ReaderBuilder};
 use std::alloc::Global;
 
@@ -48,17 +48,16 @@ fn reader_of(alloc: Global, bytes: &[u8]) -> Reader<&[u8]>
 /// The next row, and whether there was one. Records may have any number of fields and need not be
 /// text, so `csv` answers an error for want of memory alone; it leaves open that reading from a
 /// slice fails, which does not happen.
-fn next_row(reader: &mut Reader<&[u8]>, row: &mut ByteRecord) -> Result<bool, InFault>
+fn next_row(reader: &mut Reader<&[u8]>, row: &mut ByteRecord) -> Result<bool, OutOfMemory>
     requires { HasSome (λ text. Some text.now) reader.old }
-    ensures next { IfOk result (λ found. (left : List (List (List ℕ))) → HasLeft
+    ensures { IfOk result (λ found. (left : List (List (List ℕ))) → HasLeft
         (λ text. Some text.now) reader.old left
         → GivesNext (λ text. Some text.now) reader.new found (fields_of row.new) left) }
-    ensures memory { IfErr result (λ fault. fault ≡ InFault.OutOfMemory) }
 {
     match reader.read_byte_record(row) {
         Ok(found) => Ok(found),
         Err(error) => match error.kind() {
-            ErrorKind::OutOfMemory | ErrorKind::Io(_) => Err(InFault::OutOfMemory),
+            ErrorKind::OutOfMemory | ErrorKind::Io(_) => Err(OutOfMemory),
             _ => unreachable!(),
         },
     }

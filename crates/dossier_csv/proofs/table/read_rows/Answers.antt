@@ -9,7 +9,7 @@ returns-in_err-typed_row-clause-value g c = λ all has.
     let (left, here, whole) = c.rows.invariant.whole all has in
     let told = err_from_is_err_and c.from_residual-in_err-typed_row.result c.from_residual-in_err-typed_row.ensures.1 in
     rw (told.1, told.2) (rows-refused _ _ _ _ _ _ _ left _ _
-    (rw c.if-branch.true at (c.in_ok-next_row.ensures.next left here))
+    (rw c.if-branch.true at (c.in_ok-next_row.ensures left here))
     (rw c.len.ensures at c.in_err-typed_row.ensures.value) whole)
 
 pub rows-preserved : goal.rows-preserved
@@ -18,7 +18,7 @@ rows-preserved g c =
     record {
       whole = λ all has.
           let (left, here, whole) = c.rows.invariant.whole all has in
-          let next = rw c.if-branch.true at (c.in_ok-next_row.ensures.next left here) in
+          let next = rw c.if-branch.true at (c.in_ok-next_row.ensures left here) in
           let value = rw c.len.ensures at c.in_ok-typed_row.ensures.value in
           one-more _ _ _ _ _ _ _ _ _ left _ _ next value (rw good at c.push.ensures.items)
           (rw good at c.push.ensures.len) whole;
@@ -30,7 +30,7 @@ rows-preserved g c =
 pub returns-clause-value : goal.returns-clause-value
 returns-clause-value g c = λ all has.
     let (left, here, whole) = c.rows.invariant.whole all has in
-    let none = none-left _ _ _ left (rw c.if-branch.false at (c.in_ok-next_row.ensures.next left here)) in
+    let none = none-left _ _ _ left (rw c.if-branch.false at (c.in_ok-next_row.ensures left here)) in
     whole ∙ rw none (rows-end _ _ _ _)
 
 pub next_row-requires : goal.next_row-requires
