@@ -40,6 +40,10 @@ days = record { least = 1; most = 366 }
 abbrev pub text_at : List (List ℕ) → ℕ → List ℕ
 text_at fields position = unwrap_or (field_at fields (position - 1)) []
 
+-- the number that a digit writes
+abbrev pub digit_of : ℕ → Option ℕ
+digit_of byte = if is_ascii_digit byte then Some (byte - 48) else None
+
 -- the number that a text of 1 to 10 digits writes
 abbrev pub number_of : List ℕ → Option ℕ
 number_of text =

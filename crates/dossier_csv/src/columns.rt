@@ -50,6 +50,17 @@ fn text_at(row: &ByteRecord, position: u32) -> &[u8]
         .unwrap_or(&[])
 }
 
+/// The number that an ASCII digit writes; none for any other byte.
+fn digit_of(byte: u8) -> Option<u64>
+    ensures { result ≡ Columns.digit_of byte }
+{
+    let digit = u64::from(byte).wrapping_sub(u64::from(b'0'));
+    if digit > 9 {
+        return None;
+    }
+    Some(digit)
+}
+
 /// The number that a text of 1 to 10 ASCII digits writes; none for any other text. Leading zeros
 /// are allowed.
 pub fn number_of(text: &[u8]) -> Option<u64>
@@ -60,11 +71,8 @@ pub fn number_of(text: &[u8]) -> Option<u64>
         return None;
     }
     let mut value = 0u64;
-    for digit in text {
-        if !digit.is_ascii_digit() {
-            return None;
-        }
-        value = value * 10 + u64::from(*digit - b'0');
+    for byte in text {
+        value = value * 10 + digit_of(*byte)?;
     }
     Some(value)
 }
