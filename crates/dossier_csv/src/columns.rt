@@ -77,7 +77,8 @@ pub fn number_of(text: &[u8]) -> Option<u64>
     Some(value)
 }
 
-/// The number of a column.
+/// The number of a column. This is inlined, since its limits are known where it is called.
+#[inline(always)]
 #[tactic(auto, unfolding(crate::specs::Columns::number))]
 pub(crate) fn number(row: &ByteRecord, position: u32, limits: Limits) -> Result<u32, Reason>
     ensures value { result ≡ Columns.number limits (fields_of row.now) position }
