@@ -6,8 +6,8 @@ use Rattle.admit_core.specs.declared.tables.RankRow.{RankRow}
 use Rattle.admit_core.specs.declared.ranking.Ranked.{Ranked}
 use Rattle.admit_core.specs.Lists.{sorted_by}
 use Rattle.admit_core.specs.Standing.{ranked_in}
-use Rattle.dossier_check.specs.Dealt.{built, candidates_in, ranked_by}
-use Rattle.dossier_check.proofs.TaggedRows.{ranked_in_order, sorted_map}
+use Rattle.dossier_check.specs.Dealt.{ascending, built, candidates_in, ranked_by}
+use Rattle.dossier_check.proofs.TaggedRows.{ranked_in_order}
 
 pub zip_built : {V : Type 0} (items : V → List Ranked) (rankings : List RankRow) (rows : List GroupRow) (lists : List V)
     → map items lists ≡ map (ranked_by rankings) (map (λ g. g.id) rows)
@@ -45,21 +45,11 @@ by_rank_now rankings ids =
     ap (λ (f : ℕ → List Ranked). map f ids) (λ i group.
     ranked_in_order rankings (λ r. r.rank) (λ r. r.rank) (λ r. refl) group i)
 
--- the candidates of lists of rows in order by candidate
+-- the candidates of lists of rows in file order
 pub ascending_now : {V : Type 0} (items : V → List Ranked) (rankings : List RankRow) (ids : List ℕ) (lists : List V)
-    → map items lists ≡ map (ranked_in (sorted_by (λ r. r.candidate) rankings)) ids
-    → map (λ v. map (λ r. r.candidate) (items v)) lists ≡ map (candidates_in rankings) ids
+    → map items lists ≡ map (ranked_in rankings) ids
+    → map (λ v. ascending (items v)) lists ≡ map (candidates_in rankings) ids
 ascending_now items rankings ids lists e =
-    let own : Ranked → ℕ = λ r. r.candidate in
-    sym (map-map (map own) items lists)
-    ∙ ap (map (map own)) e
-    ∙ map-map (map own) (ranked_in (sorted_by (λ r. r.candidate) rankings)) ids
-    ∙ ap (λ (f : ℕ → List ℕ). map f ids) (λ i group. one group i)
-  where
-    one : (group : ℕ) → map (λ r. r.candidate) (ranked_in (sorted_by (λ r. r.candidate) rankings) group)
-        ≡ candidates_in rankings group
-    one group =
-        let list : List Ranked = ranked_in rankings group in
-        ap (map (λ (r : Ranked). r.candidate))
-        (ranked_in_order rankings (λ r. r.candidate) (λ r. r.candidate) (λ r. refl) group)
-        ∙ sorted_map (λ (r : Ranked). r.candidate) (λ r. r.candidate) (λ n. n) list (λ k d lt. refl)
+    sym (map-map ascending items lists)
+    ∙ ap (map ascending) e
+    ∙ map-map ascending (ranked_in rankings) ids

@@ -11,9 +11,13 @@ use Rattle.admit_core.specs.Standing.{group_of_row, place_of, ranked_in}
 use Rattle.dossier_check.specs.declared.ranks.Dealt.{Dealt}
 use Rattle.dossier_check.specs.declared.who_is_ranked.WhoIsRanked.{WhoIsRanked}
 
+-- the candidates in a list, ascending
+abbrev pub ascending : List Ranked → List ℕ
+ascending list = sorted_by (λ n. n) (map (λ r. r.candidate) list)
+
 -- the candidates of a group, ascending
 abbrev pub candidates_in : List RankRow → ℕ → List ℕ
-candidates_in rankings group = sorted_by (λ n. n) (map (λ r. r.candidate) (ranked_in rankings group))
+candidates_in rankings group = ascending (ranked_in rankings group)
 
 -- the candidates of a group, by rank
 abbrev pub ranked_by : List RankRow → ℕ → List Ranked

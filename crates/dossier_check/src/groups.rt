@@ -6,7 +6,6 @@ ghost use Rattle.admit_core.specs.Relations.{group_ids};
 ghost use Rattle.dossier_check.specs.Dealt.{built, places_in, ranked_by};
 
 use crate::by_key::{by_key, rows_by};
-use crate::noted::Key;
 use crate::row_ids::RowIds;
 use crate::rules::ItsRank;
 use admit_core::{GroupRow, OutOfMemory, RankGroup, RankRow, Ranked, Sequence, Tables};
@@ -107,8 +106,8 @@ fn lay_row(
     Ok(())
 }
 
-/// The candidates of each group, in file order.
-fn ranked_lists(
+/// The candidates of each group, in file order. The rows' groups stand at these places.
+pub(crate) fn ranked_lists(
     alloc: Global,
     rankings: &[RankRow],
     groups: &RowIds,
@@ -125,20 +124,19 @@ fn ranked_lists(
     Ok(lists)
 }
 
-/// The candidates of each group, in order by a key. The rows' groups stand at these places.
-pub(crate) fn lists_by<Q: Key<RankRow, u32>>(
+/// The candidates of each group, by rank.
+fn sorted_lists(
     alloc: Global,
-    rule: &Q,
     rankings: &[RankRow],
     groups: &RowIds,
     places: &[u32],
 ) -> Result<Vec<Vec<Ranked>>, OutOfMemory>
     requires places { places.now ≡ places_in groups.now.keys rankings.now }
     requires small { length rankings.now < 2 ^ 32 }
-    ensures { IfOk result (λ lists. map (λ l. l.items) lists.items
-        ≡ map (ranked_in (sorted_by Q.key rankings.now)) groups.now.keys) }
+    ensures { IfOk result (λ lists.
+        map (λ l. l.items) lists.items ≡ map (ranked_by rankings.now) groups.now.keys) }
 {
-    let ordered = by_key(alloc, rule, rankings)?;
+    let ordered = by_key(alloc, &ItsRank, rankings)?;
     let places = rows_by(alloc, places, ordered.tags.as_slice())?;
     ranked_lists(alloc, ordered.rows.as_slice(), groups, places.as_slice())
 }
@@ -163,40 +161,27 @@ fn are_by_rank(lists: &[Vec<Ranked>]) -> bool
     true
 }
 
-/// The candidates of each group in file order, where they are by rank in it.
-fn lists_in_order(
-    alloc: Global,
-    rankings: &[RankRow],
-    groups: &RowIds,
-    places: &[u32],
-) -> Result<Option<Vec<Vec<Ranked>>>, OutOfMemory>
-    requires { places.now ≡ places_in groups.now.keys rankings.now }
-    ensures { IfOk result (λ found. IfSome found (λ lists.
-        map (λ l. l.items) lists.items ≡ map (ranked_by rankings.now) groups.now.keys)) }
-{
-    let lists = ranked_lists(alloc, rankings, groups, places)?;
-    if are_by_rank(lists.as_slice()) {
-        return Ok(Some(lists));
-    }
-    Ok(None)
-}
-
-/// The candidates of each group, by rank.
+/// The candidates of each group by rank, who are given in file order. The lists stay where they are
+/// by rank in it.
 pub(crate) fn lists_by_rank(
     alloc: Global,
+    lists: Vec<Vec<Ranked>>,
     rankings: &[RankRow],
     groups: &RowIds,
     places: &[u32],
 ) -> Result<Vec<Vec<Ranked>>, OutOfMemory>
+    requires lists { map (λ l. l.items) lists.items
+        ≡ map (ranked_in rankings.now) groups.now.keys }
     requires places { places.now ≡ places_in groups.now.keys rankings.now }
     requires small { length rankings.now < 2 ^ 32 }
     ensures { IfOk result (λ lists.
         map (λ l. l.items) lists.items ≡ map (ranked_by rankings.now) groups.now.keys) }
 {
-    match lists_in_order(alloc, rankings, groups, places)? {
-        Some(lists) => Ok(lists),
-        None => lists_by(alloc, &ItsRank, rankings, groups, places),
+    if are_by_rank(lists.as_slice()) {
+        return Ok(lists);
     }
+    drop(lists);
+    sorted_lists(alloc, rankings, groups, places)
 }
 
 /// A group with its candidates.

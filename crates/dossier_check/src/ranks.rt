@@ -4,13 +4,12 @@ ghost use Rattle.std.specs.List.{IsDistinct};
 ghost use Rattle.admit_core.specs.declared.slot.Slot.TheVariants as slots;
 ghost use Rattle.admit_core.specs.Faults.{first_in};
 ghost use Rattle.admit_core.specs.Relations.{ranking_tests, group_ids};
-ghost use Rattle.dossier_check.specs.Dealt.{AreDealt, candidates_in, places_in};
+ghost use Rattle.dossier_check.specs.Dealt.{AreDealt, ascending, places_in};
 ghost use Rattle.dossier_check.specs.Outcome.{AnswersFault, MayLack};
 
-use crate::groups::{lists_by, lists_by_rank, rank_groups};
+use crate::groups::{lists_by_rank, rank_groups, ranked_lists};
 use crate::placed::{all_below, places_in};
 use crate::row_ids::RowIds;
-use crate::rules::ItsCandidate;
 use crate::slots::find_rank_fault;
 use admit_core::{InFault, OutOfMemory, RankGroup, RankRow, Ranked, Tables};
 use std::alloc::Global;
@@ -36,6 +35,15 @@ fn candidates_of(alloc: Global, list: &[Ranked]) -> Result<Vec<u32>, OutOfMemory
     Ok(list.iter().map(|ranked| ranked.candidate).collect(alloc)?)
 }
 
+/// The same, ascending.
+fn ascending(alloc: Global, list: &[Ranked]) -> Result<Vec<u32>, OutOfMemory>
+    ensures { IfOk result (λ ids. ids.items ≡ ascending list.now) }
+{
+    let mut ids = candidates_of(alloc, list)?;
+    ids.sort_unstable();
+    Ok(ids)
+}
+
 /// Adds the candidates of a group to those of the groups before it.
 fn push_candidates(
     alloc: Global,
@@ -43,38 +51,22 @@ fn push_candidates(
     list: &[Ranked],
 ) -> Result<(), OutOfMemory>
     ensures { OnOk result (map (λ l. l.items) done.new.items
-        ≡ map (λ l. l.items) done.old.items ++ map (λ r. r.candidate) list.now ∷ []) }
+        ≡ map (λ l. l.items) done.old.items ++ ascending list.now ∷ []) }
 {
-    done.push(candidates_of(alloc, list)?)?;
+    done.push(ascending(alloc, list)?)?;
     Ok(())
 }
 
-/// The candidates of each group.
-fn candidate_lists(alloc: Global, lists: &[Vec<Ranked>]) -> Result<Vec<Vec<u32>>, OutOfMemory>
+/// The candidates of each group, ascending.
+fn ascending_lists(alloc: Global, lists: &[Vec<Ranked>]) -> Result<Vec<Vec<u32>>, OutOfMemory>
     ensures { IfOk result (λ done.
-        map (λ l. l.items) done.items ≡ map (λ l. map (λ r. r.candidate) l.items) lists.now) }
+        map (λ l. l.items) done.items ≡ map (λ l. ascending l.items) lists.now) }
 {
     let mut done = Vec::with_capacity(alloc, lists.len())?;
     for list in lists {
         push_candidates(alloc, &mut done, list.as_slice())?;
     }
     Ok(done)
-}
-
-/// The candidates of each group, ascending.
-fn ascending_lists(
-    alloc: Global,
-    rankings: &[RankRow],
-    groups: &RowIds,
-    places: &[u32],
-) -> Result<Vec<Vec<u32>>, OutOfMemory>
-    requires places { places.now ≡ places_in groups.now.keys rankings.now }
-    requires small { length rankings.now < 2 ^ 32 }
-    ensures { IfOk result (λ done.
-        map (λ l. l.items) done.items ≡ map (candidates_in rankings.now) groups.now.keys) }
-{
-    let lists = lists_by(alloc, &ItsCandidate, rankings, groups, places)?;
-    candidate_lists(alloc, lists.as_slice())
 }
 
 /// Whether each rank is greater than the one before it.
@@ -122,8 +114,9 @@ fn deal(
     ensures { IfOk result (AreDealt tables.now) }
 {
     let rows = tables.rankings.as_slice();
-    let candidates = ascending_lists(alloc, rows, groups, places)?;
-    let lists = lists_by_rank(alloc, rows, groups, places)?;
+    let lists = ranked_lists(alloc, rows, groups, places)?;
+    let candidates = ascending_lists(alloc, lists.as_slice())?;
+    let lists = lists_by_rank(alloc, lists, rows, groups, places)?;
     Ok(Dealt {
         rankings: rank_groups(alloc, tables, lists)?,
         candidates,

@@ -152,14 +152,6 @@ impl Key<WishRow, u32> for ItsCandidate {
     }
 }
 
-impl Key<RankRow, u32> for ItsCandidate {
-    ghost key = { λ r. r.candidate };
-
-    fn key_of(&self, row: &RankRow) -> u32 {
-        row.candidate
-    }
-}
-
 /// The rank of a candidate in a group.
 #[derive(Drop)]
 pub(crate) struct ItsRank;

@@ -1,9 +1,11 @@
-use Rattle.std.proofs.Common.{◌∙◌}
-use Rattle.std.proofs.lemmas.Result.{IfOk-weaker}
-use Rattle.dossier_check.proofs.BuiltGroups.{by_rank_now}
+use Rattle.std.proofs.Common.{◌≡◌, All, subst}
+use Rattle.admit_core.specs.Lists.{sorted_by}
+use Rattle.dossier_check.proofs.BuiltGroups.{by_rank_already}
 use Rattle.dossier_check.proofs.groups.lists_by_rank.Goals as goal
 
-pub returns-in-None : goal.returns-in-None
-returns-in-None c =
-    IfOk-weaker c.lists_by.result _ _
-    (λ lists made. made ∙ by_rank_now c.args.rankings.now c.args.groups.now.keys) c.lists_by.ensures
+pub returns-then-are_by_rank : goal.returns-then-are_by_rank
+returns-then-are_by_rank c =
+    by_rank_already (λ l. l.items) c.args.rankings.now c.args.groups.now.keys c.args.lists.items
+    (subst (All (λ l. l.items ≡ sorted_by (λ r. r.rank) l.items)) c.as_slice.ensures.value
+    (c.are_by_rank.ensures c.if-are_by_rank.true))
+    c.requires.lists

@@ -2,12 +2,15 @@ use Rattle.std.proofs.Common.{◌≡◌, All, Some, ℕ, ap, length, map, sym, s
 use Rattle.admit_core.specs.declared.tables.RankRow.{RankRow}
 use Rattle.admit_core.specs.Standing.{place_of}
 use Rattle.dossier_check.specs.Tags.{IsWithin, row_of}
+use Rattle.admit_core.specs.Standing.{ranked_in}
+use Rattle.std.proofs.lemmas.Result.{IfOk-weaker}
+use Rattle.dossier_check.proofs.BuiltGroups.{by_rank_now}
 use Rattle.dossier_check.proofs.Firsts.{length-map-here}
 use Rattle.dossier_check.proofs.TaggedRows.{made_in_order, within_alike}
-use Rattle.dossier_check.proofs.groups.lists_by.Goals as goal
+use Rattle.dossier_check.proofs.groups.sorted_lists.Goals as goal
 
 pub rows_by-requires : goal.rows_by-requires
-rows_by-requires g c =
+rows_by-requires c =
     let rows = c.args.rankings.now in
     let places = c.args.places.now in
     let own : RankRow → ℕ = λ r. place_of c.args.groups.now.keys r.group in
@@ -16,7 +19,7 @@ rows_by-requires g c =
     (within_alike rows places c.in_ok-ordered.ordered.tags.items same c.in_ok-ordered.ensures.within)
 
 pub ranked_lists-requires : goal.ranked_lists-requires
-ranked_lists-requires g c =
+ranked_lists-requires c =
     let rows = c.args.rankings.now in
     let tags = c.in_ok-ordered.ordered.tags.items in
     let own : RankRow → ℕ = λ r. place_of c.args.groups.now.keys r.group in
@@ -27,3 +30,13 @@ ranked_lists-requires g c =
     c.as_slice-3.ensures.value
     ∙ made_in_order own rows c.in_ok-ordered.ordered.rows.items found tags c.in_ok-ordered.ensures.tags read
     ∙ ap (map own) (sym c.as_slice-2.ensures.value)
+
+pub returns : goal.returns
+returns c =
+    let ids = c.args.groups.now.keys in
+    IfOk-weaker c.ranked_lists.result _ _
+    (λ lists made.
+    made
+    ∙ ap (λ rows. map (ranked_in rows) ids) (c.as_slice-2.ensures.value ∙ c.in_ok-ordered.ensures.rows)
+    ∙ by_rank_now c.args.rankings.now ids)
+    c.ranked_lists.ensures

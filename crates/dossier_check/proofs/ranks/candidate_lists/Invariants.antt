@@ -1,6 +1,0 @@
-use Rattle.std.proofs.Common.{◌≡◌, map, take}
-use Rattle.dossier_check.proofs.ranks.candidate_lists.Given as goal
-
-abbrev pub invariant-loop-list : goal.invariant-loop-list
-invariant-loop-list l = map (λ v. v.items) l.done.items ≡ map (λ v. map (λ r. r.candidate) v.items)
-    (take l.list-index l.lists)
