@@ -114,7 +114,9 @@ fn typed_row<T: TableRow>(row: &ByteRecord, width: usize, number: u64) -> Result
     }
 }
 
-/// The rows under a header of so many columns.
+/// The rows under a header of so many columns. This is not inlined: beside the loops of other slots
+/// a row's numbers would not stay in registers.
+#[inline(never)]
 fn read_rows<T: TableRow>(
     alloc: Global,
     reader: &mut Reader<&[u8]>,
