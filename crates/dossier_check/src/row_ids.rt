@@ -159,7 +159,8 @@ impl RowIds {
     }
 
     /// Notes the id of the next row, and answers the number of the row of the same id where there
-    /// is one.
+    /// is one. This is inlined, as the tests that ask it are.
+    #[inline(always)]
     pub(crate) fn note<R, Q: Key<R, u32>>(
         &mut self,
         alloc: Global,

@@ -27,7 +27,9 @@ fn school_place(schools: &RowIds, school: Option<u32>) -> Option<usize>
     }
 }
 
-/// Whether a candidate is ranked in the group of the programme at a place.
+/// Whether a candidate is ranked in the group of the programme at a place. This is inlined, as the
+/// tests that ask it are.
+#[inline(always)]
 fn is_ranked(
     tables: &Tables,
     ranked: WhoIsRanked<'_>,
