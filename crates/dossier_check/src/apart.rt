@@ -37,11 +37,11 @@ fn is_apart(row: &WishRow, others: &[WishRow]) -> bool
 }
 
 /// The wish at a place.
-fn wish_at(rows: &[WishRow], place: usize) -> &WishRow
+fn wish_at(rows: &[WishRow], place: usize) -> WishRow
     requires { place < length rows.now }
-    ensures { slice_get rows.now place ≡ Some result.now }
+    ensures { slice_get rows.now place ≡ Some result }
 {
-    &rows[place]
+    rows[place]
 }
 
 /// Wishes of one candidate that stand together, by the place of the first.
@@ -78,7 +78,7 @@ impl Run {
         let row = wish_at(rows, place);
         let next = self.with(row.candidate, place)?;
         let others = &rows[next.from..place];
-        if others.len() < MOST && is_apart(row, others) {
+        if others.len() < MOST && is_apart(&row, others) {
             return Some(next);
         }
         None

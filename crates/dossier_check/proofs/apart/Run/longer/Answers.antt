@@ -5,7 +5,7 @@ use Rattle.dossier_check.proofs.apart.Run.longer.Goals as goal
 pub returns-then-is_apart : goal.returns-then-is_apart
 returns-then-is_apart c before =
     let rows = c.args.rows.now in
-    let row = c.wish_at-row.result.now in
+    let row = c.wish_at-row.result in
     let place = c.args.place in
     let next = c.in_ok-next.next in
     let joins = joined rows row c.args.self next place (sym c.with.ensures ∙ c.in_ok-next.was) before in
