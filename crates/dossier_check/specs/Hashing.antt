@@ -1,6 +1,6 @@
 -- The numbers that keys are made of.
-use Rattle.std.specs.Prelude.{ℕ, ◌∷◌, [], ◌&&◌, Bool, true, List, map, nat_eq, nat_le, nat_lt, unwrap_or}
-use Rattle.std.specs.Prelude.{if◌then◌else◌}
+use Rattle.std.specs.Prelude.{ℕ, ◌∷◌, [], ◌&&◌, Bool, true, List, map, nat_eq, nat_le, nat_lt}
+use Rattle.std.specs.Prelude.{unwrap_or, if◌then◌else◌}
 use Rattle.admit_core.specs.declared.tables.RankRow.{RankRow}
 use Rattle.admit_core.specs.declared.tables.Tables.{Tables}
 use Rattle.admit_core.specs.declared.tables.WishRow.{WishRow}
@@ -21,7 +21,7 @@ changes last [] = []
 changes last (w ∷ ws) =
     if nat_eq w.candidate last then changes last ws else (w.candidate, 0) ∷ changes w.candidate ws
 
--- all numbers that wishes and their candidates are found by; ids that rise are found by order
+-- all numbers that wishes and their candidates are hashed by; ids that rise are not hashed
 abbrev pub whos : List WishRow → List (ℕ × ℕ)
 whos rows =
     if in_order 0 0 rows then changes 0 rows else map (λ r. (r.id, r.candidate)) rows

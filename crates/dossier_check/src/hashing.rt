@@ -59,7 +59,7 @@ fn mix_candidates(key: &mut KeyMaker, rows: &[WishRow])
     }
 }
 
-/// Mixes in what wishes and their candidates are found by. Ids that rise are found by order, and a
+/// Mixes in what wishes and their candidates are hashed by. Ids that rise are not hashed, and a
 /// candidate whose wishes stand together is mixed in once.
 fn mix_whos(key: &mut KeyMaker, rows: &[WishRow])
     ensures { key.new ≡ fold mixed_in key.old (whos rows.now) }
