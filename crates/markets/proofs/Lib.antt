@@ -1,5 +1,6 @@
 -- Reading order. Each file says in its first line what it shows.
--- A market is read: BelowCount, Reading, Listing, Stamping, Ordering.
+-- A market is read: BelowCount, Reading, Listing, Stamping, Ordering, Meeting
+-- (where the rows stand).
 -- A market as a falling system: Held, Rounds, Filled; how it is solved: Seated, Led, Noting, Tied.
 -- The solution: Stable, Best, SamePlaces, Existing, and last SamePlaced (the same candidates
 -- have a place in every stable matching).
@@ -16,6 +17,7 @@ pub mod Held
 pub mod InTurn
 pub mod Led
 pub mod Listing
+pub mod Meeting
 pub mod Noting
 pub mod OneMore
 pub mod Ordering

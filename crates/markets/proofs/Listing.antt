@@ -5,7 +5,7 @@ use Rattle.std.specs.Prelude.{slice_get, if◌then◌else◌}
 use Rattle.std.specs.List.{range_with_len}
 use Rattle.std.specs.declared.alloc.Global.{Global}
 use Rattle.std.proofs.Math.ListN.{set}
-use Rattle.std.proofs.lemmas.Bool.{cases_eq, eq-eqb, ne_eqb, or_left, or_right, false≢true, false_from_ne_true}
+use Rattle.std.proofs.lemmas.Bool.{cases_eq, eq-eqb, ne_eqb, or_left, or_right}
 use Rattle.std.proofs.lemmas.List.{length-set, length-append, append-nil, take_more, take_all, map-id}
 use Rattle.std.proofs.lemmas.List.Folds.{list_any-append}
 use Rattle.std.proofs.lemmas.List.FromFn.{filter_of_map_range_with_len_more}
@@ -14,8 +14,7 @@ use Rattle.admit_core.specs.Lists.{is_among}
 use Rattle.markets.specs.Markets.{is_list_below}
 use Rattle.markets.specs.Listers.{AreListers, ArePutIn, naming}
 use Rattle.markets.specs.Positions.{among_at}
-use Rattle.markets.proofs.BelowCount.{list_distinct, list_below, earlier, last_differs}
-use Rattle.std.proofs.lemmas.Map.Keys.{apart_from_distinct}
+use Rattle.markets.proofs.BelowCount.{list_below, not_before, last_differs}
 use Rattle.admit_core.proofs.Plain.{get_set_here, get_set_other, get_push}
 
 -- empty rows, and one more
@@ -55,12 +54,7 @@ put_more {A} item xs k old rows before after is_list lt read pushed are =
     let g : ℕ = get_or xs k 0 in
     let g_lt : g < length rows = omega (arith, list_below (length old) xs g is_list (among_at xs k lt), are.as_many) in
     let front : List ℕ = take k xs in
-    let absent : is_among g front ≡ false =
-    false_from_ne_true (is_among g front) (λ t.
-    let (j, (j_lt, j_at)) = earlier g xs k (omega (arith, lt)) t in
-    false≢true (sym (apart_from_distinct nat_eq xs j k 0 (list_distinct (length old) xs is_list) j_lt lt)
-    ∙ eq-eqb (get_or xs j 0) g j_at))
-    in
+    let absent : is_among g front ≡ false = not_before (length old) xs k is_list lt in
     let grown : (p : ℕ) → is_among p (take (k + 1) xs) ≡ (is_among p front || (nat_eq p g || false)) =
     λ p. ap (is_among p) (take_more xs k 0 lt) ∙ list_any-append (nat_eq p) front (g ∷ []) in
     record {

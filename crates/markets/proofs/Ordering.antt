@@ -59,7 +59,7 @@ distinct_cons : (q : ℕ) (xs : List ℕ) → is_among q xs ≡ false → IsDist
 distinct_cons q xs absent apart = IsDistinct-cons nat_eq q xs (all_differ q xs absent) apart
 
 -- a list is that of a candidate
-lister_within : (m : MarketRows) (p x : ℕ) → lists_it m p x ≡ true → x < length m.lists
+pub lister_within : (m : MarketRows) (p x : ℕ) → lists_it m p x ≡ true → x < length m.lists
 lister_within m p x t =
     elim (cases_lt x (length m.lists)) [
       | inl lt ↦ lt
@@ -283,7 +283,7 @@ market_stands m seats lists orders =
       orders = orders_stand m orders;
     }
 
--- the answers of both tests, on lists and orders as they are read
+-- the answer of the test of lists, as they are read
 pub bad_list_is : (answer : Option ℕ) (n : ℕ) (lists xs : List (List ℕ)) (orders : List (List ℕ)) (seats : List ℕ)
     → n ≡ length orders → xs ≡ lists → position (λ list. not (is_list_below n list)) xs ≡ answer
     → first_bad_list (record { lists = lists; orders = orders; seats = seats }) ≡ answer
@@ -291,15 +291,6 @@ bad_list_is answer n lists xs orders seats n_is xs_is e =
     let P : List (List ℕ) → Type 0 = λ ys. position (λ list. not (is_list_below n list)) ys ≡ answer in
     let Q : ℕ → Type 0 = λ k. position (λ list. not (is_list_below k list)) lists ≡ answer in
     subst Q n_is (subst P xs_is e)
-
-pub bad_order_is : (answer : Option ℕ) (lists ys orders zs : List (List ℕ)) (seats : List ℕ) → ys ≡ lists → zs ≡ orders
-    → first_bad_order (record { lists = ys; orders = zs; seats = [] }) ≡ answer
-    → first_bad_order (record { lists = lists; orders = orders; seats = seats }) ≡ answer
-bad_order_is answer lists ys orders zs seats ys_is zs_is e =
-    let P : List (List ℕ) → Type 0 = λ xs. first_bad_order (record { lists = xs; orders = zs; seats = [] }) ≡ answer in
-    let Q : List (List ℕ) → Type 0 = λ xs. first_bad_order (record { lists = lists; orders = xs; seats = [] })
-    ≡ answer in
-    subst Q zs_is (subst P ys_is e)
 
 pub lists_ready : (n : ℕ) (xs ys zs : List (List ℕ)) → n ≡ length zs → xs ≡ ys
     → position (λ list. not (is_list_below n list)) xs ≡ None

@@ -9,6 +9,7 @@ pub mod Laws
 pub mod Listers
 pub mod Markets
 pub mod Matchings
+pub mod Meeting
 pub mod Placed
 pub mod Positions
 pub mod Ranked

@@ -9,6 +9,7 @@ mod calling;
 mod counts;
 mod fault;
 mod filling;
+mod in_place;
 mod laws;
 mod listers;
 mod lists;

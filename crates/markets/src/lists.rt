@@ -26,7 +26,7 @@ pub fn first_bad_list(
 }
 
 /// The same, with room for a stamp on each number: this takes no memory.
-fn bad_among(lists: &[Sequence<u32>], stamps: &mut [u32]) -> Option<u32>
+pub fn bad_among(lists: &[Sequence<u32>], stamps: &mut [u32]) -> Option<u32>
     requires few { length lists.now ≤ 16000000 }
     requires fresh { AreUpTo 0 stamps.old }
     ensures { result ≡ position

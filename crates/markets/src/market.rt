@@ -1,10 +1,10 @@
 //! A market, and why rows are none.
-ghost use Rattle.std.specs.Prelude.{◌≡◌, ◌≤◌, ◌<◌, [], length, map, slice_index, All, IfOk, IfErr, IsOk};
+ghost use Rattle.std.specs.Prelude.{◌≡◌, ◌≤◌, ◌<◌, [], length, slice_index, All, IfOk, IfErr, OnErr};
 ghost use Rattle.markets.specs.Markets.{IsMarket, IsSmall, list_of, market_order};
-ghost use Rattle.markets.specs.Faults.{IsFaultOf};
-ghost use Rattle.markets.specs.Rows.{rows_of};
+ghost use Rattle.markets.specs.Faults.{IsFaultOf, IsFaultOrNone};
 
 use crate::fault::MarketFault;
+use crate::in_place::fault_in_place;
 use crate::lists::first_bad_list;
 use crate::orders::first_bad_order;
 use admit_core::{OutOfMemory, Sequence};
@@ -37,38 +37,31 @@ impl Model for Market {
 
 impl Market {
     /// A market of the candidates' lists and the programmes' orders and seats. On a refusal they
-    /// are dropped. It costs their length. The counts are compared before memory is taken, and the
-    /// tests of a list or an order take none: it is taken for all lists, and then for all orders.
+    /// are dropped. It costs their length. The tests take memory for notes of each number and each
+    /// candidate; where there is none, each order is put in order and tested without.
     pub fn new(
         alloc: Global,
-        lists: Vec<Vec<u32>>,
-        orders: Vec<Vec<u32>>,
+        lists: Vec<Sequence<u32>>,
+        orders: Vec<Sequence<u32>>,
         seats: Vec<u32>,
     ) -> Result<Market, MarketFault>
         requires candidates { length lists.items ≤ 16000000 }
         requires programmes { length orders.items ≤ 16000000 }
-        ensures rows { IfOk result
-            (λ market. market ≡ rows_of lists.items orders.items seats.items) }
+        ensures rows { IfOk result (λ market. market ≡
+            record { lists = lists.items; orders = orders.items; seats = seats.items }) }
         ensures stands { IfOk result (λ market. IsMarket market) }
-        ensures fault { IfErr result (IsFaultOf (rows_of lists.items orders.items seats.items)) }
+        ensures fault { IfErr result (IsFaultOf
+            (record { lists = lists.items; orders = orders.items; seats = seats.items })) }
     {
-        if orders.len() != seats.len() {
-            return Err(MarketFault::BadCount);
+        match first_fault(alloc, lists.as_slice(), orders.as_slice(), seats.as_slice()) {
+            Ok(None) => Ok(Market {
+                lists,
+                orders,
+                seats,
+            }),
+            Ok(Some(fault)) => Err(fault),
+            Err(_) => Err(fault_in_place(alloc, lists.as_slice(), orders, seats)),
         }
-        let lists = sequences(alloc, lists)?;
-        let orders = sequences(alloc, orders)?;
-        let programmes = orders.len() as u32;
-        if let Some(candidate) = first_bad_list(alloc, &lists, programmes)? {
-            return Err(MarketFault::BadList { candidate });
-        }
-        if let Some(programme) = first_bad_order(alloc, &lists, &orders)? {
-            return Err(MarketFault::BadOrder { programme });
-        }
-        Ok(Market {
-            lists,
-            orders,
-            seats,
-        })
     }
 
     /// The number of candidates.
@@ -129,17 +122,28 @@ impl Market {
     }
 }
 
-/// The lists as sequences, which keep no room.
-fn sequences(alloc: Global, lists: Vec<Vec<u32>>) -> Result<Vec<Sequence<u32>>, OutOfMemory>
-    ensures same { IfOk result (λ v. v.items ≡ map (λ list. list.items) lists.items) }
-    ensures always { lists.items ≡ [] → IsOk result }
+/// The first fault of rows, or none where they are a market. Memory is taken for notes.
+fn first_fault(
+    alloc: Global,
+    lists: &[Sequence<u32>],
+    orders: &[Sequence<u32>],
+    seats: &[u32],
+) -> Result<Option<MarketFault>, OutOfMemory>
+    requires candidates { length lists.now ≤ 16000000 }
+    requires programmes { length orders.now ≤ 16000000 }
+    ensures fault { IfOk result (IsFaultOrNone
+        (record { lists = lists.now; orders = orders.now; seats = seats.now })) }
+    ensures counts { OnErr result (length seats.now ≡ length orders.now) }
+    ensures rows { OnErr result (lists.now ≡ [] → orders.now ≡ [] → ⊥) }
 {
-    if lists.is_empty() {
-        return Ok(Vec::new(alloc));
+    if orders.len() != seats.len() {
+        return Ok(Some(MarketFault::BadCount));
     }
-    let sequences = lists
-        .into_iter()
-        .map(|list| Sequence::from_vec(list))
-        .collect(alloc)?;
-    Ok(sequences)
+    if let Some(candidate) = first_bad_list(alloc, lists, orders.len() as u32)? {
+        return Ok(Some(MarketFault::BadList { candidate }));
+    }
+    if let Some(programme) = first_bad_order(alloc, lists, orders)? {
+        return Ok(Some(MarketFault::BadOrder { programme }));
+    }
+    Ok(None)
 }

@@ -1,7 +1,7 @@
 //! Small markets by their numbers.
 
 use crate::market_words::made;
-use admit_core::OutOfMemory;
+use admit_core::{OutOfMemory, Sequence};
 use stable_market::{Market, MarketFault};
 use std::alloc::Global;
 
@@ -132,19 +132,19 @@ impl Rows {
     }
 
     /// The orders of all programmes.
-    fn all_called(&self, alloc: Global) -> Result<Vec<Vec<u32>>, OutOfMemory> {
+    fn all_called(&self, alloc: Global) -> Result<Vec<Sequence<u32>>, OutOfMemory> {
         let mut orders = Vec::new(alloc);
         for programme in 0..3 {
-            orders.push(self.called(alloc, programme)?)?;
+            orders.push(Sequence::from_vec(self.called(alloc, programme)?))?;
         }
         Ok(orders)
     }
 
     /// The lists of all candidates.
-    fn all_lists(&self, alloc: Global) -> Result<Vec<Vec<u32>>, OutOfMemory> {
+    fn all_lists(&self, alloc: Global) -> Result<Vec<Sequence<u32>>, OutOfMemory> {
         let mut lists = Vec::new(alloc);
         for list in self.lists.iter() {
-            lists.push(list.to_vec(alloc)?)?;
+            lists.push(Sequence::from_vec(list.to_vec(alloc)?))?;
         }
         Ok(lists)
     }

@@ -3,7 +3,7 @@ ghost use Rattle.std.specs.Prelude.{◌≡◌, ◌<◌, IfOk};
 ghost use Rattle.markets.specs.Matchings.{IsStable};
 
 use crate::texts::{numbers_in, push_places, push_word, push_words};
-use admit_core::{OutOfMemory, Steps};
+use admit_core::{OutOfMemory, Sequence, Steps};
 use bar_fixpoint::{FirstPicker, LastPicker, Picker, TiredPicker, TurnPicker};
 use stable_market::{Market, MarketFault, Solved, solve};
 use std::alloc::Global;
@@ -13,16 +13,16 @@ use std::sync::ledger::{Blank, Ledger};
 /// A market's parts.
 #[derive(Drop)]
 struct Parts {
-    lists: Vec<Vec<u32>>,
-    orders: Vec<Vec<u32>>,
+    lists: Vec<Sequence<u32>>,
+    orders: Vec<Sequence<u32>>,
     seats: Vec<u32>,
 }
 
 /// The lists of candidates.
-fn lists_in(alloc: Global, text: &str) -> Result<Vec<Vec<u32>>, OutOfMemory> {
+fn lists_in(alloc: Global, text: &str) -> Result<Vec<Sequence<u32>>, OutOfMemory> {
     let mut lists = Vec::new(alloc);
     for list in text.split(";") {
-        lists.push(numbers_in(alloc, list)?)?;
+        lists.push(Sequence::from_vec(numbers_in(alloc, list)?))?;
     }
     Ok(lists)
 }
@@ -41,7 +41,8 @@ fn parts_in(alloc: Global, input: &str) -> Result<Parts, OutOfMemory> {
     }
     for programme in programmes.split(";") {
         let (seats, order) = programme.split_once(":").unwrap_or((programme, ""));
-        parts.orders.push(numbers_in(alloc, order)?)?;
+        let order = numbers_in(alloc, order)?;
+        parts.orders.push(Sequence::from_vec(order))?;
         if let Ok(seats) = seats.trim().parse::<u32>() {
             parts.seats.push(seats)?;
         }
@@ -52,8 +53,8 @@ fn parts_in(alloc: Global, input: &str) -> Result<Parts, OutOfMemory> {
 /// The market of few lists and orders.
 pub(crate) fn made(
     alloc: Global,
-    lists: Vec<Vec<u32>>,
-    orders: Vec<Vec<u32>>,
+    lists: Vec<Sequence<u32>>,
+    orders: Vec<Sequence<u32>>,
     seats: Vec<u32>,
 ) -> Result<Market, MarketFault> {
     if lists.len() > 9 || orders.len() > 9 {
