@@ -1,5 +1,5 @@
 -- The first of a list by the heads of its kinds.
-use Rattle.std.proofs.Common.{ℕ, ◌<◌, ◌≡◌, Bool, true, false, not, ◌&&◌, ◌||◌, List, [], ◌∷◌, map, inl, inr, refl, sym}
+use Rattle.std.proofs.Common.{ℕ, ◌<◌, ◌≡◌, Bool, true, false, cond, not, ◌&&◌, ◌||◌, List, [], ◌∷◌, map, inl, inr, refl, sym}
 use Rattle.std.proofs.Common.{◌∙◌, ap, arith, filter, Option, Some, None, nat_eq, nat_lt}
 use Rattle.std.specs.Prelude.{find, is_some}
 use Rattle.std.specs.List.{list_any, IsDistinct}
@@ -15,7 +15,6 @@ use Rattle.admit_core.proofs.OrderPermutes.{all_stay, later_key}
 use Rattle.call_order.specs.declared.kind.Kind.TheVariants.{Neither, ScholarOnly, ResidentOnly, BothKinds}
 use Rattle.call_order.specs.Kinds.{has_flags, kind_by, kind_of, is_of, head_of, without_first}
 use Rattle.call_order.proofs.MovedHeads.{own_flags}
-use Rattle.call_order.specs.QueuedCalls.{earlier_of}
 
 -- ---- whether someone remains, by kind
 swap_or : (a b c d : Bool) → ((a || b) || (c || d)) ≡ ((a || c) || (b || d))
@@ -67,19 +66,25 @@ residents_by_kind rs = any_either (is_of ResidentOnly) (is_of BothKinds) (λ r. 
     (λ r. by_other_flag r.resident r.scholar) rs
 
 -- ---- the first of two kinds is the one of lesser rank of their heads
-earlier_same : (x : Ranked) → earlier_of (Some x) (Some x) ≡ Some x
+-- the one of lesser rank
+abbrev pub earlier_of : Option Ranked → Option Ranked → Option Ranked
+earlier_of None other = other
+earlier_of (Some x) None = Some x
+earlier_of (Some x) (Some y) = cond (nat_lt x.rank y.rank) (Some x) (Some y)
+
+pub earlier_same : (x : Ranked) → earlier_of (Some x) (Some x) ≡ Some x
 earlier_same x =
     elim (cases_Bool (nat_lt x.rank x.rank)) [
       | inl below ↦ rw below refl
       | inr above ↦ rw above refl
     ]
 
-earlier_left : (x : Ranked) (o : Option Ranked) → ((y : Ranked) → o ≡ Some y → x.rank < y.rank)
+pub earlier_left : (x : Ranked) (o : Option Ranked) → ((y : Ranked) → o ≡ Some y → x.rank < y.rank)
     → earlier_of (Some x) o ≡ Some x
 earlier_left x None h = refl
 earlier_left x (Some y) h = let lt = h y refl in rw (lt-ltb x.rank y.rank lt) refl
 
-earlier_right : (x : Ranked) (o : Option Ranked) → ((y : Ranked) → o ≡ Some y → x.rank < y.rank)
+pub earlier_right : (x : Ranked) (o : Option Ranked) → ((y : Ranked) → o ≡ Some y → x.rank < y.rank)
     → earlier_of o (Some x) ≡ Some x
 earlier_right x None h = refl
 earlier_right x (Some y) h = let lt = h y refl in rw (le-ltb y.rank x.rank (omega arith)) refl

@@ -115,6 +115,7 @@ first-heads heads list taken capacity places ranks none room =
       first = λ kind. rw places (find-drop-position (is_of kind) list);
       count = rw all (omega arith);
       room = room;
+      all_ranks = ranks;
       ranks = rw all ranks;
     }
 
@@ -157,6 +158,7 @@ head-goes {heads} {list} {taken} {capacity} are view kind head is_head =
                 (find-drop-next (is_of kind) list (p + 1));
             count = rw goes (omega (arith, are.count));
             room = are.room;
+            all_ranks = are.all_ranks;
             ranks = rw goes ranks;
           };
     }

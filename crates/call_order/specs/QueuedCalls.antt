@@ -1,5 +1,5 @@
 -- The next call by what remains and by counts of what was called.
-use Rattle.std.specs.Prelude.{ℕ, ◌+◌, ◌*◌, Bool, ◌&&◌, List, Option, Some, None, option_map, find, nat_lt}
+use Rattle.std.specs.Prelude.{ℕ, ◌+◌, ◌*◌, Bool, ◌&&◌, List, Option, option_map, find, nat_lt}
 use Rattle.std.specs.Prelude.{if◌then◌else◌}
 use Rattle.std.specs.List.{list_any}
 use Rattle.admit_core.specs.declared.ranking.Ranked.{Ranked}
@@ -18,12 +18,6 @@ ranking_by scholar_pct resident_pct list =
 -- the ranking of those who remain in queues
 abbrev pub ranking_in : ℕ → ℕ → QueueLists → RankGroup
 ranking_in scholar_pct resident_pct queues = ranking_by scholar_pct resident_pct queues.remaining
-
--- the one of lesser rank
-abbrev pub earlier_of : Option Ranked → Option Ranked → Option Ranked
-earlier_of None other = other
-earlier_of (Some x) None = Some x
-earlier_of (Some x) (Some y) = if nat_lt x.rank y.rank then Some x else Some y
 
 -- one more for each flag
 abbrev pub one_if : Bool → ℕ

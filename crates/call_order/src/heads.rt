@@ -1,11 +1,11 @@
 //! The places of the four heads.
 ghost use Rattle.std.specs.Prelude.{◌≡◌};
 ghost use Rattle.std.specs.List.{position_or_len};
-ghost use Rattle.call_order.specs.Heads.{place_of, moved};
+ghost use Rattle.call_order.specs.Heads.{first_place, place_of, moved};
 ghost use Rattle.call_order.specs.Kinds.{is_of};
 
 use crate::kind::Kind;
-use admit_core::Ranked;
+use admit_core::{Bound, Ranked};
 
 /// The place in a list of the first of each kind who remains, or the list's length.
 #[derive(Clone, Copy)]
@@ -38,6 +38,21 @@ impl Heads {
             Kind::ScholarOnly => self.scholar_only,
             Kind::ResidentOnly => self.resident_only,
             Kind::BothKinds => self.both_kinds,
+        }
+    }
+
+    /// The first place of the kinds that a bound lets be called.
+    pub fn first(&self, bound: Bound) -> usize
+        ensures { result ≡ first_place self.now bound }
+    {
+        match bound {
+            Bound::Free => self
+                .neither
+                .min(self.scholar_only)
+                .min(self.resident_only.min(self.both_kinds)),
+            Bound::Scholar | Bound::Alone => self.scholar_only.min(self.both_kinds),
+            Bound::Resident => self.resident_only.min(self.both_kinds),
+            Bound::Both => self.both_kinds,
         }
     }
 

@@ -1,11 +1,10 @@
 //! Call orders by four queues: each call is chosen by the heads of the queues alone.
-ghost use Rattle.std.specs.Prelude.{◌≡◌, ◌+◌, ◌++◌, ◌<◌, ◌≤◌, ◌^◌, ◌&&◌, [], length, map, find, nat_eq, option_map, IfOk, IfErr, OnErr};
+ghost use Rattle.std.specs.Prelude.{◌≡◌, ◌+◌, ◌++◌, ◌<◌, ◌≤◌, ◌^◌, ◌&&◌, [], length, map, nat_eq, option_map, IfOk, IfErr, OnErr};
 ghost use Rattle.std.specs.List.{list_any, IsDistinct};
-ghost use Rattle.std.specs.List.Sorted.{IsStrictlyIncreasing};
-ghost use Rattle.admit_core.specs.CallOrder.{may_be_called, IsCallOrder};
+ghost use Rattle.admit_core.specs.CallOrder.{IsCallOrder};
 ghost use Rattle.admit_core.specs.CallOrderLaws.{KeepsOrderLaws};
 ghost use Rattle.call_order.specs.Kinds.{is_of};
-ghost use Rattle.call_order.specs.QueuedCalls.{ranking_in, earlier_of, more_called, too_few, bound_by, call_by};
+ghost use Rattle.call_order.specs.QueuedCalls.{ranking_in, more_called, too_few, bound_by, call_by};
 
 use crate::kind::Kind;
 use crate::queues::Queues;
@@ -96,44 +95,12 @@ fn bound_by(queues: &Queues, rates: Rates, tally: Tally) -> Bound
     }
 }
 
-/// The one of lesser rank.
-fn earlier(one: Option<Ranked>, other: Option<Ranked>) -> Option<Ranked>
-    ensures { result ≡ earlier_of one other }
-{
-    match (one, other) {
-        (None, _) => other,
-        (Some(_), None) => one,
-        (Some(first), Some(second)) if first.rank < second.rank => Some(first),
-        (Some(_), Some(second)) => Some(second),
-    }
-}
-
-/// The least rank among those who remain and may be called: one of the heads.
-fn first_eligible(queues: &Queues, bound: Bound) -> Option<Ranked>
-    requires { IsStrictlyIncreasing (map (λ r. r.rank) queues.now.remaining) }
-    ensures { result ≡ find (may_be_called bound) queues.now.remaining }
-{
-    let scholar = queues.peek(Kind::ScholarOnly);
-    let resident = queues.peek(Kind::ResidentOnly);
-    let both = queues.peek(Kind::BothKinds);
-    match bound {
-        Bound::Free => earlier(
-            earlier(queues.peek(Kind::Neither), scholar),
-            earlier(resident, both),
-        ),
-        Bound::Scholar | Bound::Alone => earlier(scholar, both),
-        Bound::Resident => earlier(resident, both),
-        Bound::Both => both,
-    }
-}
-
 /// The next candidate, with their bound. `None` where nobody remains.
 fn next_call(queues: &Queues, rates: Rates, tally: Tally) -> Option<(Ranked, Bound)>
-    requires { IsStrictlyIncreasing (map (λ r. r.rank) queues.now.remaining) }
     ensures { result ≡ call_by rates tally queues.now.remaining }
 {
     let bound = bound_by(queues, rates, tally);
-    match first_eligible(queues, bound) {
+    match queues.first_eligible(bound) {
         None => None,
         Some(ranked) => Some((ranked, bound)),
     }

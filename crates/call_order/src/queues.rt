@@ -1,12 +1,13 @@
 //! The queues of the candidates who remain.
-ghost use Rattle.std.specs.Prelude.{◌≡◌, ◌+◌, ◌++◌, [], length, map, option_map, is_some, IfOk, IfNone, OnErr, ◌<◌, if◌then◌else◌};
+ghost use Rattle.std.specs.Prelude.{◌≡◌, ◌+◌, ◌++◌, [], length, map, find, option_map, is_some, IfOk, IfNone, OnErr, ◌<◌, if◌then◌else◌};
 ghost use Rattle.std.specs.Option.{option_to_list};
 ghost use Rattle.std.specs.List.Sorted.{IsStrictlyIncreasing};
+ghost use Rattle.admit_core.specs.CallOrder.{may_be_called};
 ghost use Rattle.call_order.specs.Kinds.{head_of, without_head};
 
 use crate::heads::{Heads, first_heads};
 use crate::kind::Kind;
-use admit_core::{OutOfMemory, Ranked, Steps};
+use admit_core::{Bound, OutOfMemory, Ranked, Steps};
 use std::alloc::Global;
 use std::marker::Model;
 use std::sync::ledger::Ledger;
@@ -73,6 +74,14 @@ impl Queues {
         ensures { result ≡ head_of kind self.now.remaining }
     {
         self.list.get(self.heads.place(kind)).copied()
+    }
+
+    /// The one of least rank whom a bound lets be called. Ranks ascend along the list, so it is the
+    /// head at the first place. `None` where nobody may be called.
+    pub(crate) fn first_eligible(&self, bound: Bound) -> Option<Ranked>
+        ensures { result ≡ find (may_be_called bound) self.now.remaining }
+    {
+        self.list.get(self.heads.first(bound)).copied()
     }
 
     /// Takes the head of a kind's queue, in one step. `None` where the queue is empty.

@@ -9,16 +9,11 @@ loop-ranked-init g c =
     let trace_room = c.in_ok-trace.ensures.capacity in
     record {
       so_far = rw (c.in_ok-list.ensures.items, c.in_ok-trace.ensures.items) (queued_none _ _ refl);
-      ranks = c.remaining-count.ensures.ranks;
       taken = rw c.in_ok-list.ensures.items (sym (append-nil c.args.queues.now.taken));
       steps = rw c.in_ok-list.ensures.items (omega arith);
       list_room = omega (arith, room, c.remaining-count.ensures.count);
       trace_room = omega (arith, trace_room, c.remaining-count.ensures.count);
     }
-
-pub next_call-requires : goal.next_call-requires
-next_call-requires g c =
-    c.loop-ranked.invariant.ranks
 
 pub count-tally-requires-clause-calls : goal.count-tally-requires-clause-calls
 count-tally-requires-clause-calls g c =
@@ -77,7 +72,6 @@ loop-ranked-preserved g c =
             c.pop.ensures.remaining,
             c.of.ensures,
           ) call.still;
-      ranks = c.pop.ensures.ranks;
       taken =
           rw (c.pop.ensures.taken, popped, c.loop-ranked.invariant.taken, c.push_reserved.ensures.items)
           (append_assoc c.args.queues.now.taken c.loop-ranked.list.items (c.in-Some.ranked.candidate ∷ []));

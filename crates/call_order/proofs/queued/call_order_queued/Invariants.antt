@@ -1,6 +1,5 @@
-use Rattle.std.proofs.Common.{◌+◌, ◌≤◌, ◌≡◌, ◌++◌, length, map}
+use Rattle.std.proofs.Common.{◌+◌, ◌≤◌, ◌≡◌, ◌++◌, length}
 use Rattle.std.specs.Prelude.{vec_capacity}
-use Rattle.std.specs.List.Sorted.{IsStrictlyIncreasing}
 use Rattle.call_order.specs.QueuedCalls.{ranking_by}
 use Rattle.call_order.proofs.QueuedSoFar.{QueuedSoFar}
 use Rattle.call_order.proofs.queued.call_order_queued.Given as goal
@@ -10,7 +9,6 @@ invariant-loop-ranked g l =
     record {
       so_far : QueuedSoFar (ranking_by l.scholar_pct l.resident_pct l.fn.queues.remaining) l.list.items l.trace.items
           l.tally l.queues.remaining;
-      ranks : IsStrictlyIncreasing (map (λ r. r.rank) l.queues.remaining);
       taken : l.queues.taken ≡ l.fn.queues.taken ++ l.list.items;
       steps : l.steps ≡ l.fn.steps + length l.list.items;
       list_room : length l.fn.queues.remaining ≤ vec_capacity l.list;
