@@ -1,6 +1,7 @@
 //! The lines of a day.
 ghost use Rattle.std.specs.Prelude.{◌≡◌, ◌<◌, ◌++◌, ◌∷◌, [], All, IfOk, IsOk, codes, flat_map, length, map};
 ghost use Rattle.std.specs.Fmt.{decimal};
+ghost use Rattle.admit_core.specs.Lines.{status_word};
 ghost use Rattle.report.specs.DayText.{IsFallOf, IsLapseOf, IsPassOf, auto_line, dated_day_text, day_text, evening_text, fall_line, freed_line, lapse_line, offer_line, pass_text, passes_text};
 ghost use Rattle.report.specs.Ids.{numbers_text, wish_id};
 ghost use Rattle.report.specs.Pushes.{Pushes};
@@ -8,9 +9,9 @@ ghost use Rattle.report.specs.Words.{further};
 
 use crate::date::push_date;
 use crate::ids::{push_line, push_numbers, school_id, wish_id};
-use crate::piece::{Piece, push_all, push_ascii, push_spaced};
+use crate::piece::{Piece, push_after, push_all, push_ascii, push_spaced, push_text};
 use admit_core::{
-    Change, DayRecord, Dossier, Fall, Lapse, OutOfMemory, PassEnd, PassRecord, Terms,
+    Change, DayRecord, Dossier, Fall, Lapse, OutOfMemory, PassEnd, PassRecord, Status, Terms,
 };
 use calendar::{Civil, deadline, on_day};
 use std::alloc::{AllocError, Global};
@@ -56,13 +57,22 @@ pub fn push_falls(text: &mut String, dossier: &Dossier, falls: &[Fall]) -> Resul
     Ok(())
 }
 
+/// Adds a line: some text, an id, and what stands behind it. Lines of offers and of automatic
+/// answers are most of a day, so they aren't made of pieces.
+#[inline(always)]
+fn push_id(text: &mut String, before: &str, id: u32, end: &str) -> Result<(), AllocError>
+    ensures { Pushes result text.old text.new (before.now ++ decimal id ++ end.now) }
+{
+    push_after(text, before, id)?;
+    push_text(text, end)
+}
+
 /// Adds the line of the offer of a wish.
 fn push_offer(text: &mut String, dossier: &Dossier, wish: u32) -> Result<(), AllocError>
     requires { wish < length dossier.now.wishes }
     ensures { Pushes result text.old text.new (offer_line dossier.now wish) }
 {
-    let id = Piece::Number(wish_id(dossier, wish));
-    push_all(text, &[Piece::Text("offer "), id, Piece::End])
+    push_id(text, "offer ", wish_id(dossier, wish), "\n")
 }
 
 /// Adds the lines of the offers of wishes.
@@ -76,19 +86,30 @@ fn push_offers(text: &mut String, dossier: &Dossier, offers: &[u32]) -> Result<(
     Ok(())
 }
 
+/// What stands behind the id in the line of a wish that comes to this status.
+fn status_end(status: Status) -> &'static str
+    ensures { result.now ≡ further 32 (status_word status ∷ []) }
+{
+    match status {
+        Status::Waiting => " waiting\n",
+        Status::Offered => " offered\n",
+        Status::Accepted => " accepted\n",
+        Status::Refused => " refused\n",
+        Status::Withdrawn => " withdrawn\n",
+        Status::Quit => " quit\n",
+        Status::AutoRefused => " auto_refused\n",
+        Status::AutoWithdrawn => " auto_withdrawn\n",
+        Status::Lapsed => " lapsed\n",
+    }
+}
+
 /// Adds the line of a change that an automatic answer made.
 fn push_auto(text: &mut String, dossier: &Dossier, change: Change) -> Result<(), AllocError>
     requires { change.wish < length dossier.now.wishes }
     ensures { Pushes result text.old text.new (auto_line dossier.now change) }
 {
-    let pieces = [
-        Piece::Text("auto "),
-        Piece::Number(wish_id(dossier, change.wish)),
-        Piece::Space,
-        Piece::Word(change.status),
-        Piece::End,
-    ];
-    push_all(text, &pieces)
+    let id = wish_id(dossier, change.wish);
+    push_id(text, "auto ", id, status_end(change.status))
 }
 
 /// Adds the lines of the changes that automatic answers made.
