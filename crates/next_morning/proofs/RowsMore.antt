@@ -1,5 +1,7 @@
 -- Rows that are made by place.
-use Rattle.std.proofs.Common.{ℕ, ◌+◌, ◌<◌, ◌≡◌, List, [], ◌∷◌, ◌++◌, length, map, take, get_or, ap, arith}
+use Rattle.std.proofs.Common.{ℕ, zero, suc, ◌+◌, ◌<◌, ◌≡◌, Bool, true, List, [], ◌∷◌, ◌++◌, length, map, take}
+use Rattle.std.proofs.Common.{filter, get_or, inl, inr, ap, arith}
+use Rattle.std.proofs.lemmas.Bool.{cases_Bool}
 use Rattle.std.specs.List.{enumerate_from}
 use Rattle.std.proofs.lemmas.List.{length-take-le, take_more}
 
@@ -17,3 +19,14 @@ module _ {X Y : Type 0} (made : ℕ × X → Y) where
   rows_more xs k d lt =
       let front : length (take k xs) ≡ k = length-take-le k xs (omega (arith, lt)) in
       rw (take_more xs k d lt) (row_more 0 (take k xs) (get_or xs k d) k (omega (arith, front)))
+
+-- where an item passes, the rows of those that pass aren't none
+pub some_row : {X Y : Type 0} (made : X → Y) (test : X → Bool) (xs : List X) (k : ℕ) (d : X) → k < length xs
+    → test (get_or xs k d) ≡ true → map made (filter test xs) ≡ [] → ⊥
+some_row made test [] k d lt passes none = absurd (omega (arith, lt))
+some_row made test (x ∷ xs) zero d lt passes none = let found = rw passes at none in absurd (cc)
+some_row made test (x ∷ xs) (suc k) d lt passes none =
+    elim (cases_Bool (test x)) [
+      | inl here ↦ let found = rw here at none in absurd (cc)
+      | inr not_here ↦ some_row made test xs k d (omega (arith, lt)) passes (rw not_here at none)
+    ]

@@ -1,5 +1,5 @@
 -- The tables of the morning after an evening.
-use Rattle.std.specs.Prelude.{ℕ, ◌-◌, List, Option, Some, None, filter, map, nat_lt, zip}
+use Rattle.std.specs.Prelude.{◌≡◌, ℕ, ◌-◌, List, [], Option, Some, None, filter, map, nat_lt, zip}
 use Rattle.admit_core.specs.declared.state.Mark.{Mark}
 use Rattle.admit_core.specs.declared.tables.AnswerRow.{AnswerRow}
 use Rattle.admit_core.specs.declared.tables.CeilingRow.{CeilingRow}
@@ -30,6 +30,13 @@ later_ceilings a rows =
 abbrev pub later_answers : ℕ → List AnswerRow → List AnswerRow
 later_answers a rows =
     map (λ (x : AnswerRow). record x { day = x.day - a }) (filter (λ x. nat_lt a x.day) rows)
+
+-- the morning after day a has no row of the slots that a day changes
+pub record HasNoRows (a : ℕ) (t : Tables) : Type 0 where
+  pub schools : t.schools ≡ []
+  pub wishes : t.wishes ≡ []
+  pub ceilings : later_ceilings a t.ceilings ≡ []
+  pub answers : later_answers a t.answers ≡ []
 
 -- the tables of the morning after day a: the rows as they were, but that the schools have their
 -- ceilings of that day, each wish its status of the evening, and later days are counted from there

@@ -1,5 +1,5 @@
 -- The rows of a dossier, with the ids that its places stand for.
-use Rattle.std.specs.Prelude.{ℕ, List, [], map, option_map, slice_get}
+use Rattle.std.specs.Prelude.{◌≡◌, ℕ, List, [], map, option_map, slice_get}
 use Rattle.std.specs.Option.{option_map_or}
 use Rattle.admit_core.specs.declared.dossier.Answer.{Answer}
 use Rattle.admit_core.specs.declared.dossier.AnswerKind.{AnswerKind}
@@ -43,6 +43,13 @@ target_row wishes _ target = id_at (λ w. w.id) wishes target
 abbrev pub answer_row : List Wish → Answer → AnswerRow
 answer_row wishes a =
     record { day = a.day; kind = a.kind; target = target_row wishes a.kind a.target }
+
+-- a dossier has no school, no wish, no ceiling and no answer
+pub record HasNoDailyRows (d : DossierRows) : Type 0 where
+  pub schools : d.schools ≡ []
+  pub wishes : d.wishes ≡ []
+  pub ceilings : d.ceilings ≡ []
+  pub answers : d.answers ≡ []
 
 -- the rows of the schools, the wishes, the ceilings and the answers
 abbrev pub rows_back : DossierRows → Tables

@@ -1,7 +1,7 @@
 //! Rows with their ids again, from the dossier that they stand for.
-ghost use Rattle.std.specs.Prelude.{◌≡◌, IfOk, map};
+ghost use Rattle.std.specs.Prelude.{◌≡◌, [], IfOk, IsOk, map};
 ghost use Rattle.next_morning.specs.RowsBack as Back;
-ghost use Rattle.next_morning.specs.RowsBack.{id_at, rows_back};
+ghost use Rattle.next_morning.specs.RowsBack.{HasNoDailyRows, id_at, rows_back};
 
 use admit_core::{
     Answer, AnswerKind, AnswerRow, CeilingChange, CeilingRow, Dossier, OutOfMemory, Programme,
@@ -95,8 +95,12 @@ fn answer_row(wishes: &[Wish], answer: &Answer) -> AnswerRow
 }
 
 fn school_rows(alloc: Global, schools: &[School]) -> Result<Vec<SchoolRow>, AllocError>
-    ensures { IfOk result (λ rows. rows.items ≡ map Back.school_row schools.now) }
+    ensures rows { IfOk result (λ rows. rows.items ≡ map Back.school_row schools.now) }
+    ensures always { schools.now ≡ [] → IsOk result }
 {
+    if schools.is_empty() {
+        return Ok(Vec::new(alloc));
+    }
     schools
         .iter()
         .map(|school| school_row(school))
@@ -109,9 +113,13 @@ fn wish_rows(
     schools: &[School],
     wishes: &[Wish],
 ) -> Result<Vec<WishRow>, AllocError>
-    ensures { IfOk result (λ rows. rows.items
+    ensures rows { IfOk result (λ rows. rows.items
         ≡ map (Back.wish_row programmes.now schools.now) wishes.now) }
+    ensures always { wishes.now ≡ [] → IsOk result }
 {
+    if wishes.is_empty() {
+        return Ok(Vec::new(alloc));
+    }
     let rows = wishes
         .iter()
         .map(|wish| wish_row(programmes, schools, wish));
@@ -123,8 +131,13 @@ fn ceiling_rows(
     schools: &[School],
     changes: &[CeilingChange],
 ) -> Result<Vec<CeilingRow>, AllocError>
-    ensures { IfOk result (λ rows. rows.items ≡ map (Back.ceiling_row schools.now) changes.now) }
+    ensures rows { IfOk result (λ rows. rows.items
+        ≡ map (Back.ceiling_row schools.now) changes.now) }
+    ensures always { changes.now ≡ [] → IsOk result }
 {
+    if changes.is_empty() {
+        return Ok(Vec::new(alloc));
+    }
     let rows = changes.iter().map(|change| ceiling_row(schools, change));
     rows.collect(alloc)
 }
@@ -134,8 +147,13 @@ fn answer_rows(
     wishes: &[Wish],
     answers: &[Answer],
 ) -> Result<Vec<AnswerRow>, AllocError>
-    ensures { IfOk result (λ rows. rows.items ≡ map (Back.answer_row wishes.now) answers.now) }
+    ensures rows { IfOk result (λ rows. rows.items
+        ≡ map (Back.answer_row wishes.now) answers.now) }
+    ensures always { answers.now ≡ [] → IsOk result }
 {
+    if answers.is_empty() {
+        return Ok(Vec::new(alloc));
+    }
     let rows = answers.iter().map(|answer| answer_row(wishes, answer));
     rows.collect(alloc)
 }
@@ -143,7 +161,8 @@ fn answer_rows(
 /// The rows of the schools, the wishes, the ceilings and the answers of a dossier; the other lists
 /// are empty.
 pub(crate) fn rows_back(alloc: Global, dossier: &Dossier) -> Result<Tables, OutOfMemory>
-    ensures { IfOk result (λ rows. rows ≡ rows_back dossier.now) }
+    ensures rows { IfOk result (λ rows. rows ≡ rows_back dossier.now) }
+    ensures always { HasNoDailyRows dossier.now → IsOk result }
 {
     let programmes = dossier.programmes.as_slice();
     let schools = dossier.schools.as_slice();

@@ -1,5 +1,5 @@
 //! The dates of open offers.
-ghost use Rattle.std.specs.Prelude.{◌≡◌, ◌<◌, IfOk, length};
+ghost use Rattle.std.specs.Prelude.{◌≡◌, ◌<◌, [], IfOk, IsOk, length};
 ghost use Rattle.calendar.specs.Dates.{IsCivil, date_of};
 ghost use Rattle.dossier_csv.specs.Columns.{since_of};
 ghost use Rattle.report.specs.FinalText.{HasDate, HasDates};
@@ -42,7 +42,9 @@ pub(crate) fn dated_rows(
     terms: &Terms,
 ) -> Result<Vec<StateRow>, OutOfMemory>
     requires { HasDates evening.now start terms.now.before }
-    ensures { IfOk result (λ rows. rows.items ≡ dated_rows evening.now start terms.now.before) }
+    ensures rows { IfOk result (λ rows. rows.items
+        ≡ dated_rows evening.now start terms.now.before) }
+    ensures always { evening.now.dossier.wishes ≡ [] → IsOk result }
 {
     let mut rows = Vec::new(alloc);
     let wishes = evening.dossier().wishes.as_slice();

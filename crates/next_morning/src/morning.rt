@@ -1,12 +1,12 @@
 //! The tables of the next morning.
-ghost use Rattle.std.specs.Prelude.{◌≡◌, IfOk, IfSome, None, OnOk, option_copied};
+ghost use Rattle.std.specs.Prelude.{◌≡◌, [], IfOk, IfSome, IsOk, None, OnOk, option_copied};
 ghost use Rattle.admit_core.specs.Days.{ceilings_of};
 ghost use Rattle.admit_core.specs.Relations.{first_fault};
 ghost use Rattle.admit_core.specs.Standing.{dossier_of};
 ghost use Rattle.admit_core.specs.declared.tables.Tables.{Tables as Rows};
 ghost use Rattle.next_morning.specs.Laws.{IsAccepted};
-ghost use Rattle.next_morning.specs.Morning.{HaveDates, morning_tables};
-ghost use Rattle.next_morning.specs.RowsBack.{daily_rows};
+ghost use Rattle.next_morning.specs.Morning.{HasNoRows, HaveDates, morning_tables};
+ghost use Rattle.next_morning.specs.RowsBack.{HasNoDailyRows, daily_rows};
 
 use crate::back::rows_back;
 use crate::rows::{later_answers, later_ceilings, school_rows, told_rows};
@@ -26,8 +26,9 @@ fn turn(
 ) -> Result<(), OutOfMemory>
     requires ceilings { ceilings.now ≡ ceilings_of evening.now.dossier day }
     requires dates { IfSome (option_copied dated) (HaveDates evening.now) }
-    ensures { OnOk result (tables.new
+    ensures turned { OnOk result (tables.new
         ≡ morning_tables day tables.old evening.now (option_copied dated.entry)) }
+    ensures always { evening.now.dossier.wishes ≡ [] → HasNoRows day tables.old → IsOk result }
 {
     let schools = school_rows(alloc, tables.schools.as_slice(), ceilings)?;
     tables.schools = Sequence::from_vec(schools);
@@ -59,6 +60,7 @@ pub fn next_morning(
     ensures tables { IfOk result (λ next. next
         ≡ morning_tables day tables evening.now (option_copied dated.entry)) }
     ensures accepted { IsAccepted tables → IfOk result IsAccepted }
+    ensures always { HasNoRows day tables → IsOk result }
 {
     evening.accepts_once();
     let _ = evening.marks(); // learns that there is one for each wish
@@ -79,9 +81,10 @@ pub fn next_rows(
 ) -> Result<Tables, OutOfMemory>
     requires ceilings { ceilings.now ≡ ceilings_of evening.now.dossier day }
     requires dates { IfSome (option_copied dated) (HaveDates evening.now) }
-    ensures { (t : Rows) → evening.now.dossier ≡ dossier_of t → first_fault t ≡ None
+    ensures rows { (t : Rows) → evening.now.dossier ≡ dossier_of t → first_fault t ≡ None
         → IfOk result (λ rows. rows
         ≡ daily_rows (morning_tables day t evening.now (option_copied dated.entry))) }
+    ensures always { HasNoDailyRows evening.now.dossier → IsOk result }
 {
     let mut rows = rows_back(alloc, evening.dossier())?;
     turn(alloc, &mut rows, evening, ceilings, day, dated)?;

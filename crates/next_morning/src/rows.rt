@@ -1,5 +1,5 @@
 //! The rows that are not as they were on the day before.
-ghost use Rattle.std.specs.Prelude.{◌≡◌, IfOk, IfSome, map, option_copied, zip};
+ghost use Rattle.std.specs.Prelude.{◌≡◌, [], IfOk, IfSome, IsOk, map, option_copied, zip};
 ghost use Rattle.next_morning.specs.Morning.{HaveDates, later_answers, later_ceilings, state_row, told_rows, with_ceiling};
 
 use crate::dates::dated_rows;
@@ -14,9 +14,13 @@ pub(crate) fn school_rows(
     schools: &[SchoolRow],
     ceilings: &[u32],
 ) -> Result<Vec<SchoolRow>, OutOfMemory>
-    ensures { IfOk result (λ rows. rows.items ≡ map with_ceiling
+    ensures rows { IfOk result (λ rows. rows.items ≡ map with_ceiling
         (zip schools.now ceilings.now)) }
+    ensures always { schools.now ≡ [] → IsOk result }
 {
+    if schools.is_empty() {
+        return Ok(Vec::new(alloc));
+    }
     let mut rows = Vec::new(alloc);
     for (school, ceiling) in schools.iter().zip(ceilings) {
         rows.push(SchoolRow {
@@ -33,8 +37,12 @@ fn state_rows(
     wishes: &[WishRow],
     marks: &[Mark],
 ) -> Result<Vec<StateRow>, OutOfMemory>
-    ensures { IfOk result (λ rows. rows.items ≡ map state_row (zip wishes.now marks.now)) }
+    ensures rows { IfOk result (λ rows. rows.items ≡ map state_row (zip wishes.now marks.now)) }
+    ensures always { wishes.now ≡ [] → IsOk result }
 {
+    if wishes.is_empty() {
+        return Ok(Vec::new(alloc));
+    }
     let mut rows = Vec::new(alloc);
     for (wish, mark) in wishes.iter().zip(marks) {
         rows.push(StateRow {
@@ -54,8 +62,9 @@ pub(crate) fn told_rows(
     dated: Option<&DatedTerms>,
 ) -> Result<Vec<StateRow>, OutOfMemory>
     requires { IfSome (option_copied dated) (HaveDates evening.now) }
-    ensures { IfOk result (λ rows. rows.items
+    ensures rows { IfOk result (λ rows. rows.items
         ≡ told_rows wishes.now evening.now (option_copied dated.entry)) }
+    ensures always { wishes.now ≡ [] → evening.now.dossier.wishes ≡ [] → IsOk result }
 {
     match dated {
         None => state_rows(alloc, wishes, evening.marks()),
@@ -69,7 +78,8 @@ pub(crate) fn later_ceilings(
     changes: &[CeilingRow],
     day: u32,
 ) -> Result<Vec<CeilingRow>, OutOfMemory>
-    ensures { IfOk result (λ rows. rows.items ≡ later_ceilings day changes.now) }
+    ensures rows { IfOk result (λ rows. rows.items ≡ later_ceilings day changes.now) }
+    ensures always { later_ceilings day changes.now ≡ [] → IsOk result }
 {
     let mut rows = Vec::new(alloc);
     for change in changes {
@@ -89,7 +99,8 @@ pub(crate) fn later_answers(
     answers: &[AnswerRow],
     day: u32,
 ) -> Result<Vec<AnswerRow>, OutOfMemory>
-    ensures { IfOk result (λ rows. rows.items ≡ later_answers day answers.now) }
+    ensures rows { IfOk result (λ rows. rows.items ≡ later_answers day answers.now) }
+    ensures always { later_answers day answers.now ≡ [] → IsOk result }
 {
     let mut rows = Vec::new(alloc);
     for answer in answers {

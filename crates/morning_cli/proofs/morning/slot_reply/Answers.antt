@@ -6,6 +6,6 @@ pub returns : goal.returns
 returns c = λ t same none. (
   refl,
   text_is c.args.slot c.requires.daily t c.args.evening.now c.args.day (option_copied c.args.dated) _ _ _ _ _
-      (c.is_some.ensures ∙ lent_some c.args.dated) (c.in_ok-rows.ensures t same none) c.new-text.ensures.bytes
+      (c.is_some.ensures ∙ lent_some c.args.dated) (c.in_ok-rows.ensures.rows t same none) c.new-text.ensures.bytes
       c.in_ok-push_slot.ensures.bytes (ap vec_items c.into_bytes.ensures.value),
 )

@@ -5,8 +5,8 @@ use Rattle.std.proofs.lemmas.Simd.{map-map}
 use Rattle.next_morning.specs.Morning.{with_ceiling}
 use Rattle.next_morning.proofs.rows.school_rows.Goals as goal
 
-pub returns : goal.returns
-returns c =
+pub returns-clause-rows : goal.returns-clause-rows
+returns-clause-rows c =
     let end = YieldsList-end
     (YieldsList-from_zip {s = c.into_iter-school-iterator.result}
     (YieldsList-from_slice c.args.schools.now (search rules))

@@ -5,8 +5,8 @@ use Rattle.std.proofs.lemmas.Simd.{map-map}
 use Rattle.next_morning.specs.Morning.{state_row}
 use Rattle.next_morning.proofs.rows.state_rows.Goals as goal
 
-pub returns : goal.returns
-returns c =
+pub returns-clause-rows : goal.returns-clause-rows
+returns-clause-rows c =
     let end = YieldsList-end
     (YieldsList-from_zip {s = c.into_iter-wish-iterator.result} (YieldsList-from_slice c.args.wishes.now (search rules))
     (YieldsList-from_slice c.args.marks.now (search rules)))
