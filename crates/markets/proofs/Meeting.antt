@@ -3,7 +3,7 @@ use Rattle.std.proofs.Common.{ℕ, zero, suc, ◌+◌, ◌-◌, ◌≤◌, ◌<�
 use Rattle.std.proofs.Common.{List, [], ◌∷◌, ◌++◌, length, take, replicate, get_or, inl, inr, refl, sym, ◌∙◌, ap}
 use Rattle.std.proofs.Common.{subst, arith, nat_eq, nat_lt}
 use Rattle.std.specs.Prelude.{◌==◌, Option, Some, find, slice_get, slice_index}
-use Rattle.std.specs.List.{list_all, range_with_len, IsDistinct, AllByRecursion}
+use Rattle.std.specs.List.{list_all, range_with_len, AllPairs, IsDistinct, AllByRecursion}
 use Rattle.std.specs.List.Sorted.{IsNonDecreasing, IsPermutation}
 use Rattle.std.proofs.Math.ListN.{set}
 use Rattle.std.proofs.lemmas.Bool.{cases_Bool, cases_eq, and_parts, and_from, or_left, or_right, eqb-true, eq-eqb}
@@ -20,7 +20,7 @@ use Rattle.std.proofs.lemmas.List.Sorted.{list_any-IsPermutation}
 use Rattle.std.proofs.lemmas.Map.Keys.{IsDistinct-IsPermutation, IsStrictlyIncreasing-from_distinct}
 use Rattle.admit_core.specs.Lists.{is_among}
 use Rattle.admit_core.proofs.FullBeds.{rising_distinct}
-use Rattle.admit_core.proofs.Plain.{same_test}
+use Rattle.admit_core.proofs.Plain.{and_assoc, and_true, same_test}
 use Rattle.admit_core.proofs.Tests.{Ascends, same_members}
 use Rattle.linked_demand.proofs.PlaceOrder.{ascends-filter, ascends-range}
 use Rattle.markets.specs.Firsts.{among_filter, range_has, one_of_all, all_of}
@@ -36,14 +36,6 @@ use Rattle.markets.proofs.Listing.{naming_more}
 use Rattle.markets.proofs.Ordering.{lister_within}
 
 -- an order begins with one candidate more where they stand next
-and_true : (b : Bool) → (b && true) ≡ b
-and_true true = refl
-and_true false = refl
-
-and_past : (a b c : Bool) → (a && (b && c)) ≡ ((a && b) && c)
-and_past true b c = refl
-and_past false b c = refl
-
 begins_more : (xs order : List ℕ) (x : ℕ) → begins_with (xs ++ x ∷ []) order
     ≡ (begins_with xs order && is_at x (slice_get order (length xs)))
 begins_more [] [] x = refl
@@ -51,7 +43,7 @@ begins_more [] (y ∷ ys) x = and_true (nat_eq x y)
 begins_more (z ∷ zs) [] x = refl
 begins_more (z ∷ zs) (y ∷ ys) x =
     ap (λ b. nat_eq z y && b) (begins_more zs ys x)
-    ∙ and_past (nat_eq z y) (begins_with zs ys) (is_at x (slice_get ys (length zs)))
+    ∙ and_assoc (nat_eq z y) (begins_with zs ys) (is_at x (slice_get ys (length zs)))
 
 -- what an order begins with is the order where it is as long
 begins_whole : (xs order : List ℕ) → begins_with xs order ≡ true → length xs ≡ length order → order ≡ xs
@@ -117,11 +109,11 @@ above_all : (x : ℕ) (xs : List ℕ) → ((k : ℕ) → k < length xs → x < g
 above_all x [] each = tt
 above_all x (y ∷ ys) each = (each 0 (omega arith), above_all x ys (λ k lt. each (suc k) (omega (arith, lt))))
 
-all_rise : (xs : List ℕ) → ((i j : ℕ) → i < j → j < length xs → get_or xs i 0 < get_or xs j 0) → Ascends xs
-all_rise [] rise = tt
-all_rise (x ∷ xs) rise = (
-  above_all x xs (λ k lt. rise 0 (suc k) (omega arith) (omega (arith, lt))),
-  all_rise xs (λ i j i_lt j_lt. rise (suc i) (suc j) (omega (arith, i_lt)) (omega (arith, j_lt))),
+all_rise : (xs : List ℕ) → AllPairs (λ x y. x < y) xs → Ascends xs
+all_rise [] pairs = tt
+all_rise (x ∷ xs) pairs = (
+  above_all x xs (λ k lt. pairs 0 (suc k) 0 (omega arith) (omega (arith, lt))),
+  all_rise xs (λ i j d i_lt j_lt. pairs (suc i) (suc j) d (omega (arith, i_lt)) (omega (arith, j_lt))),
 )
 
 -- an order stands exactly where its candidates, in order, are those who list its programme
@@ -157,8 +149,8 @@ module _ (m : MarketRows) (p : ℕ) (sorted : List ℕ) (moved : IsPermutation (
       let apart : IsDistinct nat_eq sorted = IsDistinct-IsPermutation nat_eq flips (market_order m p) sorted moved
       (distinct_from (market_order m p) second.0) in
       same_members sorted (listers m p)
-      (all_rise sorted (λ i j i_lt j_lt.
-      AllPairs-from_increasing sorted (IsStrictlyIncreasing-from_distinct sorted rises apart) i j 0 i_lt j_lt))
+      (all_rise sorted
+      (AllPairs-from_increasing sorted (IsStrictlyIncreasing-from_distinct sorted rises apart)))
       (ascends-filter (lists_it m p) (range_with_len 0 (length m.lists)) (ascends-range 0 (length m.lists)))
       (λ x. same_test (is_among x sorted) (is_among x (listers m p))
       (λ in_sorted. lister x (one_of_all (lists_it m p) x (market_order m p) second.1 (among_sorted x ∙ in_sorted)))
