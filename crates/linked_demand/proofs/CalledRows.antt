@@ -6,7 +6,7 @@ use Rattle.std.specs.Prelude.{All, ◌==◌, Option, option_map, slice_get, unwr
 use Rattle.std.proofs.lemmas.Option.{slice_get-get_or}
 use Rattle.std.specs.List.{before_first, flat_map, range_with_len, IsDistinct}
 use Rattle.std.proofs.lemmas.Bool.{and_parts, cases_Bool, cases_eq, eqb-true, eq-eqb, false≢true, lt-ltb, ne_eqb}
-use Rattle.std.proofs.lemmas.List.{append-nil, flat_map_more, get_or-map, length-take-le, map-id, take_more}
+use Rattle.std.proofs.lemmas.List.{append-nil, flat_map_more, get_or-map, length-take-le, take_more}
 use Rattle.std.proofs.lemmas.List.Elements.{filter-append}
 use Rattle.std.proofs.lemmas.List.Folds.{Any-from_list_any, list_any_at}
 use Rattle.admit_core.proofs.Plain.{and_false, any-filter, filter_none, filter_same}
@@ -21,6 +21,8 @@ use Rattle.day_state.proofs.Ordering.{range_more}
 use Rattle.day_state.proofs.Places.{candidate_in}
 use Rattle.proposals.proofs.Front.{front_same}
 use Rattle.linked_demand.specs.Called.{before_at, called_all, called_by, called_for, group_claim, is_of_group, order_at}
+use Rattle.linked_demand.specs.declared.calling.Caller.{Caller}
+use Rattle.linked_demand.specs.Callers.{caller_at}
 use Rattle.linked_demand.specs.Links.{claim_of}
 use Rattle.linked_demand.specs.Opens.{applies_in}
 use Rattle.linked_demand.specs.Seats.{applies_at}
@@ -119,9 +121,16 @@ row_called d orders n p lt =
     ∙ skip_empty (claim_of d p) (applies_in d p)
     (λ c t. none_long (claim_of d p c) (sym (applies_claim d p c) ∙ t)) order
 
-pub row_itself : (d : DossierRows) (orders : List CallOrder) (n p : ℕ) → group_of d p < n
-    → map (λ k. k) (filter (applies_at d p) (called_all d orders n)) ≡ called_for d orders p
-row_itself d orders n p lt = map-id (filter (applies_at d p) (called_all d orders n)) ∙ row_called d orders n p lt
+-- what is kept of wishes that are called shows them, and how many stand before each
+pub shown_callers : (d : DossierRows) (orders : List CallOrder) (ks : List ℕ)
+    → map (λ (x : Caller). x.wish) (map (caller_at d orders) ks) ≡ ks
+shown_callers d orders [] = refl
+shown_callers d orders (k ∷ ks) = ap (λ (l : List ℕ). k ∷ l) (shown_callers d orders ks)
+
+pub shown_before : (d : DossierRows) (orders : List CallOrder) (ks : List ℕ)
+    → map (λ (x : Caller). x.before) (map (caller_at d orders) ks) ≡ map (before_at d orders) ks
+shown_before d orders [] = refl
+shown_before d orders (k ∷ ks) = ap (λ (l : List ℕ). before_at d orders k ∷ l) (shown_before d orders ks)
 
 -- what a filter leaves passes its test
 pub kept_by : (q : ℕ → Bool) (k : ℕ) (xs : List ℕ) → is_among k (filter q xs) ≡ true → q k ≡ true

@@ -1,15 +1,16 @@
 -- The lists of the wishes by group, and each candidate's wishes in them.
-use Rattle.std.proofs.Common.{ℕ, ◌+◌, ◌-◌, ◌≤◌, ◌<◌, ◌≡◌, Bool, true, false, not, ◌&&◌, List, map, length, get_or, inl}
-use Rattle.std.proofs.Common.{inr, refl, sym, ◌∙◌, ap, arith, nat_eq, filter, subst, Some, Vec, ltb, leb, take, drop}
-use Rattle.std.specs.Prelude.{◌==◌, ◌^◌}
+use Rattle.std.proofs.Common.{ℕ, ◌+◌, ◌-◌, ◌≤◌, ◌<◌, ◌≡◌, Bool, true, false, not, ◌&&◌, List, [], ◌∷◌, map, length}
+use Rattle.std.proofs.Common.{get_or, inl, inr, refl, sym, ◌∙◌, ap, arith, nat_eq, filter, subst, Some, Vec, ltb}
+use Rattle.std.proofs.Common.{leb, take, drop}
+use Rattle.std.specs.Prelude.{◌==◌, ◌^◌, slice_range, All}
 use Rattle.std.specs.declared.alloc.Global.{Global}
 use Rattle.std.specs.List.Sorted.{IsNonDecreasingBy, IsPartitionPoint}
 use Rattle.std.proofs.Math.ListN.{set}
 use Rattle.std.proofs.lemmas.Bool.{and_parts, cases_lt, eqb-true, le-leb, le-ltb, lt-leb, lt-ltb, ltb-true, ltb-false}
 use Rattle.std.proofs.lemmas.Bool.{or_cases}
-use Rattle.std.proofs.lemmas.List.{drop-map, get_or-map, get_or_default, length-map, length-set, map-id, take-map}
+use Rattle.std.proofs.lemmas.List.{drop-map, get_or-map, get_or_default, length-map, length-set, take-map}
 use Rattle.std.proofs.lemmas.Option.{slice_get-get_or}
-use Rattle.std.proofs.lemmas.List.Elements.{All-filter}
+use Rattle.std.proofs.lemmas.List.Elements.{All-drop, All-filter, All-take}
 use Rattle.std.proofs.lemmas.List.Filters.{length-filter_both}
 use Rattle.std.proofs.lemmas.List.Kept.{IsNonDecreasingBy-filter}
 use Rattle.admit_core.proofs.Plain.{filter_same, get_set_other}
@@ -18,8 +19,10 @@ use Rattle.day_state.specs.Kept.{candidate_in, IsIndex}
 use Rattle.day_state.proofs.Ordering.{between}
 use Rattle.day_state.specs.declared.spans.Span.{Span}
 use Rattle.day_state.specs.Spans.{IsWithin, part_of}
-use Rattle.linked_demand.specs.Claims.{IsSpanOf, AreApplicantsIn, AreBesideFrom, AreWishesIn, AreWishesFrom}
-use Rattle.linked_demand.specs.Claims.{begins_at, lower_before, programme_in}
+use Rattle.linked_demand.specs.declared.wishing.Application.{Application}
+use Rattle.linked_demand.specs.Claims.{AreApplicantsFrom, AreApplicantsIn, AreWishesIn, IsSpanOf, application_at}
+use Rattle.linked_demand.specs.Claims.{begins_at}
+use Rattle.linked_demand.specs.Claims.{lower_before, wishes_of}
 use Rattle.linked_demand.specs.Keyed.{AreRowsOf}
 use Rattle.linked_demand.specs.Called.{group_claim, is_of_group}
 use Rattle.linked_demand.proofs.Lining.{filter_twice}
@@ -51,67 +54,55 @@ wishes_in s order p wishes few index is =
     let P = λ (ks : List ℕ). AreWishesIn s p ks in
     subst P (sym is) right
 
+-- what is kept of wishes shows them
+pub shown_wishes : (s : DossierRows) (ks : List ℕ) → wishes_of (map (application_at s) ks) ≡ ks
+shown_wishes s [] = refl
+shown_wishes s (k ∷ ks) = ap (λ (l : List ℕ). k ∷ l) (shown_wishes s ks)
+
+-- the lists of a group, of an order by candidate
+pub applicants_in : (s : DossierRows) (order : List ℕ) (g : ℕ) (row : List Application) (own : List ℕ)
+    → length s.wishes < 2 ^ 32 → IsIndex s.wishes order
+    → row ≡ map (application_at s) (filter (is_of_group s g) order)
+    → own ≡ map (candidate_in s.wishes) (filter (is_of_group s g) order) → AreApplicantsIn s g row own
+applicants_in s order g row own few index row_is own_is =
+    let ks = filter (is_of_group s g) order in
+    let shown : wishes_of row ≡ ks = ap wishes_of row_is ∙ shown_wishes s ks in
+    record {
+      of_group = wishes_in s order g (wishes_of row) few index shown;
+      programmes_are = row_is ∙ ap (map (application_at s)) (sym shown);
+      candidates_are = own_is ∙ ap (map (candidate_in s.wishes)) (sym shown);
+    }
+
 -- the rows by group of an order by candidate
-pub wishes_from : (s : DossierRows) (order : List ℕ) (rows : List (Vec ℕ Global)) → length s.wishes < 2 ^ 32
-    → IsIndex s.wishes order
-    → AreRowsOf (λ k. k) (is_of_group s) (length s.groups) order rows → AreWishesFrom s 0 rows
-wishes_from s order rows few index are = record {
+pub applicants_from : (s : DossierRows) (order : List ℕ) (rows : List (Vec Application Global))
+    (beside : List (Vec ℕ Global)) → length s.wishes < 2 ^ 32 → IsIndex s.wishes order
+    → AreRowsOf (application_at s) (is_of_group s) (length s.groups) order rows
+    → AreRowsOf (candidate_in s.wishes) (is_of_group s) (length s.groups) order beside
+    → AreApplicantsFrom s 0 rows beside
+applicants_from s order rows beside few index are own = record {
   one_each = are.one_each;
-  each = λ p row le at. wishes_in s order p row.items few index (are.each p row at
-      ∙ map-id (filter (is_of_group s p) order));
+  one_beside = own.one_each;
+  each = λ g row theirs le at there.
+      applicants_in s order g row.items theirs.items few index (are.each g row at) (own.each g theirs there);
 }
-
--- the list that is taken out for a group is of the wishes for its programmes
-pub wishes_taken : (s : DossierRows) (n : ℕ) (rows : List (Vec ℕ Global)) (row d : Vec ℕ Global)
-    → n < length s.groups → row ≡ get_or rows n d → AreWishesFrom s n rows → AreWishesIn s n row.items
-wishes_taken s n rows row d lt is are =
-    are.each n row (omega arith) (slice_get-get_or rows n d (omega (arith, lt, are.one_each)) ∙ ap Some (sym is))
-
--- once the list of a group is taken out, the later ones are left
-pub wishes_later : (s : DossierRows) (n : ℕ) (rows : List (Vec ℕ Global)) (row : Vec ℕ Global)
-    → AreWishesFrom s n rows → AreWishesFrom s (n + 1) (set rows n row)
-wishes_later s n rows row are = record {
-  one_each = length-set rows n row ∙ are.one_each;
-  each = λ p other le at. are.each p other (omega arith) (get_set_other rows n p row other
-      (λ e. omega (arith, le, e)) at);
-}
-
-pub beside_from : (item : ℕ → ℕ) (s : DossierRows) (order : List ℕ) (rows beside : List (Vec ℕ Global))
-    → AreRowsOf (λ k. k) (is_of_group s) (length s.groups) order rows
-    → AreRowsOf item (is_of_group s) (length s.groups) order beside
-    → AreBesideFrom item s 0 rows beside
-beside_from item s order rows beside are own = record {
-  one_each = own.one_each;
-  each = λ p row other le at there.
-      own.each p other there
-      ∙ sym (ap (map item) (are.each p row at ∙ map-id (filter (is_of_group s p) order)));
-}
-
-pub beside_taken : (item : ℕ → ℕ) (s : DossierRows) (n : ℕ) (rows beside : List (Vec ℕ Global))
-    (row own d e : Vec ℕ Global) → n < length s.groups → row ≡ get_or rows n d → own ≡ get_or beside n e
-    → AreWishesFrom s n rows → AreBesideFrom item s n rows beside → own.items ≡ map item row.items
-beside_taken item s n rows beside row own d e lt is own_is are they =
-    they.each n row own (omega arith)
-    (slice_get-get_or rows n d (omega (arith, lt, are.one_each)) ∙ ap Some (sym is))
-    (slice_get-get_or beside n e (omega (arith, lt, they.one_each)) ∙ ap Some (sym own_is))
 
 -- the lists that are taken out for a group
-pub applicants_taken : (s : DossierRows) (n : ℕ) (rows candidates programmes : List (Vec ℕ Global))
-    (row own theirs d e f : Vec ℕ Global) → n < length s.groups
-    → row ≡ get_or rows n d → own ≡ get_or candidates n e → theirs ≡ get_or programmes n f
-    → AreWishesFrom s n rows → AreBesideFrom (candidate_in s.wishes) s n rows candidates
-    → AreBesideFrom (programme_in s.wishes) s n rows programmes → AreApplicantsIn s n row.items own.items theirs.items
-applicants_taken s n rows candidates programmes row own theirs d e f lt is own_is theirs_is are they those = record {
-  of_group = wishes_taken s n rows row d lt is are;
-  candidates_are = beside_taken (candidate_in s.wishes) s n rows candidates row own d e lt is own_is are they;
-  programmes_are = beside_taken (programme_in s.wishes) s n rows programmes row theirs d f lt is theirs_is are those;
-}
+pub applicants_taken : (s : DossierRows) (n : ℕ) (rows : List (Vec Application Global)) (beside : List (Vec ℕ Global))
+    (row d : Vec Application Global) (own e : Vec ℕ Global) → n < length s.groups
+    → row ≡ get_or rows n d → own ≡ get_or beside n e → AreApplicantsFrom s n rows beside
+    → AreApplicantsIn s n row.items own.items
+applicants_taken s n rows beside row d own e lt is own_is are =
+    are.each n row own (omega arith)
+    (slice_get-get_or rows n d (omega (arith, lt, are.one_each)) ∙ ap Some (sym is))
+    (slice_get-get_or beside n e (omega (arith, lt, are.one_beside)) ∙ ap Some (sym own_is))
 
-pub beside_later : (item : ℕ → ℕ) (s : DossierRows) (n : ℕ) (rows beside : List (Vec ℕ Global))
-    (row own : Vec ℕ Global) → AreBesideFrom item s n rows beside
-    → AreBesideFrom item s (n + 1) (set rows n row) (set beside n own)
-beside_later item s n rows beside row own are = record {
-  one_each = length-set beside n own ∙ are.one_each;
+-- once the lists of a group are taken out, the later ones are left
+pub applicants_later : (s : DossierRows) (n : ℕ) (rows : List (Vec Application Global)) (beside : List (Vec ℕ Global))
+    (row : Vec Application Global) (own : Vec ℕ Global) → AreApplicantsFrom s n rows beside
+    → AreApplicantsFrom s (n + 1) (set rows n row) (set beside n own)
+applicants_later s n rows beside row own are = record {
+  one_each = length-set rows n row ∙ are.one_each;
+  one_beside = length-set beside n own ∙ are.one_beside;
   each = λ p left other le at there.
       are.each p left other (omega arith) (get_set_other rows n p row left (λ e. omega (arith, le, e)) at)
       (get_set_other beside n p own other (λ e. omega (arith, le, e)) there);
@@ -219,26 +210,50 @@ span_is_claim s p wishes candidates c span waiting are is =
     (point_of_keys key wishes (λ k. leb k c ≡ true) (λ k. leb k c ≡ false) span.to ends here.upper) in
     (record { rises = found.0; within = ends }, found.1 ∙ waiting.own c)
 
+-- a part of what is made of a list is made of its part
+part_mapped : {A B : Type 0} (f : A → B) (xs : List A) (from to : ℕ)
+    → slice_range (map f xs) from to ≡ map f (slice_range xs from to)
+part_mapped f xs from to = ap (take (to - from)) (drop-map f from xs) ∙ take-map f (to - from) (drop from xs)
+
 -- a candidate's claim, as it is read
-pub record IsClaimed (s : DossierRows) (p : ℕ) (wishes : List ℕ) (c : ℕ) (span : Span) (claim : List ℕ) : Type 0 where
-  pub within : IsWithin (length wishes) span
-  pub part : part_of wishes span ≡ group_claim s p c
-  pub is : claim ≡ group_claim s p c
+pub record IsClaimed (s : DossierRows) (p : ℕ) (applications : List Application) (c : ℕ) (span : Span)
+    (claim : List Application) : Type 0 where
+  pub within : IsWithin (length applications) span
+  pub places : All (λ k. k < length s.wishes) (wishes_of claim)
+  pub is : wishes_of claim ≡ group_claim s p c
+  pub programmes : claim ≡ map (application_at s) (wishes_of claim)
 
-pub claim_there : {s : DossierRows} {p : ℕ} {wishes : List ℕ} → AreWishesIn s p wishes
-    → (c : ℕ) (candidates : List ℕ) → candidates ≡ map (candidate_in s.wishes) wishes
-    → (span : Span) → IsSpanOf candidates c span → (read claim : List ℕ) → read ≡ wishes
-    → claim ≡ part_of read span → IsClaimed s p wishes c span claim
-claim_there {s} {p} {wishes} waiting c candidates are span is read claim same claim_is =
-    let found = span_is_claim s p wishes candidates c span waiting are is in
-    record { within = found.0; part = found.1; is = claim_is ∙ ap (λ (ks : List ℕ). part_of ks span) same ∙ found.1 }
+pub claim_there : {s : DossierRows} {p : ℕ} {applications : List Application} {candidates : List ℕ}
+    → AreApplicantsIn s p applications candidates
+    → (c : ℕ) (span : Span) (read : List ℕ) → read ≡ candidates → IsSpanOf read c span
+    → (list claim : List Application) → list ≡ applications → claim ≡ slice_range list span.from span.to
+    → IsClaimed s p applications c span claim
+claim_there {s} {p} {applications} own c span read read_is is list claim list_is claim_is =
+    let ks = wishes_of applications in
+    let show = λ (a : Application). a.wish in
+    let part_at = λ (l : List Application). slice_range l span.from span.to in
+    let found = span_is_claim s p ks read c span own.of_group (read_is ∙ own.candidates_are) is in
+    let part : claim ≡ part_at applications = claim_is ∙ ap part_at list_is in
+    let shown : wishes_of claim ≡ part_of ks span =
+    ap wishes_of part ∙ sym (part_mapped show applications span.from span.to) in
+    let P = λ (n : ℕ). IsWithin n span in
+    let Q = λ (k : ℕ). k < length s.wishes in
+    record {
+      within = subst P (length-map applications show) found.0;
+      places = subst (All Q) (sym shown)
+          (All-take Q (span.to - span.from) (drop span.from ks) (All-drop Q span.from ks own.of_group.within));
+      is = shown ∙ found.1;
+      programmes = part ∙ ap part_at own.programmes_are ∙ part_mapped (application_at s) ks span.from span.to
+          ∙ ap (map (application_at s)) (sym shown);
+    }
 
--- and beside it what its wishes have
-pub beside_part : (item : ℕ → ℕ) (wishes beside : List ℕ) (span : Span) (claim own read : List ℕ)
-    → beside ≡ map item wishes → claim ≡ part_of wishes span → read ≡ beside → own ≡ part_of read span
-    → own ≡ map item claim
-beside_part item wishes beside span claim own read are claim_is read_is own_is =
-    own_is ∙ ap (λ (ks : List ℕ). part_of ks span) (read_is ∙ are)
-    ∙ ap (take (span.to - span.from)) (drop-map item span.from wishes)
-    ∙ take-map item (span.to - span.from) (drop span.from wishes)
-    ∙ ap (map item) (sym claim_is)
+-- what is read of a claim
+pub application_read : (s : DossierRows) (claim : List Application) (i : ℕ) (e : Application) → i < length claim
+    → claim ≡ map (application_at s) (wishes_of claim)
+    → (i < length (wishes_of claim)) × (get_or claim i e ≡ application_at s (get_or (wishes_of claim) i 0))
+application_read s claim i e lt is =
+    let within : i < length (wishes_of claim) = omega (arith, lt, length-map claim (λ (a : Application). a.wish)) in (
+      within,
+      ap (λ (xs : List Application). get_or xs i e) is
+          ∙ get_or-map (application_at s) (wishes_of claim) i 0 e within,
+    )

@@ -3,11 +3,11 @@ use Rattle.std.specs.Prelude.{◌≡◌, ℕ, ◌-◌, ◌≤◌, ◌<◌, ◌^�
 use Rattle.std.specs.Prelude.{filter, nat_eq, nat_lt, nat_le, Some, slice_get, slice_index, All, Vec}
 use Rattle.std.specs.declared.alloc.Global.{Global}
 use Rattle.std.specs.List.Sorted.{IsNonDecreasingBy, IsPartitionPoint}
-use Rattle.admit_core.specs.declared.dossier.Wish.{Wish}
 use Rattle.admit_core.specs.DossierRows.{DossierRows}
 use Rattle.day_state.specs.Kept.{candidate_in, wish_in}
 use Rattle.day_state.specs.declared.spans.Span.{Span}
 use Rattle.linked_demand.specs.Called.{group_claim}
+use Rattle.linked_demand.specs.declared.wishing.Application.{Application}
 
 -- in a list that does not fall, the span begins at the first number that is not below this one, and
 -- ends at the first that is above
@@ -32,27 +32,26 @@ pub record AreWishesIn (d : DossierRows) (g : ℕ) (wishes : List ℕ) : Type 0 
   pub rises : IsNonDecreasingBy (candidate_in d.wishes) wishes
   pub own : (c : ℕ) → filter (λ k. candidate_in d.wishes k == c) wishes ≡ group_claim d g c
 
--- a list for each group; from one on they are the wishes for its programmes
-pub record AreWishesFrom (d : DossierRows) (n : ℕ) (rows : List (Vec ℕ Global)) : Type 0 where
+-- the wish at a place, and the programme that it is for
+abbrev pub application_at : DossierRows → ℕ → Application
+application_at d k = record { wish = k; programme = (wish_in d.wishes k).programme }
+
+-- the places of wishes
+abbrev pub wishes_of : List Application → List ℕ
+wishes_of xs = map (λ a. a.wish) xs
+
+-- the wishes for the programmes of a group, each with its programme, and beside each its candidate
+pub record AreApplicantsIn (d : DossierRows) (g : ℕ) (applications : List Application)
+    (candidates : List ℕ) : Type 0 where
+  pub of_group : AreWishesIn d g (wishes_of applications)
+  pub programmes_are : applications ≡ map (application_at d) (wishes_of applications)
+  pub candidates_are : candidates ≡ map (candidate_in d.wishes) (wishes_of applications)
+
+-- two lists for each group; from one on they are the wishes for its programmes
+pub record AreApplicantsFrom (d : DossierRows) (n : ℕ) (rows : List (Vec Application Global))
+    (beside : List (Vec ℕ Global)) : Type 0 where
   pub one_each : length rows ≡ length d.groups
-  pub each : (g : ℕ) (row : Vec ℕ Global) → n ≤ g → slice_get rows g ≡ Some row
-      → AreWishesIn d g row.items
-
--- and beside each of them a list of what its wishes have, as their candidates
-pub record AreBesideFrom (item : ℕ → ℕ) (d : DossierRows) (n : ℕ)
-    (rows beside : List (Vec ℕ Global)) : Type 0 where
-  pub one_each : length beside ≡ length d.groups
-  pub each : (g : ℕ) (row own : Vec ℕ Global) → n ≤ g
+  pub one_beside : length beside ≡ length d.groups
+  pub each : (g : ℕ) (row : Vec Application Global) (own : Vec ℕ Global) → n ≤ g
       → slice_get rows g ≡ Some row → slice_get beside g ≡ Some own
-      → own.items ≡ map item row.items
-
--- the programme of the wish at a place
-abbrev pub programme_in : List Wish → ℕ → ℕ
-programme_in ws k = (wish_in ws k).programme
-
--- the wishes for the programmes of a group, and beside each its candidate and its programme
-pub record AreApplicantsIn (d : DossierRows) (g : ℕ)
-    (wishes candidates programmes : List ℕ) : Type 0 where
-  pub of_group : AreWishesIn d g wishes
-  pub candidates_are : candidates ≡ map (candidate_in d.wishes) wishes
-  pub programmes_are : programmes ≡ map (programme_in d.wishes) wishes
+      → AreApplicantsIn d g row.items own.items

@@ -10,7 +10,7 @@ ghost use Rattle.linked_demand.specs.Opens.{line_of};
 ghost use Rattle.linked_demand.specs.Seats.{PutAt, AreSeated, IsLineup, is_below, is_passed};
 
 use crate::boarders::boarders_by_school;
-use crate::calling::called_wishes;
+use crate::calling::{called_wishes, numbers_before, wishes_called};
 use crate::claims::Claims;
 use crate::may_need_no_seat::wishes_in_doubt;
 use crate::rows::RowWish;
@@ -140,9 +140,9 @@ fn claims_of(
     let programmes = programme_count(state);
     let mut claims = Vec::with_capacity(alloc, programmes as usize)?;
     for programme in 0..programmes {
-        let place = programme as usize;
-        let wishes = mem::replace(&mut called.wishes[place], Vec::new(alloc));
-        let before = mem::replace(&mut called.before[place], Vec::new(alloc));
+        let callers = mem::replace(&mut called[programme as usize], Vec::new(alloc));
+        let wishes = wishes_called(alloc, &callers)?;
+        let before = numbers_before(alloc, &callers)?;
         let own = line_up(alloc, state, orders, programme, wishes, &before, notes)?;
         claims.push(own)?;
     }

@@ -1,8 +1,7 @@
-//! For each group the wishes for its programmes, with their candidates and programmes.
+//! For each group the wishes for its programmes, with their candidates.
 ghost use Rattle.std.specs.Prelude.{◌≡◌, ◌<◌, length, IfOk};
 ghost use Rattle.admit_core.specs.DossierRows.{group_of};
-ghost use Rattle.day_state.specs.Kept.{candidate_in};
-ghost use Rattle.linked_demand.specs.Claims.{AreBesideFrom, AreWishesFrom, programme_in};
+ghost use Rattle.linked_demand.specs.Claims.{AreApplicantsFrom};
 
 use crate::rows::{put_in, rows_with_room};
 use crate::wishes::wish_count;
@@ -59,12 +58,17 @@ fn counts_by_group(
     Ok(counts)
 }
 
-/// For each group the places of the wishes for its programmes, and beside them their candidates
-/// and programmes.
+/// A wish of one who wishes for programmes of a group, by its place, and what it is for.
+#[derive(Clone, Copy)]
+pub struct Application {
+    pub wish: u32,
+    pub programme: u32,
+}
+
+/// For each group the wishes for its programmes, and beside them their candidates.
 pub struct Applications {
-    pub wishes: Vec<Vec<u32>>,
+    pub wishes: Vec<Vec<Application>>,
     pub candidates: Vec<Vec<u32>>,
-    pub programmes: Vec<Vec<u32>>,
 }
 
 // Not derived: so applications are dropped in one step where they are held, and not list by list.
@@ -73,7 +77,6 @@ impl Drop for Applications {
         let Applications {
             wishes: _,
             candidates: _,
-            programmes: _,
         } = self;
     }
 }
@@ -86,11 +89,8 @@ pub fn wishes_by_group(
     by_programme: &[u32],
 ) -> Result<Applications, OutOfMemory>
     requires { length by_programme.now ≡ length state.now.dossier.programmes }
-    ensures wishes { IfOk result (λ v. AreWishesFrom state.now.dossier 0 v.wishes.items) }
-    ensures candidates { IfOk result (λ v. AreBesideFrom (candidate_in state.now.dossier.wishes)
-        state.now.dossier 0 v.wishes.items v.candidates.items) }
-    ensures programmes { IfOk result (λ v. AreBesideFrom (programme_in state.now.dossier.wishes)
-        state.now.dossier 0 v.wishes.items v.programmes.items) }
+    ensures { IfOk result (λ v. AreApplicantsFrom state.now.dossier 0 v.wishes.items
+        v.candidates.items) }
 {
     let dossier = state.dossier();
     let _ = &dossier.wishes; // learns the invariant
@@ -98,17 +98,15 @@ pub fn wishes_by_group(
     let places = state.places_by_candidate();
     let mut wishes = rows_with_room(alloc, &counts)?;
     let mut candidates = rows_with_room(alloc, &counts)?;
-    let mut programmes = rows_with_room(alloc, &counts)?;
     for place in places {
         let wish = wish_at(state, *place);
         let group = group_of(state, wish.programme);
-        put_in(&mut wishes, group, *place)?;
+        let application = Application {
+            wish: *place,
+            programme: wish.programme,
+        };
+        put_in(&mut wishes, group, application)?;
         put_in(&mut candidates, group, wish.candidate)?;
-        put_in(&mut programmes, group, wish.programme)?;
     }
-    Ok(Applications {
-        wishes,
-        candidates,
-        programmes,
-    })
+    Ok(Applications { wishes, candidates })
 }

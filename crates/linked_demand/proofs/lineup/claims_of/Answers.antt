@@ -2,6 +2,9 @@ use Rattle.std.proofs.Common.{ℕ, ◌+◌, ◌<◌, List, length, map, ap, sym,
 use Rattle.std.specs.Prelude.{◌^◌}
 use Rattle.linked_demand.proofs.Seating.{IsBuilt, built_none, built_more, built_all}
 use Rattle.linked_demand.specs.Called.{before_at, called_for}
+use Rattle.linked_demand.specs.declared.calling.Caller.{Caller}
+use Rattle.linked_demand.specs.Callers.{callers_for}
+use Rattle.linked_demand.proofs.CalledRows.{shown_before, shown_callers}
 use Rattle.linked_demand.proofs.Dealing.{row_taken, rows_later}
 use Rattle.linked_demand.proofs.lineup.claims_of.Goals as goal
 
@@ -11,8 +14,7 @@ loop-programme-init c = record {
       c.args.notes.now.places.items c.args.notes.now.called_by_limit.items c.in_ok-claims.ensures.items
       c.requires.places
       c.requires.called_by_limit;
-  wishes = c.in_ok-called.ensures.wishes;
-  before = c.in_ok-called.ensures.before;
+  called = c.in_ok-called.ensures;
 }
 
 pub line_up-requires-clause-programme : goal.line_up-requires-clause-programme
@@ -26,22 +28,27 @@ line_up-requires-clause-once c = c.line_once.ensures.once c.loop-programme.progr
 pub line_up-requires-clause-wishes : goal.line_up-requires-clause-wishes
 line_up-requires-clause-wishes c =
     let d = c.args.state.now.dossier in
+    let orders = c.args.orders.now.orders in
     let n = c.loop-programme.programme in
     let P = λ (count : ℕ). n < count in
-    row_taken n (length d.programmes) (called_for d c.args.orders.now.orders) c.loop-programme.called.wishes.items
-    c.replace-wishes.result _ (subst P c.programme_count-programmes.ensures.count c.loop-programme-test.true)
-    (c.replace-wishes.ensures.value ∙ c.index_mut.ensures.value) c.loop-programme.invariant.wishes
+    let callers = row_taken n (length d.programmes) (callers_for d orders) c.loop-programme.called.items
+    c.replace-callers.result _ (subst P c.programme_count-programmes.ensures.count c.loop-programme-test.true)
+    (c.replace-callers.ensures.value ∙ c.index_mut.ensures.value) c.loop-programme.invariant.called in
+    c.in_ok-wishes.ensures ∙ ap (map (λ (x : Caller). x.wish)) (c.deref.ensures.value ∙ callers)
+    ∙ shown_callers d orders (called_for d orders n)
 
 pub line_up-requires-clause-few : goal.line_up-requires-clause-few
 line_up-requires-clause-few c =
     let d = c.args.state.now.dossier in
+    let orders = c.args.orders.now.orders in
     let n = c.loop-programme.programme in
     let P = λ (count : ℕ). n < count in
     let Q = λ (ks : List ℕ). length ks < 2 ^ 32 in
-    subst Q (sym (row_taken n (length d.programmes)
-    (called_for d c.args.orders.now.orders) c.loop-programme.called.wishes.items
-    c.replace-wishes.result _ (subst P c.programme_count-programmes.ensures.count c.loop-programme-test.true)
-    (c.replace-wishes.ensures.value ∙ c.index_mut.ensures.value) c.loop-programme.invariant.wishes))
+    let callers = row_taken n (length d.programmes) (callers_for d orders) c.loop-programme.called.items
+    c.replace-callers.result _ (subst P c.programme_count-programmes.ensures.count c.loop-programme-test.true)
+    (c.replace-callers.ensures.value ∙ c.index_mut.ensures.value) c.loop-programme.invariant.called in
+    subst Q (sym (c.in_ok-wishes.ensures ∙ ap (map (λ (x : Caller). x.wish)) (c.deref.ensures.value ∙ callers)
+    ∙ shown_callers d orders (called_for d orders n)))
     (c.line_once.ensures.few n)
 
 pub line_up-requires-clause-before : goal.line_up-requires-clause-before
@@ -50,16 +57,15 @@ line_up-requires-clause-before c =
     let orders = c.args.orders.now.orders in
     let n = c.loop-programme.programme in
     let P = λ (count : ℕ). n < count in
-    let lt = subst P c.programme_count-programmes.ensures.count c.loop-programme-test.true in
-    c.deref.ensures.value
-    ∙ row_taken n (length d.programmes) (λ p. map (before_at d orders) (called_for d orders p))
-    c.loop-programme.called.before.items
-    c.replace-before.result _ lt (c.replace-before.ensures.value ∙ c.index_mut-in-loop-programme.ensures.value)
-    c.loop-programme.invariant.before
-    ∙ sym (ap (map (before_at d orders)) (row_taken n (length d.programmes)
-    (called_for d orders) c.loop-programme.called.wishes.items
-    c.replace-wishes.result _ lt (c.replace-wishes.ensures.value ∙ c.index_mut.ensures.value)
-    c.loop-programme.invariant.wishes))
+    let called = called_for d orders n in
+    let callers = row_taken n (length d.programmes) (callers_for d orders) c.loop-programme.called.items
+    c.replace-callers.result _ (subst P c.programme_count-programmes.ensures.count c.loop-programme-test.true)
+    (c.replace-callers.ensures.value ∙ c.index_mut.ensures.value) c.loop-programme.invariant.called in
+    c.deref-in-loop-programme-2.ensures.value ∙ c.in_ok-before.ensures
+    ∙ ap (map (λ (x : Caller). x.before)) (c.deref-in-loop-programme.ensures.value ∙ callers)
+    ∙ shown_before d orders called
+    ∙ sym (ap (map (before_at d orders)) (c.in_ok-wishes.ensures
+    ∙ ap (map (λ (x : Caller). x.wish)) (c.deref.ensures.value ∙ callers) ∙ shown_callers d orders called))
 
 pub line_up-requires-clause-seated : goal.line_up-requires-clause-seated
 line_up-requires-clause-seated c = c.loop-programme.invariant.built.seated
@@ -79,11 +85,8 @@ loop-programme-preserved c =
     c.call_everyone.ensures c.loop-programme.invariant.built c.in_ok-own.ensures.claims c.in_ok-own.ensures.seated) in
     record {
       built = built;
-      wishes = rows_later n (length d.programmes)
-          (called_for d orders) c.loop-programme.called.wishes.items c.replace-wishes.new.dest
-          c.loop-programme.invariant.wishes;
-      before = rows_later n (length d.programmes) (λ p. map (before_at d orders) (called_for d orders p))
-          c.loop-programme.called.before.items c.replace-before.new.dest c.loop-programme.invariant.before;
+      called = rows_later n (length d.programmes) (callers_for d orders) c.loop-programme.called.items
+          c.replace-callers.new.dest c.loop-programme.invariant.called;
     }
 
 pub returns : goal.returns

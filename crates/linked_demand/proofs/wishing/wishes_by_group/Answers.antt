@@ -1,4 +1,4 @@
-use Rattle.std.proofs.Common.{ℕ, ◌<◌, List, length, get_or, nat_eq, refl, sym, ◌∙◌, ap, arith, subst}
+use Rattle.std.proofs.Common.{ℕ, ◌<◌, List, length, get_or, nat_eq, sym, ◌∙◌, ap, arith, subst}
 use Rattle.std.proofs.lemmas.List.{take_all}
 use Rattle.admit_core.specs.declared.dossier.Wish.{Wish}
 use Rattle.admit_core.specs.DossierRows.{DossierRows, group_of}
@@ -7,10 +7,14 @@ use Rattle.day_state.specs.Kept.{candidate_in}
 use Rattle.day_state.proofs.Places.{candidate_in as candidate_is}
 use Rattle.linked_demand.specs.Keyed.{AreEmpty, AreRowsOf}
 use Rattle.linked_demand.specs.Called.{is_of_group}
-use Rattle.linked_demand.specs.Claims.{programme_in}
+use Rattle.linked_demand.specs.declared.wishing.Application.{Application}
+use Rattle.linked_demand.specs.Claims.{application_at}
 use Rattle.linked_demand.proofs.Keyed.{programme_at, rows_none, rows_more}
-use Rattle.linked_demand.proofs.ClaimSpans.{beside_from, wishes_from}
+use Rattle.linked_demand.proofs.ClaimSpans.{applicants_from}
 use Rattle.linked_demand.proofs.wishing.wishes_by_group.Goals as goal
+
+abbrev application : ℕ → ℕ → Application
+application wish programme = record { wish = wish; programme = programme }
 
 pub loop-place-init : goal.loop-place-init
 loop-place-init c =
@@ -18,17 +22,13 @@ loop-place-init c =
     let n = length d.groups in
     let wishes = c.in_ok-wishes.wishes.items in
     let candidates = c.in_ok-candidates.candidates.items in
-    let programmes = c.in_ok-programmes.programmes.items in
     let P = λ (count : ℕ). AreEmpty count wishes in
     let Q = λ (count : ℕ). AreEmpty count candidates in
-    let R = λ (count : ℕ). AreEmpty count programmes in
     record {
-      wishes = rows_none (λ k. k) (is_of_group d) n wishes
+      wishes = rows_none (application_at d) (is_of_group d) n wishes
           (subst P (ap length c.deref.ensures.value ∙ c.in_ok-counts.ensures) c.in_ok-wishes.ensures);
       candidates = rows_none (candidate_in d.wishes) (is_of_group d) n candidates
           (subst Q (ap length c.deref-2.ensures.value ∙ c.in_ok-counts.ensures) c.in_ok-candidates.ensures);
-      programmes = rows_none (programme_in d.wishes) (is_of_group d) n programmes
-          (subst R (ap length c.deref-3.ensures.value ∙ c.in_ok-counts.ensures) c.in_ok-programmes.ensures);
     }
 
 pub loop-place-preserved : goal.loop-place-preserved
@@ -40,20 +40,16 @@ loop-place-preserved c =
     let here = λ (h : ℕ). ap (λ (g : ℕ). nat_eq g h) (c.group_of-group.ensures.group
     ∙ ap (λ (v : Wish). group_of d v.programme) c.wish_at-wish.ensures.wish) in
     record {
-      wishes = rows_more (λ j. j) (is_of_group d) (length d.groups) places i
-          (λ h. nat_eq c.group_of-group.result h) k
+      wishes = rows_more (application_at d) (is_of_group d) (length d.groups) places i
+          (λ h. nat_eq c.group_of-group.result h) (application k c.wish_at-wish.result.programme)
           c.loop-place.wishes.items c.put_in.new.rows.items c.loop-place-test.true
-          here refl c.loop-place.invariant.wishes c.in_ok-put_in.ensures;
+          here (ap (λ (v : Wish). application k v.programme) c.wish_at-wish.ensures.wish)
+          c.loop-place.invariant.wishes c.in_ok-put_in.ensures;
       candidates = rows_more (candidate_in d.wishes) (is_of_group d) (length d.groups) places i
           (λ h. nat_eq c.group_of-group.result h) c.wish_at-wish.result.candidate
           c.loop-place.candidates.items c.put_in-in-loop-place.new.rows.items c.loop-place-test.true
           here (ap (λ (v : Wish). v.candidate) c.wish_at-wish.ensures.wish ∙ sym (candidate_is d.wishes k))
           c.loop-place.invariant.candidates c.in_ok-put_in-2.ensures;
-      programmes = rows_more (programme_in d.wishes) (is_of_group d) (length d.groups) places i
-          (λ h. nat_eq c.group_of-group.result h) c.wish_at-wish.result.programme
-          c.loop-place.programmes.items c.put_in-in-loop-place-2.new.rows.items c.loop-place-test.true
-          here (ap (λ (v : Wish). v.programme) c.wish_at-wish.ensures.wish)
-          c.loop-place.invariant.programmes c.in_ok-put_in-3.ensures;
     }
 
 pub returns : goal.returns
@@ -62,21 +58,13 @@ returns c =
     let places = c.places_by_candidate-places.result.now in
     let wishes = c.loop-place.wishes.items in
     let candidates = c.loop-place.candidates.items in
-    let programmes = c.loop-place.programmes.items in
     let P : DossierRows → Type 0 = IsValid in
     let valid = subst P (c.dossier.view_is ∙ c.dossier-dossier.ensures) c.dossier.invariant in
-    let Q = λ (ks : List ℕ). AreRowsOf (λ k. k) (is_of_group d) (length d.groups) ks wishes in
+    let Q = λ (ks : List ℕ). AreRowsOf (application_at d) (is_of_group d) (length d.groups) ks wishes in
     let R = λ (ks : List ℕ). AreRowsOf (candidate_in d.wishes) (is_of_group d) (length d.groups) ks candidates in
-    let S = λ (ks : List ℕ). AreRowsOf (programme_in d.wishes) (is_of_group d) (length d.groups) ks programmes in
     let all = take_all c.loop-place.place-index places (omega (arith, c.loop-place-test.false)) in
-    let are = subst Q all c.loop-place.invariant.wishes in
-    record {
-      wishes = wishes_from d places wishes (omega (arith, valid.size.wishes)) c.places_by_candidate-places.ensures are;
-      candidates = beside_from (candidate_in d.wishes) d places wishes candidates are
-          (subst R all c.loop-place.invariant.candidates);
-      programmes = beside_from (programme_in d.wishes) d places wishes programmes are
-          (subst S all c.loop-place.invariant.programmes);
-    }
+    applicants_from d places wishes candidates (omega (arith, valid.size.wishes)) c.places_by_candidate-places.ensures
+    (subst Q all c.loop-place.invariant.wishes) (subst R all c.loop-place.invariant.candidates)
 
 pub wish_at-wish-requires : goal.wish_at-wish-requires
 wish_at-wish-requires c = c.places_by_candidate-places.ensures.within c.loop-place.place-index 0 c.loop-place-test.true
@@ -100,8 +88,3 @@ pub put_in-requires-in-loop-place : goal.put_in-requires-in-loop-place
 put_in-requires-in-loop-place c =
     let Q = λ (n : ℕ). c.group_of-group.result < n in
     subst Q (sym c.loop-place.invariant.candidates.one_each) c.group_of-group.ensures.within
-
-pub put_in-requires-in-loop-place-2 : goal.put_in-requires-in-loop-place-2
-put_in-requires-in-loop-place-2 c =
-    let Q = λ (n : ℕ). c.group_of-group.result < n in
-    subst Q (sym c.loop-place.invariant.programmes.one_each) c.group_of-group.ensures.within
