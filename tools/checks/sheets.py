@@ -110,6 +110,16 @@ def check_headers(tally: Tally) -> None:
     words = ("--column", "eleve n=candidate", "--column", "Place au classement=rank")
     found, complaint = Sheets(odd, words).prepared("boarding.csv")
     tally.equal("columns as the user says", found, "school,candidate,rank\n5,4,1\n")
+    for title in ("Rang du dernier appelé", "rang du dernier appelé 2025"):
+        last = {**whole, "programmes.csv": f"formation;groupe;places;{title}\n7;1;2;40\n".encode()}
+        found, complaint = Sheets(last).prepared("programmes.csv")
+        tally.check(f"{title} is no call limit", found == "" and f'--leave-out "{title}"' in complaint, complaint)
+        found, complaint = Sheets(last, ("--leave-out", title)).prepared("programmes.csv")
+        tally.equal(f"{title} is left out", (found, complaint), ("programme,group,seats\n7,1,2\n", ""))
+    ordered = {**whole, "wishes.csv": "vœu;candidat;formation;internat;ordre\n3;4;7;5;1\n".encode()}
+    found, complaint = Sheets(ordered).prepared("wishes.csv")
+    is_asked = found == "" and '--column "ordre=preference"' in complaint
+    tally.check("an order may be one of preference, or of the rows", is_asked, complaint)
     found, complaint = Sheets({**whole, "names.csv": b"N candidat;Nom\n4;Dupont\n"}).prepared("boarding.csv")
     tally.check("a sheet of names beside the nine", found != "" and complaint == "", complaint)
 

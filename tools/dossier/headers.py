@@ -81,7 +81,7 @@ def candidates_for(column: Column, titles: Sequence[str], chosen: Mapping[str, s
 
 def likely_for(column: Column, slot: Slot, titles: Sequence[str], chosen: Mapping[str, str]) -> list[str]:
     """The titles that no column of the slot has, and that may be meant for this one."""
-    names = [core(name) for name in (column.own_name, *column.french, *column.english)]
+    names = [core(name) for name in (column.own_name, *column.french, *column.english, *column.doubtful)]
     unknown = [title for title in titles if (word := fold(title)) and word not in chosen and not is_known(word, slot)]
     return [title for title in unknown if get_close_matches(core(fold(title)), names, cutoff=ALIKE)]
 

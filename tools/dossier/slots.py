@@ -41,7 +41,8 @@ class Content(Enum):
 
 @dataclass(frozen=True)
 class Column:
-    """A column: its name in the slot, what it holds, and the folded names that exports may give it."""
+    """A column: its name in the slot, what it holds, and the folded names that exports may give it. A doubtful name
+    may mean something else, so that the user has to say which."""
 
     name: str
     content: Content
@@ -52,6 +53,7 @@ class Column:
     greatest: int = GREATEST_NUMBER
     is_optional: bool = False
     may_be_empty: bool = False
+    doubtful: tuple[str, ...] = ()
 
     @property
     def own_name(self) -> str:
@@ -105,8 +107,9 @@ PROGRAMMES = Slot("programmes", (
     _id(Thing.PROGRAMME, PROGRAMME_NAMES),
     _id(Thing.GROUP, GROUP_NAMES),
     Column("seats", Content.NUMBER, ("places", "capacite", "capacite d'accueil"), ("capacity",)),
-    Column("limit", Content.NUMBER, ("rang limite", "limite", "rang limite d'appel", "rang du dernier appele"),
-           ("call limit",), is_optional=True, may_be_empty=True),
+    # The rank of the last one called is what calls have come to, mostly a year ago, and no limit of them.
+    Column("limit", Content.NUMBER, ("rang limite", "limite", "rang limite d'appel"), ("call limit",),
+           is_optional=True, may_be_empty=True, doubtful=("rang du dernier appele",)),
 ))
 SCHOOLS = Slot("schools", (
     _id(Thing.SCHOOL, SCHOOL_NAMES),
@@ -130,7 +133,7 @@ WISHES = Slot("wishes", (
     _id(Thing.CANDIDATE, CANDIDATE_NAMES),
     _id(Thing.PROGRAMME, PROGRAMME_NAMES),
     _id(Thing.SCHOOL, SCHOOL_NAMES, may_be_empty=True),
-    Column("preference", Content.NUMBER, ("preference", "ordre de preference", "ordre", "rang de preference")),
+    Column("preference", Content.NUMBER, ("preference", "ordre de preference", "rang de preference")),
 ))
 STATE = Slot("state", (
     _id(Thing.WISH, WISH_NAMES),
