@@ -111,6 +111,30 @@ def check_other_wishes(tally: Tally) -> None:
         tally.check("of the day after, whose it is", all(row["Candidate"] for row in second), second)
 
 
+def check_other_ids(tally: Tally) -> None:
+    """What an older report numbers is not called by ids that stand for other numbers today."""
+    tally.begin("tables, ids that changed between two days")
+    with scratch() as place:
+        folder = made(place, ())
+        ids = folder / "ids.csv"
+        was = ids.read_text()
+        ids.write_text(was.replace("V04", "V0x").replace("V06", "V04").replace("V0x", "V06").replace(
+            "Nord", "x").replace("Sud", "Nord").replace(",x,", ",Sud,"))
+        run(TOOLS / "next_day", folder)
+        ended = tables(folder, place / "out", "--dialect", "plain", "--lang", "en")
+        told = b"of the offers and bars of day 1 the tables have the numbers of the report" in ended.output
+        offers = table_in(place / "out", "offers-of-day-001.csv", "plain")
+        tally.equal("offers of day 1", [row["Wish"] for row in offers], ["4", "6", "7", "11", "10"])
+        bars = [(row["Day"], row["Boarding school"]) for row in table_in(place / "out", "bars.csv", "plain")]
+        tally.check("the bars of day 1 by numbers, those of day 2 by ids",
+                    told and set(bars) == {("1", "1"), ("1", "2"), ("2", "Nord"), ("2", "Sud")}, (ended, bars))
+        ids.unlink()
+        (folder / "answers.csv").write_text("day,kind,target\n")
+        run(TOOLS / "next_day", folder)
+        ended = tables(folder, place / "none", "--dialect", "plain", "--lang", "en")
+        tally.check("no ids any more", b"of the offers and bars of day 1, 2 the tables" in ended.output, ended)
+
+
 def check_long_ids(tally: Tally) -> None:
     """Ids of any length, and of letters that take four bytes each, make names of files."""
     tally.begin("tables, long ids")

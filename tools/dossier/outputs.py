@@ -108,13 +108,14 @@ class Campaign:
                 row.append(self.said(LABELS[things[text]]))
         return row
 
-    def id_cells(self, thing: Thing, number: int | None) -> Row:
-        """An id as the sheets have it, with its name where a file has names."""
+    def id_cells(self, thing: Thing, number: int | None, is_known: bool = True) -> Row:
+        """An id as the sheets have it, with its name where a file has names; the number alone where it is not known for
+        which id it stood."""
         labels = self.labels.get(thing)
         if number is None:
             return [""] if labels is None else ["", ""]
-        spelled = harmless(self.names.spelled(thing, number))
-        return [spelled] if labels is None else [spelled, harmless(labels.get(number, ""))]
+        spelled = harmless(self.names.spelled(thing, number)) if is_known else number
+        return [spelled] if labels is None else [spelled, harmless(labels.get(number, "")) if is_known else ""]
 
     @property
     def last(self) -> KeptDay:
@@ -197,7 +198,7 @@ class Tables:
     def offers(self, day: KeptDay) -> Iterator[Row]:
         """The offers of a day, and how each stood in that day's evening. Whose they were is told where the wishes are
         as they were then."""
-        campaign = self.campaign
+        campaign, has_ids = self.campaign, day.had_ids_of(self.campaign.last)
         by_wish = {row.wish: row for row in campaign.wishes} if day.had_wishes_of(campaign.last) else {}
         today, term = day.calendar.today, day.calendar.term
         by = today + timedelta(days=term) if today and term is not None else ""
@@ -206,7 +207,8 @@ class Tables:
             row = by_wish.get(wish)
             candidate, programme, school = (row.candidate, row.programme, row.school) if row else (None, None, None)
             held = day.after[wish]
-            yield [number, *campaign.id_cells(Thing.WISH, wish), *campaign.id_cells(Thing.CANDIDATE, candidate),
+            yield [number, *campaign.id_cells(Thing.WISH, wish, has_ids),
+                   *campaign.id_cells(Thing.CANDIDATE, candidate),
                    *campaign.id_cells(Thing.PROGRAMME, programme), *campaign.id_cells(Thing.SCHOOL, school),
                    STATUSES[campaign.language][held.status], by if held.status == OFFERED else ""]
 
@@ -215,5 +217,7 @@ class Tables:
         campaign = self.campaign
         yield campaign.titles(DAY, DATE, PASS, SCHOOL, BAR)
         for day in campaign.days:
+            has_ids = day.had_ids_of(campaign.last)
             for number, school, bar in day.bars:
-                yield [day.number, day.calendar.today or "", number, *campaign.id_cells(Thing.SCHOOL, school), bar]
+                yield [day.number, day.calendar.today or "", number,
+                       *campaign.id_cells(Thing.SCHOOL, school, has_ids), bar]

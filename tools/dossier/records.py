@@ -126,7 +126,15 @@ class KeptDay:
 
     def had_wishes_of(self, other: "KeptDay") -> bool:
         """Whether the wishes and the ids were the same on the other day: a number may have changed hands meanwhile."""
-        return {WISHES.file, IDS}.isdisjoint(slots_changed(self.checksums, other.checksums))
+        return {WISHES.file, IDS}.isdisjoint(self._changed(other))
+
+    def had_ids_of(self, other: "KeptDay") -> bool:
+        """Whether a number stood for the same id on the other day."""
+        return IDS not in self._changed(other)
+
+    def _changed(self, other: "KeptDay") -> list[str]:
+        """What is not the same on both days; also what was there on one of them alone."""
+        return [*slots_changed(self.checksums, other.checksums), *slots_changed(other.checksums, self.checksums)]
 
     @cached_property
     def offers(self) -> list[tuple[int, int]]:

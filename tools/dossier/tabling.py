@@ -29,6 +29,10 @@ BARS = Text("bars", "barres")
 CHANGED = Text("The wishes or ids have changed since: of the offers of day {days} the tables name the wish alone.",
                "Les vœux ou les identifiants ont changé depuis : des propositions du jour {days}, les tableaux ne "
                "nomment que le vœu.")
+OTHER_IDS = Text("The ids have changed since: of the offers and bars of day {days} the tables have the numbers of the "
+                 "report in place of ids.",
+                 "Les identifiants ont changé depuis : pour les propositions et les barres du jour {days}, les tableaux "
+                 "donnent les numéros du rapport à la place des identifiants.")
 WRITTEN = Text("{count} tables of the evening of day {day} are in {folder}.",
                "{count} tableaux du soir du jour {day} sont dans {folder}.")
 
@@ -120,6 +124,8 @@ def tabulate(folder: Path, out: Path, paths: list[Path], dialect: Dialect, langu
     lines = [WRITTEN.of(count=len(files), day=campaign.last.number, folder=out)]
     if changed := [str(day.number) for day in campaign.days if not day.had_wishes_of(campaign.last)]:
         lines.append(CHANGED.of(days=", ".join(changed)))
+    if changed := [str(day.number) for day in campaign.days if not day.had_ids_of(campaign.last)]:
+        lines.append(OTHER_IDS.of(days=", ".join(changed)))
     say("tables", "\n".join(line.said(language) for line in lines))
     return DONE
 
