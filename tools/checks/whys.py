@@ -124,6 +124,21 @@ def check_other_wishes(tally: Tally) -> None:
             tally.check(told.decode(), told in ended.output, ended)
 
 
+def check_offers_of_the_dossier(tally: Tally) -> None:
+    """An offer that came in with the dossier was made on the date that its state has, or at some time before day 1."""
+    tally.begin("why, offers that came in with the dossier")
+    for since, told, spoken in (("2026-06-01", "on 1 June", "le 1er juin"), ("", "before 2 June", "avant le 2 juin"),
+                                ("2025-12-31", "on 31 December", "le 31 décembre"), ("2026-06-04", "on 4 June", "le 4 juin")):
+        with scratch() as place:
+            folder = made(place)
+            (folder / "state.csv").write_text(f"wish,status,since\n3,offered,{since}\n")
+            for day in (1, 2):
+                run(TOOLS / "next_day", folder, *(("--start", "2026-06-02", "--term", "366") if day == 1 else ()))
+                is_told = f"which was made {told}." in why(folder, "V03").output.decode()
+                is_spoken = f"une proposition, faite {spoken}." in why(folder, "V03", "fr").output.decode()
+                tally.check(f"{since or 'no date'}, day {day}", is_told and is_spoken, why(folder, "V03"))
+
+
 def check_answerer(tally: Tally) -> None:
     """Who ranks their wishes and accepted one in person is told what the automatic answerer does for them."""
     tally.begin("why, accepted in person by somebody who ranks their wishes")

@@ -16,7 +16,7 @@ from .campaign import Stopped, unread
 from .explanation import AcceptedWish, Explanation, GoneWish, OfferedWish, Stamp, explanation_of
 from .faults import shown
 from .naming import Names, names_in
-from .records import WAITS, KeptDay, Wish, made_days, wishes_in
+from .records import OFFERED, WAITS, KeptDay, Wish, made_days, wishes_in
 from .setting import Day, Deadline, Moment, Setting
 from .slots import Thing
 from .telling import LANGUAGES, sentences
@@ -71,10 +71,19 @@ class Evening:
             # What changed between two records, by hand or on a day whose record is gone, is told as before the later.
             # So is all that is older than the wishes of the last day: the number may have been another's.
             if day.after.get(wish, WAITS).status != held.status or not day.had_wishes_of(self.last):
-                return Moment(self.day(later.number), is_before=True), 0
+                return self.before(later, wish), 0
             if day.before.get(wish, WAITS).status != held.status:
                 return Moment(self.day(day.number)), day.last_passes.get(wish, 0)
-        return Moment(self.day(self.days[0].number), is_before=True), 0
+        return self.before(self.days[0], wish), 0
+
+    def before(self, day: KeptDay, wish: int) -> Moment:
+        """Some time before the day; of an offer whose date the state has, that date. The day before day 1 is what the
+        program writes where the dossier gave none, so from day 2 on it tells nothing."""
+        held = day.before.get(wish, WAITS)
+        is_given = held.status == OFFERED and bool(held.since) and self.last.calendar.today is not None
+        if is_given and (day.number == 1 or held.since != str(self.day(0))):
+            return Moment(date.fromisoformat(held.since))
+        return Moment(self.day(day.number), is_before=True)
 
     def deadline(self, wish: int) -> Deadline | None:
         """By when an offer is to be answered: its date, which the state has, and the term."""

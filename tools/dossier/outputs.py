@@ -10,11 +10,10 @@ from typing import NamedTuple
 from .cells import IN_ENGLISH, IN_FRENCH
 from .labels import Labels
 from .naming import Names
-from .records import WAITING, WAITS, Held, KeptDay, Wish
+from .records import OFFERED, WAITING, WAITS, Held, KeptDay, Wish
 from .slots import Thing
 from .texts import Language, Text
 
-OFFERED = "offered"
 FORMULAS = ("=", "+", "-", "@", "\t", "\r")
 Row = list[object]
 

@@ -17,7 +17,7 @@ from .faults import shown
 from .program import READ_FAULT
 from .slots import WISHES, Slot
 
-WAITING = "waiting"
+WAITING, OFFERED = "waiting", "offered"
 A_DAY = re.compile("day-[0-9]{3,}")
 
 
