@@ -228,9 +228,13 @@ def check_said(tally: Tally, program: str) -> None:
         says("the stored report", 0, "as the rules say: 2 days, 38 lines", days, days / "replay.txt")
         says("the stored chain", 0, "as the rules say: 2 days, 7 lines", days, days / "chain.txt")
         for text in (b"\0", b"\xff\n", b"order\n", b"day\n", b"fall 1 2 3 4\n", b"refused\n", b"market -1\n",
-                     b"final\n", b"day 1\npass 1\nfall " + b"9" * 5000 + b" 1 1 1\n", b"proved 2\n", 100 * b"order "):
+                     b"final\n", b"day 1\npass 1\nfall " + b"9" * 5000 + b" 1 1 1\n", 100 * b"order "):
             report.write_bytes(text)
             says(f"the text {text[:20]!r}", 1, "the rules give", days, report)
+        for words in (("explain", "--wish", "5"), ("explain", "--wish", "99"), ("envy",), ("beds", "--school", "5"),
+                      ("check",), ("sample", "--number", "9"), ()):
+            report.write_bytes(run_text(program, words, days)[1])
+            says(f"a right text of {' '.join(words)} is not called wrong", 3, "this is no text of", days, report)
 
 
 def main() -> int:
