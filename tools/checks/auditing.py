@@ -46,6 +46,9 @@ CHANGES: tuple[tuple[Callable[[Path], None], int, int, str], ...] = (
     (removed("days/day-002/before/campaign.csv"), 2, 3, "before/campaign.csv"),
     (replaced("days/day-002/after/state.csv", b"5,offered", b"5,accepted"), 2, 1,
      "evening    WRONG: the state for day 3"),
+    (replaced("days/day-001/after/answers.csv", b"1,refuse,7\n", b""), 1, 1, "later days WRONG: answers.csv: not what"),
+    (replaced("days/day-001/after/answers.csv", b"1,refuse,7", b"1,accept,7"), 1, 1, "later days WRONG: answers.csv"),
+    (replaced("days/day-001/after/ceilings.csv", b"ceiling\n", b"ceiling\n1,5,3\n"), 1, 1, "later days WRONG: ceilings"),
     (replaced("days/day-002/after/campaign.csv", b"3,", b"4,"), 2, 3, "says that day"),
     (replaced("days/day-002/after/campaign.csv", b"3,", b"x,"), 2, 3, "audit_day:"),
     (replaced("days/day-002/slots.sha256", b"  groups.csv", b""), 2, 3, "audit_day:"),
@@ -80,7 +83,7 @@ def check_audits(tally: Tally) -> None:
             for day in (1, 2, 3):
                 ended = run(AUDIT, place / name, str(day))
                 said = ended.output.decode()
-                tally.check(f"{name}, day {day}", ended.status == 0 and said.count(" ok: ") == (4 if day == 1 else 5)
+                tally.check(f"{name}, day {day}", ended.status == 0 and said.count(" ok: ") == (5 if day == 1 else 6)
                             and "chain      ok: proved by" in said and (day != 2 or dated in said),
                             said + ended.complaint)
             tally.equal(f"{name} is left as it was", contents(place / name), was)
