@@ -12,7 +12,7 @@ from dossier.program import program
 from dossier.wording import Words
 
 from . import answered, auditing, building, by_rules, cutting, days, disks, edits, exporting, hostile, installing
-from . import killing, lemmas, measuring, rechecking, rounds, script, sheets, stored, tabled, telling_modes, whys
+from . import killing, lemmas, measuring, odd, rechecking, rounds, script, sheets, stored, tabled, telling_modes, whys
 from . import workbooks
 from .harness import EXAMPLES, Tally, until_told
 
@@ -46,6 +46,7 @@ def topics(program: str) -> dict[str, list[Checks]]:
         "recheck": given(rechecking.check_said, rechecking.check_worked, rechecking.check_random,
                          rechecking.check_broken, rechecking.check_large),
         "rules": given(by_rules.check_modes),
+        "odd": [odd.check_odd_campaigns],
         "script": [script.check_script, building.check_twice],
         "modes": [telling_modes.check_listed, telling_modes.check_reads],
         "exporting": [exporting.check_round_trips, *given(exporting.check_acceptance)],
