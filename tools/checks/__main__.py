@@ -13,7 +13,7 @@ from dossier.wording import Words
 
 from . import answered, auditing, building, by_rules, cutting, days, disks, edits, exporting, hostile, installing
 from . import killing, lemmas, measuring, odd, rechecking, rounds, script, sheets, stored, tabled, telling_modes, whys
-from . import workbooks
+from . import workbooks, wrong_rules
 from .harness import EXAMPLES, Tally, until_told
 
 Checks = Callable[[Tally], None]
@@ -44,7 +44,7 @@ def topics(program: str) -> dict[str, list[Checks]]:
                     measuring.check_start, measuring.check_shape],
         "audit": [auditing.check_audits, auditing.check_alone],
         "recheck": given(rechecking.check_said, rechecking.check_worked, rechecking.check_random,
-                         rechecking.check_broken, rechecking.check_large),
+                         rechecking.check_broken, rechecking.check_large) + [wrong_rules.check_wrong_rules],
         "rules": given(by_rules.check_modes),
         "odd": [odd.check_odd_campaigns],
         "script": [script.check_script, building.check_twice],
