@@ -1,7 +1,7 @@
 """The runs in the pages: what stands behind `$` is run, and must give the bytes that stand below it.
 
 What a page links to, file and heading, and what it names as a path of the repository, must be there; so must each
-clause that PROMISES cites (`promises.py`).
+clause that PROMISES cites (`promises.py`). A sentence of a page has at most 25 words.
 
 A run stands in a fenced or an indented block. Each page has a copy of the repository to itself. A block begins at the
 page's own folder under `examples/`, else at the top; its lines go to one shell. Of an output, a last line `..` stands
@@ -32,6 +32,10 @@ HEADING = re.compile(r"^#+ (.*)$", re.M)
 PATH = re.compile(r"`((?:crates|docs|examples|tools)/[\w./-]+)`")
 CRATE_PATH = re.compile(r"`(\w+/(?:src|specs|proofs|must-fail|data)/[\w./-]+)`")
 ANY_NAME = "NAME"
+MOST_WORDS = 25
+# What is no word of a sentence: where a link leads, code, and the marks of lists, quotes and stress.
+NO_WORDS = ((r"\[([^\]]*)\]\([^)]*\)", r"\1"), (r"`[^`]*`", "X"), (r"^\s*(?:- |\d+\. )|[*_>#]", ""))
+SENTENCE_END = re.compile(r"(?<=[.!?])(?:\s+|$)|(?<=[.!?]\))\s+")
 
 
 @dataclass(frozen=True)
@@ -79,6 +83,21 @@ def blocks_of(page: str) -> list[Block]:
     return blocks
 
 
+def long_sentences(page: str) -> list[str]:
+    """The sentences of a page with more words than they may have. In a table a semicolon parts them too."""
+    found, in_code = [], False
+    for line in page.splitlines():
+        in_code ^= line.startswith("```")
+        if in_code or line.startswith(INDENT):
+            continue
+        for part in re.split(r"[|;]", line) if line.startswith("|") else [line]:
+            for pattern, instead in NO_WORDS:
+                part = re.sub(pattern, instead, part)
+            found += [sentence for sentence in SENTENCE_END.split(part)
+                      if sum(any(map(str.isalpha, word)) for word in sentence.split()) > MOST_WORDS]
+    return found
+
+
 def outputs_of(runs: list[Run], folder: Path, environment: dict[str, str]) -> list[str]:
     """What each command of a block prints, on standard output and standard error; they run in one shell."""
     marked = (f"status=$?; printf '\\036'; (exit $status)\n{run.command}\n" for run in runs)
@@ -101,6 +120,7 @@ def check_links(tally: Tally, name: Path) -> str:
     page = (TOP / name).read_text()
     check_paths(tally, page, (TOP / name).parent)
     check_anchors(tally, page, TOP / name)
+    tally.equal(f"sentences of more than {MOST_WORDS} words", long_sentences(page), [])
     if name == promises.PAGE:
         unknown = promises.unknown_names(page)
         tally.check("the crates have what it cites", not unknown, "\n".join(unknown))
@@ -172,8 +192,8 @@ def main(given: list[str]) -> int:
         "Runs what stands behind $ in the README, in docs/ and in examples/, and compares what is printed with the "
         "bytes below it. They run with the program that PARCOURS names in the environment, else with the script "
         "parcours, which builds the program first where it is not built, and that takes long. What a page links to, or "
-        "names as a path, must be there, and so must the clauses that PROMISES cites. The last line is `N passed, M "
-        "failed`.",
+        "names as a path, must be there, and so must the clauses that PROMISES cites. No sentence may have more than "
+        f"{MOST_WORDS} words. The last line is `N passed, M failed`.",
         "Status: 0 all passed, 1 some failed, 2 bad words.")
     words.add_argument("--links", action="store_true",
                        help="test links, paths and clauses alone, which needs no program")
