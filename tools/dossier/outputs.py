@@ -26,6 +26,7 @@ LABELS = {Thing.CANDIDATE: Text("Name of the candidate", "Nom du candidat"),
           Thing.SCHOOL: Text("Name of the boarding school", "Nom de l'internat")}
 PREFERENCE = Text("Preference", "Préférence")
 STATUS = Text("Status", "Statut")
+STATUS_THEN = Text("Status that evening", "Statut ce soir-là")
 SINCE = Text("Offer of", "Proposition du")
 ANSWER_BY = Text("Answer by", "Réponse au plus tard le")
 CALL = Text("Place in the call order", "Position dans l'ordre d'appel")
@@ -201,7 +202,7 @@ class Tables:
         by_wish = {row.wish: row for row in campaign.wishes} if day.had_wishes_of(campaign.last) else {}
         today, term = day.calendar.today, day.calendar.term
         by = today + timedelta(days=term) if today and term is not None else ""
-        yield campaign.titles(PASS, WISH, CANDIDATE, PROGRAMME, SCHOOL, STATUS, ANSWER_BY)
+        yield campaign.titles(PASS, WISH, CANDIDATE, PROGRAMME, SCHOOL, STATUS_THEN, ANSWER_BY)
         for number, wish in day.offers:
             row = by_wish.get(wish)
             candidate, programme, school = (row.candidate, row.programme, row.school) if row else (None, None, None)
