@@ -95,7 +95,28 @@ def check_audits(tally: Tally) -> None:
             tally.check(f"change {number}, {sentence}", (ended.status, sentence in said, "Traceback" in said)
                         == (status, True, False), f"status {ended.status}\n{said}")
             shutil.rmtree(place / "changed")
+        check_ids(tally, place)
         check_words(tally, place / "campaign", place)
+
+
+def check_ids(tally: Tally, place: Path) -> None:
+    """A table of ids that was changed since the day is told: it says who is who."""
+    campaign, sums = place / "named", "days/day-001/ids.sha256"
+    shutil.copytree(EXAMPLES / "lycee/slots", campaign)
+    assert run(TOOLS / "next_day", campaign).status == 0
+    whole, ids = (campaign / sums).read_bytes(), (campaign / "ids.csv").read_bytes()
+    for name, data, kept, status, sentence in (
+        ("as they were", ids, whole, 0, "ids        ok: ids.csv is that of that day"),
+        ("two exchanged", ids.replace(b"E01", b"x").replace(b"E02", b"E01").replace(b"x", b"E02"), whole, 1,
+         "ids        WRONG: ids.csv: not the file of that day"),
+        ("the table is gone", None, whole, 1, "ids        WRONG: ids.csv"),
+        ("another checksum", ids, whole.replace(b"a", b"b"), 1, "ids        WRONG: ids.csv"),
+        ("no checksum", ids, None, 0, "ids        not tested: the record has no checksum"),
+    ):
+        for path, bytes_of in ((campaign / "ids.csv", data), (campaign / sums, kept)):
+            path.write_bytes(bytes_of) if bytes_of is not None else path.unlink()
+        ended = run(AUDIT, campaign, "1")
+        tally.check(f"ids, {name}", (ended.status, sentence in ended.output.decode()) == (status, True), ended)
 
 
 def check_alone(tally: Tally) -> None:
