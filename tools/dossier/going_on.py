@@ -41,7 +41,7 @@ def words() -> Words:
     parser.add_argument("--start", type=start_date, metavar="DATE",
                         help="the date of day 1, when the campaign begins with deadlines")
     parser.add_argument("--term", type=term_of_days, metavar="N",
-                        help="the days that an offer stands; given with --start")
+                        help="the days that an offer stands after its own; given with --start")
     return parser
 
 
