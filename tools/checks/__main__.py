@@ -62,7 +62,8 @@ def topics(program: str) -> dict[str, list[Checks]]:
         "tabled": [tabled.check_lycee, tabled.check_names, tabled.check_other_wishes, tabled.check_other_ids,
                    tabled.check_long_ids, *given(tabled.check_queues), tabled.check_ids_stay],
         "whys": [whys.check_lycee, whys.check_by_hand, whys.check_lost_record, whys.check_other_wishes,
-                 whys.check_offers_of_the_dossier, whys.check_answerer, whys.check_stopped, *given(whys.check_campaigns)],
+                 whys.check_offers_of_the_dossier, whys.check_answerer, whys.check_stopped,
+                 *given(whys.check_campaigns)],
     }
 
 

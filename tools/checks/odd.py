@@ -57,8 +57,8 @@ def odd_dossier(random: Random, first_day: date) -> Dossier:
     choices = [(programme, school) for programme in programmes for school in [None, *schools]]
     dossier.rows = {
         "groups": [(group, random.choice((0, 20, 50, 100)), random.choice((0, 30, 100))) for group in groups],
-        "programmes": [(programme, group, random.choice((0, 0, 1, 1, 2, 3)), *([random.choice(limits)] if limits else []))
-                       for programme, group in programmes.items()],
+        "programmes": [(programme, group, random.choice((0, 0, 1, 1, 2, 3)),
+                        *([random.choice(limits)] if limits else [])) for programme, group in programmes.items()],
         "schools": [(school, random.choice((0, 1, 1, 2)), random.choice((0, 1, 3, 1500, NO_CEILING)))
                     for school in schools],
         "rankings": [(group, candidate, rank, random.randint(0, 1), random.randint(0, 1))
@@ -155,12 +155,14 @@ def why_it_waits(rules: Told, number: int, wish: Wish, day: int) -> list[str]:
     school, bar, beds = wish.school or 0, rules.bars[wish.school or 0], rules.beds[wish.school or 0]
     told = [f"your rank there is {rules.rank[school, wish.candidate]}."]
     if bar == rules.ceilings(day)[school]:
-        return [*told, f"Boarding school {school} takes nobody {'else' if bar == 0 else f'ranked after {bar}'} on this day, "
-                "by its ceiling", "For an offer it takes a ceiling that reaches your rank"]
+        whom = f"ranked after {bar}" if bar else "else"
+        return [*told, f"Boarding school {school} takes nobody {whom} on this day, by its ceiling",
+                "For an offer it takes a ceiling that reaches your rank"]
     is_taken = "has no beds." if beds == 0 else "is full: its only bed is taken." if beds == 1 else \
         f"is full: all of its {beds} beds are taken."
-    return [*told, f"Boarding school {school} {is_taken}", "In the last pass no bed was free" if not beds or not bar else
-            f"In the last pass nobody ranked after {bar} could get a bed there"]
+    return [*told, f"Boarding school {school} {is_taken}",
+            f"In the last pass nobody ranked after {bar} could get a bed there" if beds and bar else
+            "In the last pass no bed was free"]
 
 
 def is_true(rules: Told, number: int, told: str) -> bool:
@@ -234,6 +236,6 @@ def check_odd_campaigns(tally: Tally) -> None:
                 name = f"campaign {number}, day {day}"
                 tally.check(name, f"offers made {counts[0]}, lapsed {counts[1]};" in told, (told, lines))
                 check_told(tally, name, rules, day, folder, met)
-    missed = {"offered", "accepted", "refused", "withdrawn", "quit", "auto_refused", "auto_withdrawn", "lapsed", "noseat",
-              "barred", "full"} - set(met)
+    missed = {"offered", "accepted", "refused", "withdrawn", "quit", "auto_refused", "auto_withdrawn", "lapsed",
+              "noseat", "barred", "full"} - set(met)
     tally.check("each status and reason is among them", not missed, (missed, met))

@@ -127,8 +127,10 @@ def check_other_wishes(tally: Tally) -> None:
 def check_offers_of_the_dossier(tally: Tally) -> None:
     """An offer that came in with the dossier was made on the date that its state has, or at some time before day 1."""
     tally.begin("why, offers that came in with the dossier")
-    for since, told, spoken in (("2026-06-01", "on 1 June", "le 1er juin"), ("", "before 2 June", "avant le 2 juin"),
-                                ("2025-12-31", "on 31 December", "le 31 décembre"), ("2026-06-04", "on 4 June", "le 4 juin")):
+    for since, told, spoken in (
+        ("2026-06-01", "on 1 June", "le 1er juin"), ("", "before 2 June", "avant le 2 juin"),
+        ("2025-12-31", "on 31 December", "le 31 décembre"), ("2026-06-04", "on 4 June", "le 4 juin"),
+    ):
         with scratch() as place:
             folder = made(place)
             (folder / "state.csv").write_text(f"wish,status,since\n3,offered,{since}\n")

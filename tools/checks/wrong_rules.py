@@ -28,8 +28,8 @@ class Engine(Told):
         """What is wrong from the beginning."""
 
     def text(self, days: int) -> bytes:
-        lines = [*self.call_orders(), *(line for day in range(1, days + 1) for line in self.run_day(day)), *self.final()]
-        return "".join(f"{line}\n" for line in lines).encode()
+        of_days = [line for day in range(1, days + 1) for line in self.run_day(day)]
+        return "".join(f"{line}\n" for line in [*self.call_orders(), *of_days, *self.final()]).encode()
 
     def wishes_of(self, candidate: int, *statuses: str) -> list[int]:
         return [number for number, wish in self.wishes.items() if wish.candidate == candidate

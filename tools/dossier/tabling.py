@@ -31,8 +31,8 @@ CHANGED = Text("The wishes or ids have changed since: of the offers of day {days
                "nomment que le vœu.")
 OTHER_IDS = Text("The ids have changed since: of the offers and bars of day {days} the tables have the numbers of the "
                  "report in place of ids.",
-                 "Les identifiants ont changé depuis : pour les propositions et les barres du jour {days}, les tableaux "
-                 "donnent les numéros du rapport à la place des identifiants.")
+                 "Les identifiants ont changé depuis : pour les propositions et les barres du jour {days}, les "
+                 "tableaux donnent les numéros du rapport à la place des identifiants.")
 WRITTEN = Text("{count} tables of the evening of day {day} are in {folder}.",
                "{count} tableaux du soir du jour {day} sont dans {folder}.")
 

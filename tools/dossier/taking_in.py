@@ -44,7 +44,8 @@ def words() -> Words:
     parser.add_argument("--replace", action="store_true",
                         help="puts the sheet in the place of the answers that are there for its days")
     parser.add_argument("--start", type=start_date, metavar="DATE", help="the date of day 1, where no day is made yet")
-    parser.add_argument("--term", type=term_of_days, metavar="N", help="the days that an offer stands after its own; with --start")
+    parser.add_argument("--term", type=term_of_days, metavar="N",
+                        help="the days that an offer stands after its own; with --start")
     parser.add_argument("--dates", type=DateOrder, choices=list(DateOrder), metavar="day-first|month-first",
                         help="how dates such as 02/06/2025 are to be read")
     parser.add_argument("--column", action="append", default=[], type=chosen_column, metavar="TITLE=COLUMN",
