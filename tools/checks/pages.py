@@ -1,7 +1,8 @@
 """The runs in the pages: what stands behind `$` is run, and must give the bytes that stand below it.
 
 What a page links to, file and heading, and what it names as a path of the repository, must be there; so must each
-clause that PROMISES cites (`promises.py`). A sentence of a page has at most 25 words.
+clause that PROMISES cites (`promises.py`). A sentence of a page has at most 25 words. What README and LISEZMOI tell of
+a run is what MEASURED has of it.
 
 A run stands in a fenced or an indented block. Each page has a copy of the repository to itself. A block begins at the
 page's own folder under `examples/`, else at the top; its lines go to one shell. Of an output, a last line `..` stands
@@ -35,6 +36,12 @@ ANY_NAME = "NAME"
 MOST_WORDS = 25
 # What is no word of a sentence: where a link leads, code, and the marks of lists, quotes and stress.
 NO_WORDS = ((r"\[([^\]]*)\]\([^)]*\)", r"\1"), (r"`[^`]*`", "X"), (r"^\s*(?:- |\d+\. )|[*_>#]", ""))
+MEASURED_RUN = re.compile(r"\| `replay --days 3` \| ([\d.]+) s, ([\d.]+) s \|.*\| (\d+) MB, (\d+) MB \|")
+TOLD_RUNS = {
+    Path("README.md"): r"They took ([\d.]+) seconds of a processor and ([\d.]+) GB\..*? took ([\d.]+) seconds and "
+                       r"([\d.]+) GB",
+    Path("LISEZMOI.md"): r"y a mis ([\d,]+) secondes? de processeur et ([\d,]+) Go\..*? a mis ([\d,]+) secondes? et "
+                         r"([\d,]+) Go"}
 SENTENCE_END = re.compile(r"(?<=[.!?])(?:\s+|$)|(?<=[.!?]\))\s+")
 
 
@@ -121,10 +128,20 @@ def check_links(tally: Tally, name: Path) -> str:
     check_paths(tally, page, (TOP / name).parent)
     check_anchors(tally, page, TOP / name)
     tally.equal(f"sentences of more than {MOST_WORDS} words", long_sentences(page), [])
+    if name in TOLD_RUNS:
+        check_figures(tally, page, TOLD_RUNS[name])
     if name == promises.PAGE:
         unknown = promises.unknown_names(page)
         tally.check("the crates have what it cites", not unknown, "\n".join(unknown))
     return page
+
+
+def check_figures(tally: Tally, page: str, told: str) -> None:
+    """The seconds and the memory of three days, by this program and by the plain one, as measured."""
+    measured, found = MEASURED_RUN.search((TOP / "docs/MEASURED.md").read_text()), re.search(told, page)
+    figures = [float(number) for number in measured.groups()] if measured else []
+    due = [f"{figures[at] / (1 if at < 2 else 1000):.{1 if at < 2 else 2}f}" for at in (0, 2, 1, 3)] if figures else []
+    tally.equal("what a run takes", [number.replace(",", ".") for number in found.groups()] if found else [], due)
 
 
 def check_page(tally: Tally, name: Path) -> None:
