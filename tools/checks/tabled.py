@@ -190,6 +190,13 @@ def check_ids_stay(tally: Tally) -> None:
         folder = made(place, DATED, (), ())
         exports = place / "exports"
         shutil.copytree(LYCEE / "exports", exports)
+        fewer = place / "fewer"
+        shutil.copytree(exports, fewer)
+        wishes = (fewer / "voeux.csv").read_bytes().decode("utf-16").splitlines(True)
+        (fewer / "voeux.csv").write_bytes("".join(row for row in wishes if "V13" not in row).encode("utf-16"))
+        ended = run(TOOLS / "prepare", fewer, place / "without", "--ids", folder, "--dates", "day-first")
+        told = "vœux, 13 numéros de 1 à 14\n" in ended.output.decode() and len(wishes) > 14
+        tally.check("numbers with a gap are not told as without", told, ended)
         header, *rows = (exports / "classements.csv").read_text().split("\n")
         added = ["0;E00;CPGE;FAUX;FAUX", *(row for row in reversed(rows) if row.strip())]
         (exports / "classements.csv").write_text("\n".join([header, *added, ""]).replace("0;E00", "9;E00"))

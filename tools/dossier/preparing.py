@@ -33,8 +33,8 @@ COLUMN_NAMES = frozenset(column.name for slot in SLOTS for column in slot.column
 READ = Text("{slot}: {rows} of {file}{how}", "{slot} : {rows} de {file}{how}")
 ROW, ROWS = Text("row", "ligne"), Text("rows", "lignes")
 LEFT_OUT = Text("{file}: not read are the columns {names}", "{file} : colonnes qui ne sont pas lues : {names}")
-NUMBERED = Text("{ids}: ids of {things} numbered, {count} from {first} on",
-                "{ids} : {things}, {count} numéros à partir de {first}")
+NUMBERED = Text("{ids}: ids of {things} numbered, {count} from {first} to {last}",
+                "{ids} : {things}, {count} numéros de {first} à {last}")
 NOT_READ = Text("not read: {name}", "pas lu : {name}")
 IS_IN = Text("The dossier is in {folder}.", "Le dossier est dans {folder}.")
 
@@ -136,7 +136,7 @@ def summary(exports: Exports, numbers: Numbers, folder: Path, language: Language
     for thing, by_code in numbers.by_code.items():
         if by_code:
             lines.append(NUMBERED.of(ids=IDS, count=len(by_code), things=PLURALS[thing.value],
-                                     first=min(by_code.values())))
+                                     first=min(by_code.values()), last=max(by_code.values())))
     lines += left_out + [NOT_READ.of(name=shown(name)) for name in exports.passed_over]
     return "\n".join(line.said(language) for line in [*lines, IS_IN.of(folder=shown(str(folder)))])
 
