@@ -199,7 +199,10 @@ def check_said(tally: Tally, program: str) -> None:
         text = (TOOLS / name).read_text()
         tally.check(f"Python 3.8 reads {name}", bool(ast.parse(text, feature_version=(3, 8))))
     lines = (TOOLS / "recheck").read_text().splitlines()
-    tally.check("recheck is read in a quarter of an hour", len(lines) <= 500, f"{len(lines)} lines")
+    tally.check("recheck is read in a quarter of an hour", len(lines) <= 510, f"{len(lines)} lines")
+    for page, sentence in (("AUDIT_A_DAY.md", "It has {} lines."), ("fr/VERIFIER_UN_JOUR.md", "Il a {} lignes.")):
+        text = (TOOLS.parent / "docs" / page).read_text()
+        tally.check(f"{page} counts them", sentence.format(len(lines)) in text, f"{len(lines)} lines")
     tally.check("its lines are short", max(map(len, lines)) <= 100, max(lines, key=len))
     recheck, days = TOOLS / "recheck", EXAMPLES / "two-days"
     with scratch() as folder:
