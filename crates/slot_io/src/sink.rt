@@ -36,6 +36,7 @@ pub fn write_all<K: Sink>(sink: &mut K, bytes: &[u8]) -> Result<(), IoRefusal>
     ensures counts { K.faults sink.old ≤ K.faults sink.new }
     ensures failed { IsErrOf result IoRefusal.Failed
         → Rose (K.faults sink.old) (K.faults sink.new) }
+    ensures counted { K.faults sink.new ≡ faults_after result (K.faults sink.old) }
 {
     let mut written = 0;
     while written < bytes.len() {
