@@ -110,6 +110,7 @@ impl Shelf for PlainShelf {
         ensures taken { CountsTaken result (taken_of self.old slot) (taken_of self.new slot) }
         ensures others { OthersKept slot (left_of self.old) (left_of self.new) }
         ensures others_taken { OthersKept slot (taken_of self.old) (taken_of self.new) }
+        ensures memory { ¬ IsErrOf result IoRefusal.OutOfMemory }
 
         ensures moves { IfSome (left_of self.old slot)
             (λ left. result ≡ Ok (min (length buf.old) (length left))) }
@@ -199,6 +200,7 @@ impl Shelf for MemShelf {
         ensures failed { IsErrOf result IoRefusal.Failed → Rose (mem_faults self.old slot)
             (mem_faults self.new slot) }
         ensures counted { CountsFaults result slot (mem_faults self.old) (mem_faults self.new) }
+        ensures memory { ¬ IsErrOf result IoRefusal.OutOfMemory }
 
         ensures planned { IsErrOf result IoRefusal.Failed ↔ IsToFail (mem_failing self.old)
             (mem_calls self.old) }

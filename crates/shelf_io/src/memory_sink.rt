@@ -43,6 +43,8 @@ impl Sink for PlainSink {
 
     ghost faults = { λ _. 0 };
 
+    ghost may_lack = { Unit {0} };
+
     /// Takes the whole piece, or there was no memory for it.
     fn write(&mut self, piece: &[u8]) -> Result<usize, IoRefusal>
         requires { 0 < length piece.now }
@@ -50,6 +52,7 @@ impl Sink for PlainSink {
         ensures some { IfOk result (λ count. 0 < count) }
         ensures bytes { WriteAppends (Some (plain_held self.old)) (Some (plain_held self.new))
             result piece.now }
+        ensures memory { IsErrOf result IoRefusal.OutOfMemory → Unit {0} }
 
         ensures never_failed { ¬ IsErrOf result IoRefusal.Failed }
         ensures moves { IfOk result (λ count. count ≡ length piece.now) }
@@ -136,6 +139,8 @@ impl Sink for MemSink {
 
     ghost faults = { sink_faults };
 
+    ghost may_lack = { Unit {0} };
+
     /// Takes the part of the piece that fits, or there was no memory for it.
     fn write(&mut self, piece: &[u8]) -> Result<usize, IoRefusal>
         requires { 0 < length piece.now }
@@ -147,6 +152,7 @@ impl Sink for MemSink {
         ensures failed { IsErrOf result IoRefusal.Failed
             → Rose (sink_faults self.old) (sink_faults self.new) }
         ensures counted { sink_faults self.new ≡ faults_after result (sink_faults self.old) }
+        ensures memory { IsErrOf result IoRefusal.OutOfMemory → Unit {0} }
 
         ensures planned { IsErrOf result IoRefusal.Failed
             ↔ (IsToFail (sink_failing self.old) (sink_calls self.old)

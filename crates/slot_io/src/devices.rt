@@ -164,6 +164,8 @@ impl<W: Write + Drop> Sink for WriterSink<W> {
 
     ghost faults = { writer_faults };
 
+    ghost may_lack = { ⊥ };
+
     fn write(&mut self, piece: &[u8]) -> Result<usize, IoRefusal> {
         let answer = write_answer(self.writer.write(piece));
         if answer.is_err() {

@@ -21,7 +21,7 @@ pub trait Shelf {
     ghost faults: { Self → Slot → ℕ };
 
     /// Moves the first bytes left in the slot into the front of the buffer, and answers how many:
-    /// 0 exactly where nothing is left. A refused read takes no byte.
+    /// 0 exactly where nothing is left. A refused read takes no byte, and none lacks memory.
     fn read(&mut self, slot: Slot, buf: &mut [u8]) -> Result<usize, IoRefusal>
         requires { 0 < length buf.old }
         ensures bound { ReadsAtMost result buf.new }
@@ -32,7 +32,8 @@ pub trait Shelf {
         ensures counts { NoneFell (faults self.old) (faults self.new) }
         ensures failed { IsErrOf result IoRefusal.Failed
             → Rose (faults self.old slot) (faults self.new slot) }
-        ensures counted { CountsFaults result slot (faults self.old) (faults self.new) };
+        ensures counted { CountsFaults result slot (faults self.old) (faults self.new) }
+        ensures memory { ¬ IsErrOf result IoRefusal.OutOfMemory };
 }
 
 /// How many bytes are asked for at once.
@@ -68,6 +69,10 @@ pub fn read_slot<S: Shelf>(
     ensures others_taken { OthersKept slot (S.taken shelf.old) (S.taken shelf.new) }
     ensures counts { NoneFell (S.faults shelf.old) (S.faults shelf.new) }
     ensures fault { TellsFaults result slot (S.faults shelf.old) (S.faults shelf.new) }
+
+    // so a slot with nothing left is never told as want of memory
+    ensures memory { IsErrOf result SlotRefusal.OutOfMemory
+        → Rose (S.taken shelf.old slot) (S.taken shelf.new slot) }
 {
     let mut buf = [0u8; BUFFER_SIZE];
     let mut bytes = Vec::new(alloc);

@@ -14,6 +14,8 @@ pub trait Sink {
     ghost held: { Self → Option (List ℕ) };
     /// How often the writes have failed, up to the last value of a 64-bit counter.
     ghost faults: { Self → ℕ };
+    /// That a write may lack memory.
+    ghost may_lack: { Type 0 };
 
     /// Appends the first bytes of the piece, and answers how many: at least one. A device that
     /// takes none has failed. A refused write appends nothing.
@@ -25,7 +27,8 @@ pub trait Sink {
         ensures counts { faults self.old ≤ faults self.new }
         ensures failed { IsErrOf result IoRefusal.Failed
             → Rose (faults self.old) (faults self.new) }
-        ensures counted { faults self.new ≡ faults_after result (faults self.old) };
+        ensures counted { faults self.new ≡ faults_after result (faults self.old) }
+        ensures memory { IsErrOf result IoRefusal.OutOfMemory → may_lack };
 }
 
 /// Appends all the bytes in order. Where there are none, it makes no call, and succeeds.
@@ -37,6 +40,7 @@ pub fn write_all<K: Sink>(sink: &mut K, bytes: &[u8]) -> Result<(), IoRefusal>
     ensures failed { IsErrOf result IoRefusal.Failed
         → Rose (K.faults sink.old) (K.faults sink.new) }
     ensures counted { K.faults sink.new ≡ faults_after result (K.faults sink.old) }
+    ensures memory { IsErrOf result IoRefusal.OutOfMemory → K.may_lack }
 {
     let mut written = 0;
     while written < bytes.len() {
