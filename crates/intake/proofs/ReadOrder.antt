@@ -11,7 +11,7 @@ use Rattle.admit_core.specs.Ranges.{AreTables}
 use Rattle.slot_io.specs.Faults.{NoneFell}
 use Rattle.dossier_csv.specs.Shape.{Refuses}
 use Rattle.intake.specs.Reading.{files_in, no_files, sized, with_slot, with_slots}
-use Rattle.intake.specs.Shelves.{FaultsAt, HasCause, IsFaultAt, OnShelf, TakesSlots, Tells, TouchesOnly}
+use Rattle.intake.specs.Shelves.{FaultsAt, HasCause, IsFaultAt, IsTooLarge, OnShelf, TakesSlots, Tells, TouchesOnly}
 use Rattle.intake.specs.Stops.{◌>>=◌, Gives, Stopped, refused_as, stop_of}
 use Rattle.intake.specs.declared.files.Files.{Files}
 use Rattle.intake.specs.declared.stop.Stop.{Stop}
@@ -24,7 +24,7 @@ pub record AreReadTo (order : List Slot) (before after : OnShelf) (place : ℕ) 
   pub ends : (slots : Slot → List ℕ) → Tells order before.left slots → (i : ℕ) (slot : Slot) → i < place
       → slice_index_or order i slot ≡ slot → after.left slot ≡ Some []
   pub once : (i : ℕ) (slot : Slot) → i < place → slice_index_or order i slot ≡ slot
-      → after.taken slot ≤ before.taken slot + 1073807360
+      → after.taken slot ≤ before.taken slot + 1073741824
   pub rest : (i : ℕ) (slot : Slot) → place ≤ i → i < length order → slice_index_or order i slot ≡ slot
       → after.left slot ≡ before.left slot
   pub rest_taken : (i : ℕ) (slot : Slot) → place ≤ i → i < length order → slice_index_or order i slot ≡ slot
@@ -99,17 +99,32 @@ module _ (order : List Slot) (distinct : AllPairs (λ one other. one ≢ other) 
   not_among : (other : Slot) → ¬ Contains order other → other ≢ slot
   not_among other out e = out (place, within, subst (λ (s : Slot). slice_index_or order place s ≡ s) (sym e) is_there)
 
+  sized_before : (i : ℕ) (other : Slot) → i < place → slice_index_or order i other ≡ other
+      → after.taken other ≤ before.taken other + 1073741824
+  sized_before i other first is =
+      let kept : after.taken other ≡ mid.taken other =
+      touches.others_taken other (is_other i other (omega arith) (omega arith) is) in
+      omega (arith, kept, so_far.once i other first is)
+
   once_to : (i : ℕ) (other : Slot) → i < place + 1 → slice_index_or order i other ≡ other
       → after.taken other ≤ before.taken other + 1073807360
   once_to i other lt is = elim (cases_lt i place) [
-    | inl first ↦
-        let kept : after.taken other ≡ mid.taken other =
-        touches.others_taken other (is_other i other (omega arith) (omega arith) is) in
-        omega (arith, kept, so_far.once i other first is)
+    | inl first ↦ omega (arith, sized_before i other first is)
     | inr later ↦
         let at : i ≡ place = omega arith in
         let here : after.taken slot ≤ before.taken slot + 1073807360 = omega (arith, taken_there, touches.once) in
         subst (λ (s : Slot). after.taken s ≤ before.taken s + 1073807360) (same_there i other at is) here
+  ]
+
+  -- the sizes of the slots so far
+  sized_to : after.taken slot ≤ mid.taken slot + 1073741824 → (i : ℕ) (other : Slot) → i < place + 1
+      → slice_index_or order i other ≡ other → after.taken other ≤ before.taken other + 1073741824
+  sized_to small i other lt is = elim (cases_lt i place) [
+    | inl first ↦ sized_before i other first is
+    | inr later ↦
+        let at : i ≡ place = omega arith in
+        let here : after.taken slot ≤ before.taken slot + 1073741824 = omega (arith, taken_there, small) in
+        subst (λ (s : Slot). after.taken s ≤ before.taken s + 1073741824) (same_there i other at is) here
   ]
 
   rest_left : (i : ℕ) (other : Slot) → place + 1 ≤ i → i < length order → slice_index_or order i other ≡ other
@@ -127,6 +142,11 @@ module _ (order : List Slot) (distinct : AllPairs (λ one other. one ≢ other) 
 
   others_quiet : (other : Slot) → ¬ Contains order other → after.faults other ≡ before.faults other
   others_quiet other out = touches.others_faults other (not_among other out) ∙ so_far.others_quiet other out
+
+  size_here : (stop : Stop) → (after.taken slot ≤ mid.taken slot + 1073741824) ⊎ IsTooLarge slot stop
+      → (after.taken slot ≤ before.taken slot + 1073741824) ⊎ IsTooLarge slot stop
+  size_here stop (inl small) = inl (omega (arith, taken_there, small))
+  size_here stop (inr large) = inr large
 
   quiet_apart : (i : ℕ) (other : Slot) → i ≢ place → i < length order → slice_index_or order i other ≡ other
       → after.faults other ≡ before.faults other
@@ -152,9 +172,10 @@ module _ (order : List Slot) (distinct : AllPairs (λ one other. one ≢ other) 
       → ((read : List ℕ) → mid.left slot ≡ Some read → sized slot read ≡ Ok bytes)
       → ((read : List ℕ) → mid.left slot ≡ Some read → after.left slot ≡ Some [])
       → with_slot files slot bytes ≡ Ok more → AreTables more.tables → after.faults slot ≡ mid.faults slot
+      → after.taken slot ≤ mid.taken slot + 1073741824
       → AreReadTo order before after (place + 1) more
   unfolding with_slots
-  read_one bytes more has ends holds ranges same = record {
+  read_one bytes more has ends holds ranges same small = record {
     files_are = λ slots tells. rw (
       front,
       with_slots-append no_files (take place order)
@@ -170,7 +191,7 @@ module _ (order : List Slot) (distinct : AllPairs (λ one other. one ≢ other) 
       | inr later ↦ subst (λ (s : Slot). after.left s ≡ Some []) (same_there i other (omega arith) is)
           (ends (slots slot) (told_there slots tells))
     ];
-    once = once_to;
+    once = sized_to small;
     rest = rest_left;
     rest_taken = rest_taken;
     others = λ other out. touches.others other (not_among other out) ∙ so_far.others other out;
@@ -255,17 +276,38 @@ module _ (order : List Slot) (distinct : AllPairs (λ one other. one ≢ other) 
   stop_is s stop other from (inl same) = inl same
   stop_is s stop other from (inr fault) = inr (from ∙ fault)
 
+  -- no slot is too large, or that is the stop
+  size_to : (stop : Stop) → (after.taken slot ≤ mid.taken slot + 1073741824) ⊎ IsTooLarge slot stop
+      → (i : ℕ) (other : Slot) → i < length order → slice_index_or order i other ≡ other
+      → (after.taken other ≤ before.taken other + 1073741824) ⊎ IsTooLarge other stop
+  size_to stop size i other lt is = elim (cases_lt i place) [
+    | inl first ↦ inl (sized_before i other first is)
+    | inr later ↦ elim (cases_lt place i) [
+      | inl past ↦ inl (omega (arith, rest_taken i other (omega arith) lt is))
+      | inr here ↦ subst (λ (s : Slot). (after.taken s ≤ before.taken s + 1073741824) ⊎ IsTooLarge s stop)
+          (same_there i other (omega arith) is) (size_here stop size)
+    ]
+  ]
+
+  size_is : (s stop : Stop) (other : Slot) → s ≡ stop
+      → (after.taken other ≤ before.taken other + 1073741824) ⊎ IsTooLarge other stop
+      → (after.taken other ≤ before.taken other + 1073741824) ⊎ IsTooLarge other s
+  size_is s stop other from (inl small) = inl small
+  size_is s stop other from (inr large) = inr (from ∙ large)
+
   -- the slots as they stand where the reading stops
   pub taken_till : {A : Type 0} (r : Result A Stop) (stop : Stop) → IsErrAnd r (λ s. s ≡ stop)
       → HasCause order before after stop
-      → (after.faults slot ≡ mid.faults slot) ⊎ (stop ≡ stops.ReadFault slot) → TakesSlots order before after r
-  taken_till (Ok x) stop from cause told = absurd from
-  taken_till (Err s) stop from cause told = record {
+      → (after.faults slot ≡ mid.faults slot) ⊎ (stop ≡ stops.ReadFault slot)
+      → (after.taken slot ≤ mid.taken slot + 1073741824) ⊎ IsTooLarge slot stop → TakesSlots order before after r
+  taken_till (Ok x) stop from cause told size = absurd from
+  taken_till (Err s) stop from cause told size = record {
     ends = λ slots tells. tt;
     once = λ other has. elim (cases_lt has.0 (place + 1)) [
       | inl first ↦ once_to has.0 other first has.2
       | inr later ↦ omega (arith, rest_taken has.0 other later has.1 has.2)
     ];
+    size = λ other has. size_is s stop other from (size_to stop size has.0 other has.1 has.2);
     others = λ other out. touches.others other (not_among other out) ∙ so_far.others other out;
     others_taken = λ other out. touches.others_taken other (not_among other out) ∙ so_far.others_taken other out;
     counts = fell_none;
@@ -302,7 +344,8 @@ pub all_taken : (order : List Slot) (before after : OnShelf) (place : ℕ) (file
     → AreReadTo order before after place files → let r : Result Files Stop = Ok files in TakesSlots order before after r
 all_taken order before after place files end so_far = record {
   ends = λ slots tells slot has. so_far.ends slots tells has.0 slot (omega (arith, has.1)) has.2;
-  once = λ slot has. so_far.once has.0 slot (omega (arith, has.1)) has.2;
+  once = λ slot has. omega (arith, so_far.once has.0 slot (omega (arith, has.1)) has.2);
+  size = λ slot has. inl (so_far.once has.0 slot (omega (arith, has.1)) has.2);
   others = so_far.others;
   others_taken = so_far.others_taken;
   counts = so_far.none_fell;

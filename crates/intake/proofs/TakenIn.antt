@@ -53,6 +53,7 @@ pub untouched : {A : Type 0} (order : List Slot) (shelf : OnShelf) (r : Result A
 untouched order shelf (Ok x) is kinds = record {
   ends = λ slots tells slot has. let none : length order ≡ 0 = ap length is in absurd (omega (arith, none, has.1));
   once = λ slot has. omega arith;
+  size = λ slot has. inl (omega arith);
   others = λ slot out. refl;
   others_taken = λ slot out. refl;
   counts = λ slot. omega arith;
@@ -63,6 +64,7 @@ untouched order shelf (Ok x) is kinds = record {
 untouched order shelf (Err stop) is kinds = record {
   ends = λ slots tells. tt;
   once = λ slot has. omega arith;
+  size = λ slot has. inl (omega arith);
   others = λ slot out. refl;
   others_taken = λ slot out. refl;
   counts = λ slot. omega arith;
@@ -83,6 +85,7 @@ taken_still : {A B : Type 0} (order : List Slot) (before after : OnShelf) (x : A
 taken_still order before after x (Ok y) taken kinds = record {
   ends = taken.ends;
   once = taken.once;
+  size = λ slot has. inl (quiet_in (taken.size slot has));
   others = taken.others;
   others_taken = taken.others_taken;
   counts = taken.counts;
@@ -93,6 +96,7 @@ taken_still order before after x (Ok y) taken kinds = record {
 taken_still order before after x (Err stop) taken kinds = record {
   ends = λ slots tells. tt;
   once = taken.once;
+  size = λ slot has. inl (quiet_in (taken.size slot has));
   others = taken.others;
   others_taken = taken.others_taken;
   counts = taken.counts;
@@ -133,6 +137,7 @@ module _ (request : Request) (before after : OnShelf) where
     slots = record {
       ends = λ slots tells. tt;
       once = taken.once;
+      size = rw from taken.size;
       others = taken.others;
       others_taken = taken.others_taken;
       counts = taken.counts;

@@ -1,6 +1,7 @@
 -- What taking in slots does to a shelf.
 use Rattle.std.specs.Prelude.{◌≡◌, ℕ, ◌+◌, ◌<◌, ◌≤◌, ◌⊎◌, List, [], Contains, length, take, Option, Some, Result, Ok}
 use Rattle.std.specs.Prelude.{Err, IfErr, IsErrAnd, IsOk, OnOk, slice_index_or, ⊤}
+use Rattle.admit_core.specs.declared.refusal.Reason.TheVariants.{TooLarge}
 use Rattle.admit_core.specs.declared.slot.Slot.{Slot}
 use Rattle.slot_io.specs.Bytes.{OthersKept}
 use Rattle.slot_io.specs.Faults.{NoneFell, Rose}
@@ -55,6 +56,16 @@ abbrev pub FaultsIn : {A : Type 0} → Slot → (Slot → ℕ) → (Slot → ℕ
 FaultsIn slot before now (Ok _) = now slot ≡ before slot
 FaultsIn slot before now (Err stop) = FaultsAt slot before now stop
 
+-- the stop at a slot that is too large
+abbrev pub IsTooLarge : Slot → Stop → Type 0
+IsTooLarge slot stop =
+    stop ≡ stops.Refused (record { slot = slot; row = 0; reason = TooLarge })
+
+-- more than its greatest size is taken of a slot only where that is the stop
+abbrev pub IsSized : {A : Type 0} → Slot → ℕ → ℕ → Result A Stop → Type 0
+IsSized slot before now result =
+    (now ≤ before + 1073741824) ⊎ IsErrAnd result (IsTooLarge slot)
+
 -- what stops a run whose words are good: a fault of the shelf has its cause
 abbrev pub HasCause : List Slot → OnShelf → OnShelf → Stop → Type 0
 HasCause order before after (stops.ReadFault slot) = IsFaultAt order before after slot
@@ -71,6 +82,9 @@ pub record TakesSlots {A : Type 0} (order : List Slot) (before after : OnShelf)
       → OnOk result ((slot : Slot) → Contains order slot → after.left slot ≡ Some [])
   -- of a slot no more is taken than one reading may take
   pub once : (slot : Slot) → Contains order slot → after.taken slot ≤ before.taken slot + 1073807360
+  -- that a slot is too large is told as this and as nothing else
+  pub size : (slot : Slot) → Contains order slot
+      → IsSized slot (before.taken slot) (after.taken slot) result
   pub others : (slot : Slot) → ¬ Contains order slot → after.left slot ≡ before.left slot
   pub others_taken : (slot : Slot) → ¬ Contains order slot → after.taken slot ≡ before.taken slot
   pub counts : NoneFell before.faults after.faults

@@ -5,7 +5,7 @@ ghost use Rattle.admit_core.specs.Ranges.{AreTables};
 ghost use Rattle.dossier_csv.specs.Shape.{Answers};
 ghost use Rattle.intake.specs.Input.{IsOfFiles};
 ghost use Rattle.intake.specs.Reading as Reading;
-ghost use Rattle.intake.specs.Shelves.{FaultsIn, TakesSlots, Tells, TouchesOnly, on_shelf};
+ghost use Rattle.intake.specs.Shelves.{FaultsIn, IsSized, TakesSlots, Tells, TouchesOnly, on_shelf};
 ghost use Rattle.intake.specs.Stops.{Gives};
 
 use crate::stop::Stop;
@@ -39,6 +39,7 @@ fn slot_bytes<S: Shelf>(alloc: Global, shelf: &mut S, slot: Slot) -> Result<Vec<
         (on_shelf S.left S.taken S.faults shelf.old)
         (on_shelf S.left S.taken S.faults shelf.new) }
     ensures fault { FaultsIn slot (S.faults shelf.old) (S.faults shelf.new) result }
+    ensures size { IsSized slot (S.taken shelf.old slot) (S.taken shelf.new slot) result }
 {
     match read_slot(alloc, shelf, slot, MAX_BYTES) {
         Ok(bytes) => Ok(bytes),

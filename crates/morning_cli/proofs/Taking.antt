@@ -22,6 +22,7 @@ nothing_for (Some asked) shelf = (
     slots = record {
       ends = λ slots tells. tt;
       once = λ slot among. omega arith;
+      size = λ slot among. inl (omega arith);
       others = λ slot none. refl;
       others_taken = λ slot none. refl;
       counts = λ slot. omega arith;

@@ -24,6 +24,7 @@ takes_nothing : (A : Type 0) (order : List Slot) (shelf : OnShelf)
 takes_nothing A order shelf = record {
   ends = λ slots tells. tt;
   once = λ slot among. omega arith;
+  size = λ slot among. inl (omega arith);
   others = λ slot none. refl;
   others_taken = λ slot none. refl;
   counts = λ slot. omega arith;
@@ -85,6 +86,7 @@ module _ (words : List (List ℕ)) (request : Request) (before after : OnShelf)
     slots = asked_slots (record {
       ends = λ slots tells. tt;
       once = takes.slots.once;
+      size = takes.slots.size;
       others = takes.slots.others;
       others_taken = takes.slots.others_taken;
       counts = takes.slots.counts;
@@ -110,6 +112,7 @@ module _ (words : List (List ℕ)) (request : Request) (before after : OnShelf)
     slots = asked_slots (record {
       ends = takes.slots.ends;
       once = takes.slots.once;
+      size = takes.slots.size;
       others = takes.slots.others;
       others_taken = takes.slots.others_taken;
       counts = takes.slots.counts;

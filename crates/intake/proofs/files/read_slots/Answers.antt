@@ -7,6 +7,7 @@ use Rattle.intake.specs.Stops.{stop_of}
 use Rattle.intake.specs.declared.files.Files.{Files}
 use Rattle.intake.proofs.ReadOrder.{all_read, all_taken, fault_there, gives_stop, nothing_read, read_one}
 use Rattle.intake.proofs.ReadOrder.{refusal_has_cause, rows_stop, size_stops, taken_till, told_at}
+use Rattle.intake.proofs.TakenIn.{quiet_in}
 use Rattle.intake.proofs.files.read_slots.Goals as goal
 
 pub loop-slot-init : goal.loop-slot-init
@@ -28,6 +29,7 @@ loop-slot-preserved g c =
     c.in_ok-bytes.ensures.touches
     c.in_ok-bytes.bytes.items c.in_ok-files.files c.in_ok-bytes.ensures.value c.in_ok-bytes.ensures.ends
     c.in_ok-files.ensures.value c.in_ok-files.ensures.ranges c.in_ok-bytes.ensures.fault
+    (quiet_in c.in_ok-bytes.ensures.size)
 
 pub returns-in_err-bytes-clause-value : goal.returns-in_err-bytes-clause-value
 returns-in_err-bytes-clause-value g c =
@@ -61,6 +63,7 @@ returns-in_err-bytes-clause-slots g c =
     c.in_err-bytes.ensures.touches c.in_err-bytes.field-0.0 c.in_err-bytes.ensures.fault)
     (told_at order c.requires before mid after place slot c.loop-slot.files within is_there c.loop-slot.invariant
     c.in_err-bytes.ensures.touches c.in_err-bytes.field-0.0 c.in_err-bytes.ensures.fault)
+    c.in_err-bytes.ensures.size
 
 pub returns-in_err-files-clause-value : goal.returns-in_err-files-clause-value
 returns-in_err-files-clause-value g c =
@@ -92,6 +95,7 @@ returns-in_err-files-clause-slots g c =
     c.in_ok-bytes.ensures.touches
     c.from_residual-in_err-files.result (stop_of c.in_err-files.field-0.0) c.from_residual-in_err-files.ensures.1
     (refusal_has_cause _ _ _ c.in_err-files.field-0.0) (inl c.in_ok-bytes.ensures.fault)
+    (inl (quiet_in c.in_ok-bytes.ensures.size))
 
 pub returns-clause-value : goal.returns-clause-value
 returns-clause-value g c = all_read _ _ _ c.loop-slot.slot-index c.loop-slot.files (omega arith) c.loop-slot.invariant
