@@ -32,6 +32,7 @@ BAD_WORDS = (
     ("measure.sh", "fly"), ("measure.sh", "--runs", "0"), ("measure.sh", "--candidates", "1000"),
     ("check_pages.sh", "README.md"), ("check_pages.sh", "--link"), ("edit_clauses", "--tried"),
     ("edit_clauses", "none"), ("same_lemmas.py", "--what"), ("laws_without_witness.py", "--lists"),
+    ("memory_answers.py", "--list"),
     ("break_lines.py", "none"), ("build_twice.sh", "3"), ("build_twice.sh", "--keep"),
 )
 
@@ -56,7 +57,7 @@ def check_help(tally: Tally) -> None:
     tools = [path for path in sorted(TOOLS.iterdir())
              if path.is_file() and os.access(path, os.X_OK) and path.suffix != ".py"]
     tools += [TOOLS / name for name in ("prove.py", "same_lemmas.py", "laws_without_witness.py",
-                                   "break_lines.py")]
+                                   "memory_answers.py", "break_lines.py")]
     tally.check("there are many", len(tools) > 10, tools)
     for tool in tools:
         with scratch() as folder:

@@ -1,5 +1,6 @@
 """Checks of same_lemmas.py and laws_without_witness.py, and by them of the crates: a lemma is stated once, and each law
-has a worked case. And of what `promises.py` finds in a page."""
+has a worked case. Of memory_answers.py: each line that answers that memory ran out is known. And of what `promises.py`
+finds in a page."""
 
 import shutil
 from pathlib import Path
@@ -78,6 +79,23 @@ CASES = """pub fn witnesses()
     ensures less { IsLessWitness }
 {}
 """
+def check_memory_answers(tally: Tally) -> None:
+    tally.begin("memory_answers.py")
+    for fault, code, said in (("handed on", "read(alloc)?", "0 are new, 1 are gone"),
+                              ("the one that is known", "Err(OutOfMemory)", "0 are new, 0 are gone"),
+                              ("a new one", "Err(AllocError)", "1 are new, 1 are gone")):
+        with scratch() as folder:
+            (folder / "tools").mkdir()
+            (folder / "crates/one/src").mkdir(parents=True)
+            shutil.copy(TOOLS / "memory_answers.py", folder / "tools")
+            (folder / "tools/memory_answers.txt").write_text("one/src/lib.rt: Err(OutOfMemory)\n")
+            (folder / "crates/one/src/lib.rt").write_text(f"fn f() -> Result<(), OutOfMemory> {{\n    {code}\n}}\n")
+            last = run(folder / "tools/memory_answers.py").output.decode().splitlines()[-1]
+            tally.equal(fault, last.partition("; ")[2], said)
+    ended = run(TOOLS / "memory_answers.py")
+    tally.equal("the crates", (ended.status, len(ended.output.splitlines())), (0, 1))
+
+
 def look_at_laws(folder: Path, cases: str, specs: str, *words: str) -> tuple[int, list[str]]:
     """What laws_without_witness.py says of two laws, of these clauses and these statements of cases."""
     (folder / "tools").mkdir()
