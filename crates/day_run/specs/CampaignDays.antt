@@ -7,12 +7,13 @@ use Rattle.admit_core.specs.declared.records.Terms.{Terms}
 use Rattle.admit_core.specs.CallOrder.{AreCallOrders}
 use Rattle.admit_core.specs.DossierRows.{DossierRows}
 use Rattle.admit_core.specs.State.{State}
-use Rattle.admit_core.specs.Days.{ceilings_of, first_evening, unfit_on}
+use Rattle.admit_core.specs.Days.{ceilings_of, first_evening, morning, unfit_on}
 use Rattle.admit_core.specs.EveningLaws.{last_bars}
 use Rattle.admit_core.specs.Explanations.{LastPass}
 use Rattle.admit_core.specs.Lapses.{AreTermsFor}
 use Rattle.linked_demand.specs.Rosters.{Setting}
 use Rattle.desk_day.specs.AnswersOn.{IsUnfitOf}
+use Rattle.desk_day.specs.DayPasses.{TellsOfPasses}
 use Rattle.desk_day.specs.DeskStates.{DeskStates}
 use Rattle.desk_day.specs.LastPasses.{IsLastPass, last_pass}
 use Rattle.desk_day.specs.RunDay.{Moment, IsDayDone, KeepsOpening, TellsNoneUnfit}
@@ -121,6 +122,14 @@ pub record SameCampaign (old new : Progress) : Type 0 where
   pub terms : new.terms ≡ old.terms
   pub dossier : new.present.dossier ≡ old.present.dossier
 
+-- the picker told of a beginning of what the next day would have told it: of whole passes, and of
+-- falls of the one that follows them
+abbrev pub TellsOfNextDay : Stage → List ℕ → Type 0
+TellsOfNextDay before told =
+    let p = before.course in
+    TellsOfPasses p.orders (ceilings_of p.present.dossier (p.day + 1)) (p.day + 1)
+    (morning p.terms (p.day + 1) p.present) before.choice before.told told
+
 -- how the next day of a campaign ends
 pub record EndsNextDay (before after : Stage) (result : Result DayRecord DayRefusal) : Type 0 where
   pub runs : IfOk result (λ done. RunsDay before done after)
@@ -131,4 +140,5 @@ pub record EndsNextDay (before after : Stage) (result : Result DayRecord DayRefu
   pub same : SameCampaign before.course after.course
   pub unopened : IfErr result (KeepsOpening before.course.opening after.course.opening)
   pub untold : IfErr result (TellsNoneUnfit before.told after.told)
+  pub asked : OnErr result (TellsOfNextDay before after.told)
   pub choice : after.choice ≡ before.choice

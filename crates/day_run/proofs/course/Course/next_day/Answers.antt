@@ -4,7 +4,7 @@ use Rattle.admit_core.specs.DossierRows.{DossierRows}
 use Rattle.admit_core.specs.State.{State}
 use Rattle.admit_core.specs.EveningLaws.{last_bars}
 use Rattle.desk_day.proofs.LastBars.{last_bars_long}
-use Rattle.day_run.proofs.DayEnds.{next_ran, next_refused}
+use Rattle.day_run.proofs.DayEnds.{next_ran, next_refused, next_stopped}
 use Rattle.desk_day.proofs.PassEnds.{desk_ends_so}
 use Rattle.day_run.proofs.course.Course.next_day.Goals as goal
 
@@ -61,3 +61,10 @@ pub returns-in_default : goal.returns-in_default
 returns-in_default g c =
     next_refused c.args.self.now _ c.refused.new.self _ _ _ c.refused.result c.self.view_is c.as_ref.ensures.value
     c.refused.ensures.refusal c.refused.ensures.present c.refused.ensures.opening
+
+pub returns-in_err-done : goal.returns-in_err-done
+returns-in_err-done g c =
+    next_stopped c.args.self.now _ _ c.as_slice.result.now c.in-Ok.ceilings.items c.dossier.result.now
+    c.run_day_along.new.desk _ _ _ _ c.self.view_is c.as_ref-2.ensures.value c.as_slice.ensures.value
+    c.in-Ok.ensures.ceilings (c.dossier.ensures ∙ ap (λ (s : State). s.dossier) c.now.ensures)
+    c.in_err-done.field-0.0 c.from_residual.result c.from_residual.ensures.1 c.in_err-done.ensures
