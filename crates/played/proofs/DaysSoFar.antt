@@ -1,13 +1,14 @@
 -- The days that were played so far.
-use Rattle.std.proofs.Common.{◌≡◌, ◌∙◌, ℕ, ◌+◌, ◌<◌, List, [], ◌∷◌, ◌++◌, Option, Result, Ok, Err, IfOk, IsErrAnd}
-use Rattle.std.proofs.Common.{IsSomeAnd, ap, append_assoc, arith, length, refl, subst, sym}
+use Rattle.std.proofs.Common.{◌≡◌, ◌∙◌, ℕ, ◌+◌, ◌<◌, List, [], ◌∷◌, ◌++◌, Option, Result, Ok, Err, IsErrAnd}
+use Rattle.std.proofs.Common.{IsSomeAnd, ap, append_assoc, arith, false, length, refl, subst, sym}
 use Rattle.std.proofs.lemmas.List.{append-nil, length-append}
 use Rattle.admit_core.specs.CallOrder.{AreCallOrders}
-use Rattle.admit_core.specs.Days.{ceilings_of, unfit_on}
+use Rattle.admit_core.specs.Days.{Passes, ceilings_of, morning, unfit_on}
 use Rattle.admit_core.specs.DossierRows.{DossierRows}
 use Rattle.admit_core.specs.declared.records.DayRecord.{DayRecord}
 use Rattle.admit_core.specs.declared.records.Terms.{Terms}
 use Rattle.admit_core.specs.declared.refusal.Refusal.{Refusal}
+use Rattle.desk_day.proofs.ToldPasses.{told_nothing as no_pass_told, told_to_the_end}
 use Rattle.desk_day.specs.AnswersOn.{unfit_refusal}
 use Rattle.desk_day.specs.DeskStates.{DeskStates}
 use Rattle.desk_day.specs.RunDay.{IsDayDone}
@@ -16,9 +17,11 @@ use Rattle.desk_day.specs.declared.refusal.DayRefusal.TheVariants as refusals
 use Rattle.request.specs.Pickers.{picker_on}
 use Rattle.request.specs.declared.pickers.PickerChoice.{PickerChoice}
 use Rattle.request.specs.declared.pickers.PickerName.{PickerName}
-use Rattle.played.specs.Lent.{AreBack, Lent, Told, Untold, picked_by}
-use Rattle.played.specs.PlayedDays.{EndsNext, IsNext, IsPlayed, Lead, Plan, Played, PlaysDays, first_desk, lent_after}
-use Rattle.played.proofs.Naming.{back_again, back_untouched, picked_by-append, told_more}
+use Rattle.played.specs.Lent.{AreBack, Lent, Told, Untold, is_named, picked_by}
+use Rattle.played.specs.OneDay.{TellsOfDay}
+use Rattle.played.specs.PlayedDays.{BreaksAfter, BreaksDay, BreaksDays, EndsNext, IsNext, IsPlayed, Lead, Plan, Played}
+use Rattle.played.specs.PlayedDays.{PlaysDays, first_desk, lent_after}
+use Rattle.played.proofs.Naming.{back_again, back_untouched, picked_by-append, picked_none, told_more}
 
 -- so many days were played
 pub record SoFar (plan : Plan) (old : DeskStates) (before : Lent) (played : ℕ)
@@ -85,6 +88,76 @@ lead_more plan d old before (first ∷ days) mid day new lead next =
           at next),
     )
 
+-- memory ran out on a day: what was told of it, after what had been told
+breaks_same : (plan : Plan) (d : ℕ) (old : DeskStates) (one other after : Lent)
+    → ((name : PickerName) → one.told name ≡ other.told name)
+    → one.choice (picker_on plan.who d) ≡ other.choice (picker_on plan.who d)
+    → BreaksDay plan d old one after → BreaksDay plan d old other after
+breaks_same plan d old one other after told choice breaks =
+    let name = picker_on plan.who d in
+    let P : List ℕ → (List ℕ → List ℕ → ℕ) → Type 0 =
+    λ t c.
+    TellsOfDay plan.orders plan.terms d (record { desk = old; told = t; choice = c }) (after.told name) in
+    record {
+      own = subst (λ c. P (other.told name) c) choice (subst (λ t. P t (one.choice name)) (told name) breaks.own);
+      others = λ n none. breaks.others n none ∙ told n;
+    }
+
+-- nobody was told of anything
+breaks_untold : (plan : Plan) (d : ℕ) (old : DeskStates) (before : Lent) → BreaksDay plan d old before before
+breaks_untold plan d old before =
+    let name = picker_on plan.who d in
+    record {
+      own = no_pass_told plan.orders (ceilings_of old.present.dossier d) d (before.choice name)
+          (morning plan.terms d old.present) (before.told name);
+      others = λ n none. refl;
+    }
+
+-- a day that came about broke off behind its last pass
+breaks_behind : (plan : Plan) (d : ℕ) (old : DeskStates) (before : Lent) (day : DayRecord) (new : DeskStates)
+    (after : Lent) → IsNext plan d old before day new → Told plan.who (day ∷ []) before after
+    → BreaksDay plan d old before after
+breaks_behind plan d old before day new after next told =
+    let name = picker_on plan.who d in
+    let rule = next.done.rule in
+    let ceilings = ceilings_of old.present.dossier d in
+    let P : ℕ → Type 0 =
+    λ n. Passes plan.orders ceilings n 1 (morning plan.terms n old.present) day.passes new.present in
+    let other : (n : PickerName) → is_named n name ≡ false → is_named n (picker_on plan.who day.day) ≡ false =
+    λ n none. ap (λ x. is_named n (picker_on plan.who x)) rule.number ∙ none in
+    record {
+      own = told_to_the_end plan.orders ceilings d (before.choice name) (morning plan.terms d old.present)
+          (before.told name) (after.told name) day.passes new.present (subst P rule.number rule.is_day.passes)
+          rule.chosen (told name ∙ rule.told);
+      others = λ n none.
+          told n ∙ ap (λ l. before.told n ++ l) (picked_none plan.who n day (other n none))
+          ∙ append-nil (before.told n);
+    }
+
+-- memory ran out on the day after these
+breaks_after : (plan : Plan) (d : ℕ) (old : DeskStates) (before : Lent) (days : List DayRecord) (mid : DeskStates)
+    (after : Lent) → Lead plan d old before days mid
+    → BreaksDay plan (d + length days) mid (lents_after plan.who days before) after
+    → BreaksAfter plan d old before after days
+breaks_after plan d old before [] mid after same breaks =
+    let at : d + 0 ≡ d = omega arith in
+    subst (λ (desk : DeskStates). BreaksDay plan d desk before after) (sym same)
+    (subst (λ (n : ℕ). BreaksDay plan n mid before after) at breaks)
+breaks_after plan d old before (first ∷ days) mid after lead breaks =
+    let at : d + length (first ∷ days) ≡ d + 1 + length days = omega arith in (
+      lead.0,
+      lead.1,
+      breaks_after plan (d + 1) lead.0 (lent_after plan.who first before) days mid after lead.2
+          (subst (λ (n : ℕ). BreaksDay plan n mid (lents_after plan.who days (lent_after plan.who first before)) after)
+          at breaks),
+    )
+
+-- memory ran out before the first of some days
+pub breaks_before : (plan : Plan) (number : ℕ) (old : DeskStates) (before : Lent) → 0 < number
+    → BreaksDays plan number old before before
+breaks_before plan number old before some =
+    record { days = []; fewer = omega (arith, some); last = breaks_untold plan 1 old before }
+
 -- the dossier stays as it was
 pub lead_dossier : (plan : Plan) (d : ℕ) (old : DeskStates) (before : Lent) (days : List DayRecord)
     (new : DeskStates) → Lead plan d old before days new → new.present.dossier ≡ old.present.dossier
@@ -139,13 +212,30 @@ module _ (plan : Plan) (old : DeskStates) (before : Lent) (played : ℕ) (days :
   untold_still after untold = λ name. untold name ∙ so_far.told name
 
   -- memory runs out on the next day, or after it
+  broken : (number : ℕ) (after : Lent) → played < number → BreaksDay plan (played + 1) mid between after
+      → BreaksDays plan number old before after
+  broken number after fewer breaks =
+      let at : played + 1 ≡ 1 + length days = omega (arith, so_far.number) in
+      record {
+        days = days;
+        fewer = omega (arith, so_far.number, fewer);
+        last = breaks_after plan 1 old before days mid after so_far.lead
+            (breaks_same plan (1 + length days) mid between (lents_after plan.who days before) after
+            (λ name. so_far.told name ∙ sym (told_after plan.who days before name))
+            (let name = picker_on plan.who (1 + length days) in
+            so_far.back.choice name ∙ sym (choice_after plan.who days before name))
+            (subst (λ (n : ℕ). BreaksDay plan n mid between after) at breaks));
+      }
+
   out_there : (number : ℕ) (kept : List DayRecord) (new : DeskStates) (after : Lent) → played < number
-      → AreBack between after → PlaysDays plan number old before kept (Err refusals.OutOfMemory) new after
-  out_there number kept new after fewer back = record {
+      → BreaksDay plan (played + 1) mid between after → AreBack between after
+      → PlaysDays plan number old before kept (Err refusals.OutOfMemory) new after
+  out_there number kept new after fewer breaks back = record {
     last = mid;
     lead = tt;
     stops = tt;
     told = tt;
+    breaks = broken number after fewer breaks;
     back = back_again before between after so_far.back back;
     idle = λ none. absurd (omega arith);
   }
@@ -164,11 +254,13 @@ module _ (plan : Plan) (old : DeskStates) (before : Lent) (played : ℕ) (days :
           unfit = subst (λ (n : ℕ). IsSomeAnd (unfit_on plan.terms n mid.present)
               (λ x. refusal ≡ unfit_refusal mid.present.dossier n x)) at ends.unfit;
         };
-        told = untold_still after ends.untold;
+        told = untold_still after ends.undone;
+        breaks = tt;
         back = back_again before between after so_far.back ends.back;
         idle = λ none. absurd (omega arith);
       }
-  stopped number refusals.OutOfMemory new after fewer ends = out_there number days new after fewer ends.back
+  stopped number refusals.OutOfMemory new after fewer ends =
+      out_there number days new after fewer ends.undone ends.back
 
   pub plays_some : (number : ℕ) (refusal : DayRefusal) (new : DeskStates) (after : Lent)
       (r : Result (Unit {0}) DayRefusal) → IsErrAnd r (λ x. x ≡ refusal) → played < number
@@ -187,7 +279,8 @@ module _ (plan : Plan) (old : DeskStates) (before : Lent) (played : ℕ) (days :
   plays_out number day kept new after (Ok done) from fewer ends = absurd from
   plays_out number day kept new after (Err other) from fewer ends =
       subst (λ (x : DayRefusal). PlaysDays plan number old before kept (Err x) new after) (sym from)
-      (out_there number kept new after fewer ends.back)
+      (out_there number kept new after fewer
+      (breaks_behind plan (played + 1) mid between day new after ends.done ends.told) ends.back)
 
   pub plays_all : (number : ℕ) → played ≡ number → PlaysDays plan number old before days (Ok tt) mid between
   plays_all number all = record {
@@ -195,6 +288,7 @@ module _ (plan : Plan) (old : DeskStates) (before : Lent) (played : ℕ) (days :
     lead = so_far.lead;
     stops = (so_far.number ∙ all, refl);
     told = so_far.told;
+    breaks = tt;
     back = so_far.back;
     idle = λ none. told_nothing plan.who days before between (so_far.number ∙ all ∙ none) so_far.told;
   }

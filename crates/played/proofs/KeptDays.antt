@@ -1,23 +1,23 @@
 -- Days that were played, of which the falls are kept or left out.
 use Rattle.std.proofs.Common.{◌≡◌, ◌∙◌, ℕ, ◌+◌, ◌<◌, Bool, true, false, List, [], ◌∷◌, ◌++◌, Option, Result, Ok, Err}
-use Rattle.std.proofs.Common.{IfOk, IsErrAnd, ap, map, refl, subst, sym}
-use Rattle.std.specs.Prelude.{nat_lt}
+use Rattle.std.proofs.Common.{IfErr, IfOk, IsErrAnd, ap, map, refl, subst, sym}
+use Rattle.std.specs.Prelude.{MatchResult, OnErr, nat_lt}
 use Rattle.std.proofs.lemmas.Bool.{lt-ltb}
-use Rattle.std.proofs.lemmas.Result.{IfOk-weaker}
 use Rattle.admit_core.specs.CallOrder.{AreCallOrders}
-use Rattle.admit_core.specs.Days.{ceilings_of, unfit_on}
+use Rattle.admit_core.specs.Days.{ceilings_of, morning, unfit_on}
 use Rattle.admit_core.specs.DossierRows.{DossierRows}
 use Rattle.admit_core.specs.declared.ranking.CallOrder.{CallOrder}
 use Rattle.admit_core.specs.declared.records.DayRecord.{DayRecord}
 use Rattle.admit_core.specs.declared.records.Terms.{Terms}
 use Rattle.admit_core.specs.declared.refusal.Refusal.{Refusal}
-use Rattle.desk_day.proofs.DayEnds.{tells_none}
 use Rattle.desk_day.proofs.KeptDays.{day_kept, day_whole, refusal_kept}
 use Rattle.desk_day.proofs.KeptPasses.{kept_more}
+use Rattle.desk_day.proofs.ToldPasses.{told_nothing}
 use Rattle.desk_day.specs.AnswersOn.{IsUnfitOf}
+use Rattle.desk_day.specs.DayPasses.{TellsOfPasses}
 use Rattle.desk_day.specs.DeskStates.{DeskStates}
 use Rattle.desk_day.specs.KeptDays.{EndsDayKept, kept_day, kept_result}
-use Rattle.desk_day.specs.RunDay.{EndsDay, IsDayDone, Moment}
+use Rattle.desk_day.specs.RunDay.{EndsDay, IsDayDone, Moment, TellsNoneUnfit}
 use Rattle.desk_day.specs.declared.refusal.DayRefusal.{DayRefusal}
 use Rattle.desk_day.specs.declared.refusal.DayRefusal.TheVariants as refusals
 use Rattle.request.specs.declared.pickers.PickerChoice.{PickerChoice}
@@ -25,8 +25,8 @@ use Rattle.round.specs.KeptFalls.{IsKeptOf}
 use Rattle.played.specs.KeptDays.{IsPlayedKept, PlaysDaysKept, kept_played}
 use Rattle.played.specs.LastDesks.{DeskLeft, EndsBy, IsLeftBy, desk_in}
 use Rattle.played.specs.Lent.{Lent}
-use Rattle.played.specs.OneDay.{DayEndsWith}
-use Rattle.played.specs.PlayedDays.{EndsNext, IsPlayed, OnFit, Plan, Played, first_desk}
+use Rattle.played.specs.OneDay.{DayEndsWith, TellsWhereUndone}
+use Rattle.played.specs.PlayedDays.{BreaksDays, EndsNext, IsPlayed, OnFit, Plan, Played, first_desk}
 use Rattle.played.proofs.DaysSoFar.{SoFar, all_played, cut_short, lead_dossier, none_played, nothing_played, played_on}
 use Rattle.played.proofs.DaysSoFar.{plays_all, plays_out, plays_some}
 
@@ -34,6 +34,23 @@ use Rattle.played.proofs.DaysSoFar.{plays_all, plays_out, plays_some}
 ok_so : {A E P : Type 0} (r : Result A E) → P → IfOk r (λ x. P)
 ok_so (Ok x) p = p
 ok_so (Err e) p = tt
+
+-- what was told where it did not come about
+undone_so : (terms : Option Terms) (orders : List CallOrder) (d : ℕ) (before after : Moment)
+    (r : Result DayRecord DayRefusal) → IfErr r (TellsNoneUnfit before.told after.told)
+    → OnErr r (TellsOfPasses orders (ceilings_of before.desk.present.dossier d) d
+    (morning terms d before.desk.present) before.choice before.told after.told)
+    → IfErr r (TellsWhereUndone orders terms d before after.told)
+undone_so terms orders d before after (Ok day) untold asked = tt
+undone_so terms orders d before after (Err (refusals.Unfit refusal)) untold asked = untold
+undone_so terms orders d before after (Err refusals.OutOfMemory) untold asked = asked
+
+undone_untold : (terms : Option Terms) (orders : List CallOrder) (d : ℕ) (before : Moment) (refusal : DayRefusal)
+    → TellsWhereUndone orders terms d before before.told refusal
+undone_untold terms orders d before (refusals.Unfit refusal) = refl
+undone_untold terms orders d before refusals.OutOfMemory =
+    told_nothing orders (ceilings_of before.desk.present.dossier d) d before.choice
+    (morning terms d before.desk.present) before.told
 
 ends_with : (terms : Option Terms) (orders : List CallOrder) (ceilings : List ℕ) (d : ℕ) (before after : Moment)
     (r : Result DayRecord DayRefusal) → ceilings ≡ ceilings_of before.desk.present.dossier d
@@ -43,7 +60,9 @@ ends_with terms orders ceilings d before after r same ends = record {
   evening = ok_so r ends.evening;
   dossier = ok_so r ends.dossier;
   unfit = ends.unfit;
-  untold = ends.untold;
+  undone = undone_so terms orders d before after r ends.untold
+      (subst (λ (cs : List ℕ). OnErr r (TellsOfPasses orders cs d (morning terms d before.desk.present) before.choice
+      before.told after.told)) same ends.asked);
   choice = ends.choice;
 }
 
@@ -67,7 +86,7 @@ ends_early keeps terms orders d before now refusal unfit = (
     evening = tt;
     dossier = tt;
     unfit = unfit;
-    untold = tells_none before.told before.told refl refusal;
+    undone = undone_untold terms orders d before refusal;
     choice = refl;
   },
   refl,
@@ -182,6 +201,20 @@ along_still keeps plan number old new before after kept d plays same =
     same ∙ sym (lead_dossier plan 1 old before plays.days plays.plays.last plays.plays.lead)
     ∙ ap (λ (desk : DeskStates). desk.present.dossier) (sym plays.plays.stops.1)
 
+-- memory ran out on one of the days
+pub breaks_kept : (keeps : Bool) (plan : Plan) (number : ℕ) (old new : DeskStates) (before after : Lent)
+    (kept : List DayRecord) (d : DossierRows) → old ≡ first_desk d
+    → PlaysDaysKept keeps plan number old before kept (Err refusals.OutOfMemory) new after
+    → BreaksDays plan number (first_desk d) before after
+breaks_kept keeps plan number old new before after kept d begun plays =
+    subst (λ (desk : DeskStates). BreaksDays plan number desk before after) begun plays.plays.breaks
+
+-- what is said where memory ran out
+pub where_broken : {A E : Type 0} (P : A → Type 0) (Q : E → Type 0) (Breaks : Type 0) (r : Result A E)
+    → IsErrAnd r Q → Breaks → MatchResult r P (λ _. Breaks)
+where_broken P Q Breaks (Ok x) is breaks = absurd is
+where_broken P Q Breaks (Err e) is breaks = breaks
+
 -- along a roster, by the orders that it was made of
 pub kept_by_orders : (keeps : Bool) (one other : List CallOrder) (terms : Option Terms) (who : PickerChoice)
     (number : ℕ)
@@ -231,14 +264,16 @@ played_whole played =
 
 pub all_whole : {A E : Type 0} (d : DossierRows) (orders : List CallOrder) (terms : Option Terms) (number : ℕ)
     (who : PickerChoice) (before after : Lent) (days : A → List DayRecord) (end : A → Result DeskLeft Refusal)
-    (r : Result A E)
-    → IfOk r (λ p. EndsBy orders number (λ played. IsPlayedKept true d terms number who before played after)
-    (days p) (end p))
-    → IfOk r (λ p. EndsBy orders number (λ played. IsPlayed d terms number who before played after) (days p) (end p))
-all_whole d orders terms number who before after days end r =
-    IfOk-weaker r _ _
-    (λ p ends. record {
-      plays = subst (λ (played : Played). IsPlayed d terms number who before played after)
-          (sym (played_whole ends.plays.0) ∙ sym ends.plays.2) ends.plays.1;
-      left = ends.left;
-    })
+    (Breaks : Type 0) (r : Result A E)
+    → MatchResult r
+    (λ p. EndsBy orders number (λ played. IsPlayedKept true d terms number who before played after) (days p) (end p))
+    (λ _. Breaks)
+    → MatchResult r
+    (λ p. EndsBy orders number (λ played. IsPlayed d terms number who before played after) (days p) (end p))
+    (λ _. Breaks)
+all_whole d orders terms number who before after days end Breaks (Ok p) ends = record {
+  plays = subst (λ (played : Played). IsPlayed d terms number who before played after)
+      (sym (played_whole ends.plays.0) ∙ sym ends.plays.2) ends.plays.1;
+  left = ends.left;
+}
+all_whole d orders terms number who before after days end Breaks (Err e) breaks = breaks

@@ -1,10 +1,11 @@
 -- How a day ends with the picker of the day.
 use Rattle.std.proofs.Common.{◌≡◌, ◌∙◌, ℕ, List, [], ◌∷◌, ◌++◌, Result, Ok, Err, ap, subst, sym}
 use Rattle.std.proofs.lemmas.List.{append-nil}
-use Rattle.admit_core.specs.Days.{ceilings_of}
+use Rattle.admit_core.specs.Days.{ceilings_of, morning}
 use Rattle.admit_core.specs.declared.records.DayRecord.{DayRecord}
 use Rattle.desk_day.specs.DayPasses.{TellsMore, schools_of_passes}
 use Rattle.desk_day.specs.DeskStates.{DeskStates}
+use Rattle.desk_day.proofs.ToldPasses.{told_more}
 use Rattle.desk_day.specs.RunDay.{IsDayDone}
 use Rattle.desk_day.specs.declared.refusal.DayRefusal.{DayRefusal}
 use Rattle.desk_day.specs.declared.refusal.DayRefusal.TheVariants as refusals
@@ -65,22 +66,26 @@ module _ (plan : Plan) (d : ℕ) (old new : DeskStates) (before after : Lent)
     done = is_next day ends;
     told = told_on day ends.done.rule.number ends.done.rule.told;
     unfit = tt;
-    untold = tt;
+    undone = tt;
     back = record { choice = choices ends.choice; told = more (schools_of_passes day.passes, ends.done.rule.told) };
   }
   ends_at (Err (refusals.Unfit refusal)) ends = record {
     done = tt;
     told = tt;
     unfit = ends.unfit;
-    untold = each_named (λ n. after.told n ≡ before.told n) name ends.untold only.told;
-    back = record { choice = choices ends.choice; told = more ([], ends.untold ∙ sym (append-nil (before.told name))) };
+    undone = each_named (λ n. after.told n ≡ before.told n) name ends.undone only.told;
+    back = record { choice = choices ends.choice; told = more ([], ends.undone ∙ sym (append-nil (before.told name))) };
   }
   ends_at (Err refusals.OutOfMemory) ends = record {
     done = tt;
     told = tt;
     unfit = ends.unfit;
-    untold = tt;
-    back = record { choice = choices ends.choice; told = more ends.untold };
+    undone = record { own = ends.undone; others = only.told };
+    back = record {
+      choice = choices ends.choice;
+      told = more (told_more plan.orders (ceilings_of old.present.dossier d) d (before.choice name)
+          (morning plan.terms d old.present) (before.told name) (after.told name) ends.undone);
+    };
   }
 
 -- the same of a picker whose name was found

@@ -1,7 +1,7 @@
 -- The days of a campaign, each with the picker of the day, and what becomes of the days that are
 -- asked for.
-use Rattle.std.specs.Prelude.{◌≡◌, ℕ, ◌+◌, ◌<◌, List, [], ◌∷◌, ◌++◌, Option, IsSomeAnd, Result, Ok, Err, IfErr, IfOk}
-use Rattle.std.specs.Prelude.{length, ⊤}
+use Rattle.std.specs.Prelude.{◌≡◌, ℕ, ◌+◌, ◌<◌, false, List, [], ◌∷◌, ◌++◌, Option, IsSomeAnd, Result, Ok, Err, IfErr}
+use Rattle.std.specs.Prelude.{IfOk, length, ⊤}
 use Rattle.admit_core.specs.CallOrder.{AreCallOrders}
 use Rattle.admit_core.specs.Days.{ceilings_of, first_evening, unfit_on}
 use Rattle.admit_core.specs.DossierRows.{DossierRows}
@@ -15,9 +15,11 @@ use Rattle.desk_day.specs.DeskStates.{DeskStates}
 use Rattle.desk_day.specs.RunDay.{IsDayDone, Moment}
 use Rattle.desk_day.specs.declared.refusal.DayRefusal.{DayRefusal}
 use Rattle.desk_day.specs.declared.refusal.DayRefusal.TheVariants as refusals
-use Rattle.played.specs.Lent.{AreBack, Lent, Told, Untold, picked_by}
+use Rattle.played.specs.Lent.{AreBack, Lent, Told, Untold, is_named, picked_by}
+use Rattle.played.specs.OneDay.{TellsOfDay}
 use Rattle.request.specs.Pickers.{picker_on}
 use Rattle.request.specs.declared.pickers.PickerChoice.{PickerChoice}
+use Rattle.request.specs.declared.pickers.PickerName.{PickerName}
 
 -- how days are run: by which call orders, under which terms, and with which picker each
 pub record Plan : Type 0 where
@@ -46,10 +48,18 @@ pub record IsNext (plan : Plan) (d : ℕ) (old : DeskStates) (before : Lent) (da
   pub evening : new.evening ≡ old.present
   pub dossier : new.present.dossier ≡ old.present.dossier
 
--- the next day asks nobody where an answer does not fit
-abbrev pub UntoldWhereUnfit : Lent → Lent → DayRefusal → Type 0
-UntoldWhereUnfit before after (refusals.Unfit refusal) = Untold before after
-UntoldWhereUnfit before after refusals.OutOfMemory = ⊤
+-- memory ran out on day d: its picker told of a beginning of what the day would have told it, and
+-- the others told of nothing
+pub record BreaksDay (plan : Plan) (d : ℕ) (old : DeskStates) (before after : Lent) : Type 0 where
+  pub own : TellsOfDay plan.orders plan.terms d (moment_of plan d old before)
+      (after.told (picker_on plan.who d))
+  pub others : (name : PickerName) → is_named name (picker_on plan.who d) ≡ false
+      → after.told name ≡ before.told name
+
+-- what the pickers told on day d, which did not come about: nothing where an answer does not fit
+abbrev pub TellWhereUndone : Plan → ℕ → DeskStates → Lent → Lent → DayRefusal → Type 0
+TellWhereUndone plan d old before after (refusals.Unfit refusal) = Untold before after
+TellWhereUndone plan d old before after refusals.OutOfMemory = BreaksDay plan d old before after
 
 -- how day d ends, on a desk and with the pickers of a run
 pub record EndsNext (plan : Plan) (d : ℕ) (old : DeskStates) (before : Lent)
@@ -57,7 +67,7 @@ pub record EndsNext (plan : Plan) (d : ℕ) (old : DeskStates) (before : Lent)
   pub done : IfOk result (λ day. IsNext plan d old before day new)
   pub told : IfOk result (λ day. Told plan.who (day ∷ []) before after)
   pub unfit : IfErr result (IsUnfitOf old.present.dossier d (unfit_on plan.terms d old.present))
-  pub untold : IfErr result (UntoldWhereUnfit before after)
+  pub undone : IfErr result (TellWhereUndone plan d old before after)
   pub back : AreBack before after
 
 -- days from day d on lead from one desk to another
@@ -66,6 +76,20 @@ Lead plan d old before [] new = old ≡ new
 Lead plan d old before (day ∷ days) new =
     (desk : DeskStates) × IsNext plan d old before day desk
     × Lead plan (d + 1) desk (lent_after plan.who day before) days new
+
+-- days from day d on came about, and memory ran out on the next one
+abbrev pub BreaksAfter : Plan → ℕ → DeskStates → Lent → Lent → List DayRecord → Type 0
+BreaksAfter plan d old before after [] = BreaksDay plan d old before after
+BreaksAfter plan d old before after (day ∷ days) =
+    (desk : DeskStates) × IsNext plan d old before day desk
+    × BreaksAfter plan (d + 1) desk (lent_after plan.who day before) after days
+
+-- memory ran out on one of so many days from day 1 on
+pub record BreaksDays (plan : Plan) (number : ℕ) (old : DeskStates)
+    (before after : Lent) : Type 0 where
+  pub days : List DayRecord
+  pub fewer : length days < number
+  pub last : BreaksAfter plan 1 old before after days
 
 -- after fewer days than so many, an answer of the next day does not fit
 pub record IsCutShort (terms : Option Terms) (number : ℕ) (days : List DayRecord) (evening : State)
@@ -79,6 +103,12 @@ abbrev pub OnFit : Result (Unit {0}) DayRefusal → Type 0 → Type 0
 OnFit (Ok done) Fact = Fact
 OnFit (Err (refusals.Unfit refusal)) Fact = Fact
 OnFit (Err refusals.OutOfMemory) Fact = ⊤
+
+-- what holds where it did
+abbrev pub OnLack : Result (Unit {0}) DayRefusal → Type 0 → Type 0
+OnLack (Ok done) Fact = ⊤
+OnLack (Err (refusals.Unfit refusal)) Fact = ⊤
+OnLack (Err refusals.OutOfMemory) Fact = Fact
 
 -- where days end: after so many of them, or before one with an answer that does not fit
 abbrev pub StopsAfter : Plan → ℕ → List DayRecord → DeskStates → DeskStates
@@ -96,6 +126,7 @@ pub record PlaysDays (plan : Plan) (number : ℕ) (old : DeskStates) (before : L
   pub lead : OnFit result (Lead plan 1 old before days last)
   pub stops : StopsAfter plan number days last new result
   pub told : OnFit result (Told plan.who days before after)
+  pub breaks : OnLack result (BreaksDays plan number old before after)
   pub back : AreBack before after
   pub idle : number ≡ 0 → Untold before after
 
@@ -115,7 +146,8 @@ pub record Played : Type 0 where
 abbrev pub DaysEndAfter : Option Terms → ℕ → List DayRecord → DeskStates
     → Result DeskStates Refusal → Type 0
 DaysEndAfter terms number days last (Ok desk) = (length days ≡ number) × (desk ≡ last)
-DaysEndAfter terms number days last (Err refusal) = IsCutShort terms number days last.present refusal
+DaysEndAfter terms number days last (Err refusal) =
+    IsCutShort terms number days last.present refusal
 
 abbrev pub plan_of : Option Terms → PickerChoice → Played → Plan
 plan_of terms who played = record { orders = played.orders; terms = terms; who = who }

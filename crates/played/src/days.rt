@@ -1,11 +1,11 @@
 //! The days of a run.
-ghost use Rattle.std.specs.Prelude.{◌≡◌, ◌≤◌, ◌<◌, false, [], ◌∷◌, ◌++◌, IfOk, Ok, OnOk, option_copied};
+ghost use Rattle.std.specs.Prelude.{◌≡◌, ◌≤◌, ◌<◌, false, [], ◌∷◌, ◌++◌, MatchResult, Ok, OnOk, option_copied};
 ghost use Rattle.admit_core.specs.CallOrder.{AreCallOrders};
 ghost use Rattle.admit_core.specs.Lapses.{AreTermsFor};
 ghost use Rattle.played.specs.KeptDays.{IsPlayedKept, PlaysDaysKept};
 ghost use Rattle.played.specs.LastDesks.{EndsBy, IsUnasked};
 ghost use Rattle.played.specs.Lent.{AreBack, AreThere, lent};
-ghost use Rattle.played.specs.PlayedDays.{IsPlayed, first_desk};
+ghost use Rattle.played.specs.PlayedDays.{BreaksDays, IsPlayed, first_desk};
 
 use crate::day::next_day;
 use crate::last::{DeskAlong, LastDesk};
@@ -102,11 +102,19 @@ fn play_some<'a, 'd>(
     ensures there { AreThere pickers.new }
     ensures back { AreBack (lent (λ p. told p) (λ p. choice p) pickers.old)
         (lent (λ p. told p) (λ p. choice p) pickers.new) }
-    ensures ends { IfOk result (λ p. EndsBy orders.now.orders wanted.number
+    ensures ends { MatchResult result
+        (λ p. EndsBy orders.now.orders wanted.number
         (λ played. IsPlayedKept wanted.keeps_falls
         dossier.now (option_copied terms.entry) wanted.number wanted.who
         (lent (λ p. told p) (λ p. choice p) pickers.old) played
-        (lent (λ p. told p) (λ p. choice p) pickers.new)) p.days.items p.end) }
+        (lent (λ p. told p) (λ p. choice p) pickers.new)) p.days.items p.end)
+        (λ _. BreaksDays (record {
+          orders = orders.now.orders;
+          terms = option_copied terms.entry;
+          who = wanted.who;
+        }) wanted.number (first_desk dossier.now)
+        (lent (λ p. told p) (λ p. choice p) pickers.old)
+        (lent (λ p. told p) (λ p. choice p) pickers.new)) }
 {
     let (mut desk, roster) = DeskAlong::begin(alloc, dossier, orders)?.into_parts();
     let mut days = Vec::new(alloc);
@@ -145,10 +153,18 @@ pub fn play<'a, 'd>(
         (lent (λ p. told p) (λ p. choice p) pickers.new) }
     ensures idle { number ≡ 0 → IsUnasked (lent (λ p. told p) (λ p. choice p) pickers.old)
         (lent (λ p. told p) (λ p. choice p) pickers.new) result }
-    ensures ends { IfOk result (λ p. EndsBy orders.now.orders number
+    ensures ends { MatchResult result
+        (λ p. EndsBy orders.now.orders number
         (λ played. IsPlayed dossier.now (option_copied terms.entry) number who
         (lent (λ p. told p) (λ p. choice p) pickers.old) played
-        (lent (λ p. told p) (λ p. choice p) pickers.new)) p.days.items p.end) }
+        (lent (λ p. told p) (λ p. choice p) pickers.new)) p.days.items p.end)
+        (λ _. BreaksDays (record {
+          orders = orders.now.orders;
+          terms = option_copied terms.entry;
+          who = who;
+        }) number (first_desk dossier.now)
+        (lent (λ p. told p) (λ p. choice p) pickers.old)
+        (lent (λ p. told p) (λ p. choice p) pickers.new)) }
 {
     let wanted = Wanted {
         number,
@@ -178,11 +194,19 @@ pub fn play_wanted<'a, 'd>(
         (lent (λ p. told p) (λ p. choice p) pickers.new) }
     ensures idle { wanted.number ≡ 0 → IsUnasked (lent (λ p. told p) (λ p. choice p) pickers.old)
         (lent (λ p. told p) (λ p. choice p) pickers.new) result }
-    ensures ends { IfOk result (λ p. EndsBy orders.now.orders wanted.number
+    ensures ends { MatchResult result
+        (λ p. EndsBy orders.now.orders wanted.number
         (λ played. IsPlayedKept wanted.keeps_falls
         dossier.now (option_copied terms.entry) wanted.number wanted.who
         (lent (λ p. told p) (λ p. choice p) pickers.old) played
-        (lent (λ p. told p) (λ p. choice p) pickers.new)) p.days.items p.end) }
+        (lent (λ p. told p) (λ p. choice p) pickers.new)) p.days.items p.end)
+        (λ _. BreaksDays (record {
+          orders = orders.now.orders;
+          terms = option_copied terms.entry;
+          who = wanted.who;
+        }) wanted.number (first_desk dossier.now)
+        (lent (λ p. told p) (λ p. choice p) pickers.old)
+        (lent (λ p. told p) (λ p. choice p) pickers.new)) }
 {
     if wanted.number == 0 {
         return Ok(unplayed(alloc, dossier, orders));

@@ -1,9 +1,10 @@
-use Rattle.std.proofs.Common.{◌≡◌, ◌∙◌, List, Ok, Result, ap, refl, sym, true}
+use Rattle.std.proofs.Common.{◌∙◌, List, Ok, Result, ap, refl, sym, true}
 use Rattle.admit_core.specs.declared.ranking.CallOrder.{CallOrder}
 use Rattle.admit_core.specs.declared.refusal.Refusal.{Refusal}
 use Rattle.desk_day.specs.DeskStates.{DeskStates}
 use Rattle.played.specs.LastDesks.{DeskBy, DeskLeft}
-use Rattle.played.proofs.KeptDays.{all_kept, along_still, cut_kept, kept_by_orders}
+use Rattle.played.proofs.DaysSoFar.{breaks_before}
+use Rattle.played.proofs.KeptDays.{all_kept, along_still, breaks_kept, cut_kept, kept_by_orders, where_broken}
 use Rattle.played.proofs.days.play_some.Goals as goal
 
 pub invariant_of-after_days : goal.invariant_of-after_days
@@ -29,3 +30,15 @@ returns-in-Err-Unfit-clause-ends g c =
     let begun = c.into_parts-desk.ensures.desk ∙ ap (λ (x : DeskBy). x.desk) c.in_ok-begin.ensures in
     cut_kept _ _ _ _ _ _ _ _ _ _ c.requires.orders begun c.in-Err-Unfit.refusal
     (kept_by_orders _ _ _ _ _ _ _ _ _ _ _ _ same (rw c.in-Err-Unfit.field-0-is at c.in-Err-Unfit.ensures.plays)) refl
+
+pub returns-in_err-begin-clause-ends : goal.returns-in_err-begin-clause-ends
+returns-in_err-begin-clause-ends g c =
+    where_broken _ _ _ c.from_residual.result c.from_residual.ensures.1 (breaks_before _ _ _ _ c.requires.some_day)
+
+pub returns-clause-ends : goal.returns-clause-ends
+returns-clause-ends g c =
+    let same = c.into_parts-desk.ensures.orders ∙ ap (λ (x : DeskBy). x.orders) c.in_ok-begin.ensures in
+    let begun = c.into_parts-desk.ensures.desk ∙ ap (λ (x : DeskBy). x.desk) c.in_ok-begin.ensures in
+    breaks_kept _ _ _ _ _ _ _ _ _ begun
+    (kept_by_orders _ _ _ _ _ _ _ _ _ _ _ _ same
+    (rw c.in-Err-OutOfMemory.field-0-is at c.in-Err-OutOfMemory.ensures.plays))
