@@ -1,6 +1,7 @@
 -- The figures of a school, and what the picker told as they were found.
 use Rattle.std.proofs.Common.{◌≡◌, ◌∙◌, ℕ, ◌-◌, List, Option, Some, Result, Ok, Err, IfOk, ap, length, nat_eq, position}
-use Rattle.std.proofs.Common.{refl, subst, sym}
+use Rattle.std.proofs.Common.{inr, refl, subst, sym}
+use Rattle.std.specs.Prelude.{OnErr}
 use Rattle.admit_core.specs.Boarding.{boarding}
 use Rattle.admit_core.specs.CallOrder.{AreCallOrders}
 use Rattle.admit_core.specs.DossierRows.{DossierRows, beds_of}
@@ -12,7 +13,7 @@ use Rattle.admit_core.specs.declared.records.DayRecord.{DayRecord}
 use Rattle.bed_need.specs.Figures.{AreFigures, Figures, TellsOfFigures, lacks}
 use Rattle.bed_need.specs.Growing.{IsGrowth, with_more_beds, with_n_beds}
 use Rattle.bed_need.specs.Questions.{Questions}
-use Rattle.bed_need.specs.Telling.{TellsOfBoth, TellsOfRun}
+use Rattle.bed_need.specs.Telling.{TellsOfBoth, TellsOfFallsOfBoth, TellsOfRun}
 use Rattle.bed_need.specs.Text.{beds_text}
 use Rattle.bed_need.proofs.Growing.{figures_are_fixed}
 use Rattle.desk_day.specs.DayPasses.{TellsMore}
@@ -20,8 +21,9 @@ use Rattle.desk_day.specs.DeskStates.{DeskStates}
 use Rattle.desk_day.specs.LastPasses.{IsLastPass}
 use Rattle.dossier_check.specs.Ids.{Ids}
 use Rattle.played.specs.LastDays.{IsDeskAfter, IsLastOf, pass_on}
+use Rattle.round.proofs.EarlyEnds.{told_of_all}
 use Rattle.modes.specs.Asking.{TellsPicks}
-use Rattle.modes.specs.Beds.{IsAsked, IsOnlyText, IsTextOf, PicksForFigures, TellsFigures}
+use Rattle.modes.specs.Beds.{BreaksFigures, BreaksFiguring, IsAsked, IsOnlyText, IsTextOf, PicksForFigures, TellsFigures}
 
 -- the figures that were found, with what the picker told
 module _ (s : State) (d : DossierRows) (orders : List CallOrder) (ceilings : List ℕ) (place need more : ℕ)
@@ -81,6 +83,45 @@ figured_there d ceilings place choice told after bytes r one other same =
     × IsTextOf d q.state q.orders ceilings place figures (bytes text)
     × TellsOfFigures q.state q.orders ceilings place figures.need choice told after)) same
 
+-- what the picker told where memory ran out
+module _ (s : State) (orders : List CallOrder) (ceilings : List ℕ) (place need more : ℕ)
+    (choice choice' : List ℕ → List ℕ → ℕ) (told between after : List ℕ) (d : DossierRows) (same : s.dossier ≡ d)
+    (lack : more ≡ need - beds_of d place) (least : IsLeastBeds s orders ceilings place need)
+    (told_least : TellsOfRun (with_n_beds s orders ceilings place 2000000000) choice told between)
+    (chooses : choice' ≡ choice) where
+  abbrev Grown : ℕ → (List ℕ → List ℕ → ℕ) → Type 0
+  Grown n c =
+      TellsOfFallsOfBoth (boarding s orders ceilings) (with_more_beds s orders ceilings place n) c between after
+
+  pub breaks_grown : Grown more choice' → BreaksFiguring s orders ceilings place choice told after
+  breaks_grown grown = inr (record {
+    need = need;
+    is_need = least;
+    between = between;
+    least = told_least;
+    grown = subst (λ (n : ℕ). Grown n choice) (lack ∙ ap (λ (e : DossierRows). need - beds_of e place) (sym same))
+        (subst (λ c. Grown more c) chooses grown);
+  })
+
+  pub breaks_behind : TellsOfBoth (boarding s orders ceilings) (with_more_beds s orders ceilings place more) choice'
+      between after → BreaksFiguring s orders ceilings place choice told after
+  breaks_behind both =
+      let sys = with_more_beds s orders ceilings place more in
+      let then = both.second in
+      breaks_grown (inr (
+        both.between,
+        both.first,
+        told_of_all sys sys choice' both.between after then.falls refl then.is_run then.chosen then.told_of,
+      ))
+
+-- the same of what questions are of
+pub breaks_there : {T E : Type 0} (ceilings : List ℕ) (place : ℕ) (choice : List ℕ → List ℕ → ℕ)
+    (told after : List ℕ) (r : Result T E) (one other : Questions) → one ≡ other
+    → OnErr r (BreaksFiguring one.state one.orders ceilings place choice told after)
+    → OnErr r (BreaksFiguring other.state other.orders ceilings place choice told after)
+breaks_there ceilings place choice told after r one other same =
+    subst (λ (q : Questions). OnErr r (BreaksFiguring q.state q.orders ceilings place choice told after)) same
+
 -- one place has an id, and one day is the last
 one_place : (found one other : ℕ) (p : Option ℕ) → p ≡ Some one → p ≡ Some other → one ≡ other
 one_place found one other p is also = cc (is, also)
@@ -135,6 +176,25 @@ module _ (d : DossierRows) (ids : Ids) (orders : List CallOrder) (days : List Da
 
   pub opening_ceilings : length last.ceilings ≡ length desk.opening.dossier.schools
   opening_ceilings = ends_so.of_dossier.ceilings
+
+  -- where memory ran out in the opening, by the call orders of a roster, under the day's ceilings
+  pub all_broken : {T E : Type 0} (opening : State) (called : List CallOrder) (ceilings : List ℕ)
+      (choice : List ℕ → List ℕ → ℕ) (told after : List ℕ) → opening ≡ desk.opening → called ≡ orders
+      → ceilings ≡ last.ceilings → (r : Result T E)
+      → OnErr r (BreaksFiguring opening called ceilings place choice told after)
+      → OnErr r (BreaksFigures d ids orders days desk school choice told after)
+  all_broken opening called ceilings choice told after opens calls ceil (Ok text) breaks = tt
+  all_broken opening called ceilings choice told after opens calls ceil (Err e) breaks =
+      let P : State → List CallOrder → List ℕ → Type 0 =
+      λ o os cs. BreaksFiguring o os cs place choice told after in
+      inr (record {
+        place = place;
+        pass = last;
+        is_asked = asked_so;
+        breaks = subst (λ (o : State). P o orders last.ceilings) opens
+            (subst (λ (os : List CallOrder). P opening os last.ceilings) calls
+            (subst (λ (cs : List ℕ). P opening called cs) ceil breaks));
+      })
 
   -- what was figured in the opening, by the call orders of a roster, under the day's ceilings
   module _ (opening : State) (called : List CallOrder) (ceilings : List ℕ) (choice : List ℕ → List ℕ → ℕ)

@@ -1,6 +1,7 @@
 -- The text of a mode whose days keep no falls is that of the days themselves.
-use Rattle.std.proofs.Common.{◌≡◌, ◌∙◌, ℕ, Bool, List, Option, None, Some, Result, Ok, Err, ap, map, refl, subst}
-use Rattle.std.proofs.lemmas.Result.{IfOk-weaker}
+use Rattle.std.proofs.Common.{◌≡◌, ◌∙◌, ℕ, Bool, List, Option, None, Some, Result, Ok, Err, ap, inl, inr, map, refl}
+use Rattle.std.proofs.Common.{subst}
+use Rattle.std.proofs.lemmas.Result.{IfOk-weaker, on_err_weaker}
 use Rattle.admit_core.specs.DossierRows.{DossierRows}
 use Rattle.admit_core.specs.Explanations.{LastPass}
 use Rattle.admit_core.specs.declared.ranking.CallOrder.{CallOrder}
@@ -18,7 +19,7 @@ use Rattle.played.specs.PlayedDays.{Played}
 use Rattle.request.specs.declared.modes.Mode.{Mode}
 use Rattle.request.specs.declared.modes.Mode.TheVariants as modes
 use Rattle.request.specs.declared.pickers.PickerName.{PickerName}
-use Rattle.modes.specs.Asking.{ArePicks, Asked, TellsAfter, TellsLent}
+use Rattle.modes.specs.Asking.{ArePicks, Asked, BreaksEnding, BreaksLent, BreaksPicks, TellsAfter, TellsLent}
 use Rattle.modes.specs.Beds.{IsAsked}
 use Rattle.modes.specs.Endings.{EndsAfter, EndsWith, IsEndOf, IsRefusedWith, lines_before}
 use Rattle.modes.specs.Explained.{IsExplained}
@@ -128,12 +129,40 @@ module _ (seen : Seen) (whole : Played) where
   tells_whole (Ok desk) before after tells = lent_whole (picker_after seen.request) desk before after tells
   tells_whole (Err refusal) before after tells = tells
 
+  -- what it told where memory ran out
+  broken_whole : (mode : Mode) (desk : DeskStates) (before : Asked) (told : List ℕ)
+      → BreaksPicks mode seen (kept_in mode whole) desk before told → BreaksPicks mode seen whole desk before told
+  broken_whole (modes.Beds school) desk before told (inl same) = inl same
+  broken_whole (modes.Beds school) desk before told (inr breaks) =
+      let keeps = keeps_falls (modes.Beds school) in
+      inr (record {
+        place = breaks.place;
+        pass = breaks.pass;
+        is_asked = asked_whole keeps seen.dossier seen.index whole.orders whole.days desk school breaks.place
+            breaks.pass breaks.is_asked;
+        breaks = breaks.breaks;
+      })
+  broken_whole _ desk before told breaks = breaks
+
+  broken_lent : (name : Option PickerName) (desk : DeskStates) (before after : Lent)
+      → BreaksLent name (BreaksPicks seen.request.mode seen (kept_in seen.request.mode whole) desk) before after
+      → BreaksLent name (BreaksPicks seen.request.mode seen whole desk) before after
+  broken_lent None desk before after breaks = tt
+  broken_lent (Some name) desk before after breaks =
+      broken_whole seen.request.mode desk _ (after.told name) breaks
+
+  breaks_whole : (end : Result DeskStates Refusal) (before after : Lent)
+      → BreaksEnding end seen (kept_in seen.request.mode whole) before after → BreaksEnding end seen whole before after
+  breaks_whole (Ok desk) before after breaks = broken_lent (picker_after seen.request) desk before after breaks
+  breaks_whole (Err refusal) before after breaks = breaks
+
   kept_after : {E : Type 0} (between after : Lent) (result : Result Reply E)
       → EndsAfter whole.end seen (kept_in seen.request.mode whole) between after result
       → EndsAfter whole.end seen whole between after result
   kept_after between after result ends = record {
     ends = IfOk-weaker result _ _ (λ reply is. with_whole whole.end reply.exit reply.text.items is) ends.ends;
     tells = IfOk-weaker result _ _ (λ reply is. tells_whole whole.end between after is) ends.tells;
+    breaks = on_err_weaker result (λ is. breaks_whole whole.end between after is) ends.breaks;
     lends = ends.lends;
   }
 

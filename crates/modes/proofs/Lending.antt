@@ -1,22 +1,35 @@
 -- The picker that the ending is lent.
-use Rattle.std.proofs.Common.{◌≡◌, ◌∙◌, List, [], Option, None, Some, Result, Ok, Err, IfOk, ap, option_map, refl}
-use Rattle.std.proofs.Common.{subst, sym}
-use Rattle.std.specs.Prelude.{⊤}
+use Rattle.std.proofs.Common.{◌≡◌, ◌∙◌, ℕ, List, [], Option, None, Some, Result, Ok, Err, IfOk, ap, inl, inr}
+use Rattle.std.proofs.Common.{option_map, refl, subst, sym}
+use Rattle.std.specs.Prelude.{OnErr, ⊤}
 use Rattle.std.proofs.lemmas.List.{append-nil}
+use Rattle.admit_core.proofs.Plain.{on_err}
+use Rattle.admit_core.specs.Boarding.{boarding}
+use Rattle.admit_core.specs.Falls.{FallingSystem}
+use Rattle.admit_core.specs.State.{State}
 use Rattle.admit_core.specs.declared.ranking.CallOrder.{CallOrder}
 use Rattle.admit_core.specs.declared.records.DayRecord.{DayRecord}
 use Rattle.admit_core.specs.declared.refusal.Refusal.{Refusal}
+use Rattle.bar_fixpoint.specs.Runs.{schools_of}
+use Rattle.bed_need.specs.Growing.{with_more_beds, with_n_beds}
+use Rattle.bed_need.specs.Figures.{lacks}
+use Rattle.bed_need.specs.Telling.{TellsOfFallsOfBoth}
+use Rattle.desk_day.proofs.PassesSoFar.{tells_from, tells_of_falls, tells_still}
 use Rattle.desk_day.specs.DayPasses.{TellsMore}
 use Rattle.desk_day.specs.DeskStates.{DeskStates}
+use Rattle.markets.specs.Bars.{market_system}
+use Rattle.markets.specs.Dossiers.{market_of}
 use Rattle.played.specs.Lent.{Lent, Untold}
 use Rattle.played.specs.PlayedDays.{Played}
 use Rattle.played.proofs.Naming.{OnlyNamed, back_untouched, each_named}
 use Rattle.request.specs.Modes.{picks_after}
 use Rattle.request.specs.Pickers.{picker_on}
 use Rattle.request.specs.declared.modes.Mode.{Mode}
+use Rattle.request.specs.declared.modes.Mode.TheVariants as modes
 use Rattle.request.specs.declared.pickers.PickerName.{PickerName}
 use Rattle.request.specs.declared.request.Request.{Request}
-use Rattle.modes.specs.Asking.{ArePicks, Asked, IsLent, TellsLent, TellsPicks, asked}
+use Rattle.modes.specs.Asking.{ArePicks, Asked, BreaksLent, BreaksPicks, IsLent, TellsLent, TellsPicks, asked}
+use Rattle.modes.specs.Beds.{BreaksFiguring}
 use Rattle.modes.specs.Endings.{EndsAfter, EndsLent, IsEndOf, IsRefusedWith, asked_by, lines_before}
 use Rattle.modes.specs.Jobs.{Seen, picker_after}
 use Rattle.modes.specs.declared.reply.Reply.{Reply}
@@ -28,6 +41,40 @@ pub nobody_lent : (name : Option PickerName) (pickers : Lent) → IsLent name pi
 nobody_lent None pickers = record { back = back_untouched pickers; others = λ name. refl }
 nobody_lent (Some name) pickers = record { back = back_untouched pickers; others = λ other none. refl }
 
+-- where memory ran out, what a picker had told is a prefix of what it told
+both_more : (one other : FallingSystem) (choice : List ℕ → List ℕ → ℕ) (told after : List ℕ)
+    → TellsOfFallsOfBoth one other choice told after → TellsMore told after
+both_more one other choice told after (inl falls) = tells_of_falls one choice told after falls
+both_more one other choice told after (inr then) =
+    tells_from told then.0 after (schools_of then.1.falls) then.1.told_of
+    (tells_of_falls other choice then.0 after then.2)
+
+figuring_more : (s : State) (orders : List CallOrder) (ceilings : List ℕ) (place : ℕ)
+    (choice : List ℕ → List ℕ → ℕ) (told after : List ℕ)
+    → BreaksFiguring s orders ceilings place choice told after → TellsMore told after
+figuring_more s orders ceilings place choice told after (inl falls) =
+    tells_of_falls (with_n_beds s orders ceilings place 2000000000) choice told after falls
+figuring_more s orders ceilings place choice told after (inr growth) =
+    tells_from told growth.between after (schools_of growth.least.falls) growth.least.told_of
+    (both_more (boarding s orders ceilings) (with_more_beds s orders ceilings place (lacks s place growth.need)) choice
+    growth.between after growth.grown)
+
+breaks_more : (mode : Mode) (seen : Seen) (played : Played) (desk : DeskStates) (before : Asked) (told : List ℕ)
+    → BreaksPicks mode seen played desk before told → TellsMore before.told told
+breaks_more (modes.Beds school) seen played desk before told (inl same) = tells_still before.told told same
+breaks_more (modes.Beds school) seen played desk before told (inr breaks) =
+    figuring_more breaks.pass.opening breaks.pass.orders breaks.pass.ceilings breaks.place before.choice before.told
+    told breaks.breaks
+breaks_more modes.Market seen played desk before told breaks =
+    tells_of_falls (market_system (market_of seen.dossier played.orders)) before.choice before.told told breaks
+breaks_more _ seen played desk before told same = tells_still before.told told same
+
+lent_more : {E : Type 0} (seen : Seen) (played : Played) (desk : DeskStates) (before after : Asked)
+    (result : Result Reply E) → EndsLent seen played desk before after result → TellsMore before.told after.told
+lent_more seen played desk before after (Ok reply) ends = (ends.picks.0, ends.picks.2)
+lent_more seen played desk before after (Err e) ends =
+    breaks_more seen.request.mode seen played desk before after.told ends.breaks
+
 module _ {E : Type 0} (seen : Seen) (played : Played) (desk : DeskStates) (between after : Lent)
     (result : Result Reply E) where
   -- the picker of the name was lent
@@ -36,7 +83,8 @@ module _ {E : Type 0} (seen : Seen) (played : Played) (desk : DeskStates) (betwe
   lent_named name only ends = record {
     back = record {
       choice = each_named (λ n. after.choice n ≡ between.choice n) name ends.choice only.choice;
-      told = each_named (λ n. TellsMore (between.told n) (after.told n)) name ends.told
+      told = each_named (λ n. TellsMore (between.told n) (after.told n)) name
+          (lent_more seen played desk (asked between name) (asked after name) result ends)
           (λ other none. ([], only.told other none ∙ sym (append-nil (between.told other))));
     };
     others = only.told;
@@ -49,30 +97,31 @@ module _ {E : Type 0} (seen : Seen) (played : Played) (desk : DeskStates) (betwe
     ends = ends.ends;
     tells = subst (λ (n : Option PickerName). IfOk result
         (λ reply. TellsLent n (ArePicks seen.request.mode seen played desk) between after)) is ends.picks;
+    breaks = subst (λ (n : Option PickerName). OnErr result
+        (BreaksLent n (BreaksPicks seen.request.mode seen played desk) between after)) is ends.breaks;
     lends = subst (λ (n : Option PickerName). IsLent n between after) is (lent_named name only ends);
   }
 
--- a mode that is lent a picker ends by what its text and its picks are
+-- a mode that is lent a picker ends by what its text and its picks are, and by what it told where memory ran out
 module _ {E : Type 0} {seen : Seen} {played : Played} {desk : DeskStates} {before after : Asked}
-    (told : TellsMore before.told after.told) (choice : after.choice ≡ before.choice) where
-  ends_so_lent : (mode : Mode) {reply : Reply} → seen.request.mode ≡ mode
-      → IsEndOf mode seen played desk reply.exit reply.text.items
-      → TellsPicks (ArePicks mode seen played desk before) before.told after.told
-      → EndsLent {E = E} seen played desk before after (Ok reply)
-  ends_so_lent mode {reply} is ends picks = record {
-    ends = subst (λ (m : Mode). IsEndOf m seen played desk reply.exit reply.text.items) (sym is) ends;
-    picks = subst (λ (m : Mode). TellsPicks (ArePicks m seen played desk before) before.told after.told) (sym is) picks;
-    told = told;
-    choice = choice;
-  }
-
-  -- and so does one that may run out of memory
+    (choice : after.choice ≡ before.choice) where
   pub ends_lent_by : (mode : Mode) → seen.request.mode ≡ mode → (result : Result Reply E)
       → IfOk result (λ reply. IsEndOf mode seen played desk reply.exit reply.text.items)
       → IfOk result (λ reply. TellsPicks (ArePicks mode seen played desk before) before.told after.told)
+      → OnErr result (BreaksPicks mode seen played desk before after.told)
       → EndsLent {E = E} seen played desk before after result
-  ends_lent_by mode is (Ok reply) ends picks = ends_so_lent mode is ends picks
-  ends_lent_by mode is (Err e) ends picks = record { ends = tt; picks = tt; told = told; choice = choice }
+  ends_lent_by mode is (Ok reply) ends picks breaks = record {
+    ends = subst (λ (m : Mode). IsEndOf m seen played desk reply.exit reply.text.items) (sym is) ends;
+    picks = subst (λ (m : Mode). TellsPicks (ArePicks m seen played desk before) before.told after.told) (sym is) picks;
+    breaks = tt;
+    choice = choice;
+  }
+  ends_lent_by mode is (Err e) ends picks breaks = record {
+    ends = tt;
+    picks = tt;
+    breaks = subst (λ (m : Mode). BreaksPicks m seen played desk before after.told) (sym is) breaks;
+    choice = choice;
+  }
 
 -- what holds of orders, days and a desk that have another name
 pub same_led : {orders others : List CallOrder} {days later : List DayRecord} {desk last : DeskStates}
@@ -95,6 +144,8 @@ ends_unlent seen played desk pickers result none ends = record {
   ends = ends;
   tells = subst (λ (n : Option PickerName). IfOk result
       (λ reply. TellsLent n (ArePicks seen.request.mode seen played desk) pickers pickers)) none (told_nothing result);
+  breaks = subst (λ (n : Option PickerName). OnErr result
+      (BreaksLent n (BreaksPicks seen.request.mode seen played desk) pickers pickers)) none (on_err result tt);
   lends = nobody_lent (picker_after seen.request) pickers;
 }
 
@@ -133,7 +184,12 @@ pub ends_cut_short : {E : Type 0} (refusal : Refusal) (seen : Seen) (played : Pl
     → IfOk result (λ reply. IsRefusedWith refusal (lines_before seen.request.mode seen played) reply.exit
     reply.text.items) → EndsAfter (Err refusal) seen played pickers pickers result
 ends_cut_short refusal seen played pickers result ends =
-    record { ends = ends; tells = untold_after pickers result; lends = nobody_lent (picker_after seen.request) pickers }
+    record {
+      ends = ends;
+      tells = untold_after pickers result;
+      breaks = on_err result (λ name. refl);
+      lends = nobody_lent (picker_after seen.request) pickers;
+    }
 
 -- the end of the days is the one that was found
 pub ends_so : {E : Type 0} (end found : Result DeskStates Refusal) (seen : Seen) (orders : List CallOrder)

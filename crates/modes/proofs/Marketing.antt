@@ -1,17 +1,18 @@
 -- The market that was solved, and what the picker told as it was.
-use Rattle.std.proofs.Common.{◌≡◌, ◌∙◌, ℕ, List, ◌++◌, Option, Result, Ok, Err, IfOk, subst, ap}
+use Rattle.std.proofs.Common.{◌≡◌, ◌∙◌, ℕ, List, ◌++◌, Option, Result, Ok, Err, IfOk, refl, subst, ap}
 use Rattle.admit_core.specs.DossierRows.{DossierRows}
 use Rattle.admit_core.specs.Falls.{IsGreatest}
 use Rattle.admit_core.specs.declared.ranking.CallOrder.{CallOrder}
+use Rattle.bar_fixpoint.specs.Chosen.{TellsOfFalls}
 use Rattle.bar_fixpoint.specs.Runs.{schools_of}
-use Rattle.desk_day.specs.DayPasses.{TellsMore}
 use Rattle.markets.specs.Bars.{market_system, matched_under}
 use Rattle.markets.specs.Dossiers.{market_candidates, market_of}
 use Rattle.markets.specs.Markets.{MarketRows}
 use Rattle.markets.specs.Solving.{IsLedTo}
 use Rattle.markets.specs.Text.{market_text}
 use Rattle.modes.specs.Asking.{TellsPicks}
-use Rattle.modes.specs.Market.{PicksForMarket, TellsMarket}
+use Rattle.modes.specs.Market.{BreaksMarket, PicksForMarket, TellsMarket}
+use Rattle.round.proofs.EarlyEnds.{told_of_all}
 
 module _ (d : DossierRows) (orders : List CallOrder) (m : MarketRows) (same : m ≡ market_of d orders) where
   pub tells_market : (candidates bars : List ℕ) (places : List (Option ℕ)) (text : List ℕ)
@@ -39,9 +40,18 @@ module _ (d : DossierRows) (orders : List CallOrder) (m : MarketRows) (same : m 
     led.told_of,
   )
 
-pub led_more : (m : MarketRows) (choice : List ℕ → List ℕ → ℕ) (told after bars : List ℕ)
-    → IsLedTo (market_system m) choice told after bars → TellsMore told after
-led_more m choice told after bars led = (schools_of led.falls, led.told_of)
+  -- where memory ran out, in the midst of the falls or behind them
+  pub breaks_market : (choice : List ℕ → List ℕ → ℕ) (told after : List ℕ)
+      → TellsOfFalls (market_system m) choice told after → BreaksMarket d orders choice told after
+  breaks_market choice told after falls =
+      subst (λ (x : MarketRows). TellsOfFalls (market_system x) choice told after) same falls
+
+  pub breaks_solved : (choice : List ℕ → List ℕ → ℕ) (told after bars : List ℕ)
+      → IsLedTo (market_system m) choice told after bars → BreaksMarket d orders choice told after
+  breaks_solved choice told after bars led =
+      breaks_market choice told after
+      (told_of_all (market_system m) (market_system m) choice told after led.falls refl led.is_run led.chosen
+      led.told_of)
 
 -- what holds whatever the text is
 pub always : {T E X : Type 0} (r : Result T E) → X → IfOk r (λ t. X)

@@ -7,9 +7,9 @@ use Rattle.played.specs.PlayedDays.{Played}
 use Rattle.request.specs.declared.modes.Mode.{Mode}
 use Rattle.request.specs.declared.modes.Mode.TheVariants.{Beds, Market}
 use Rattle.request.specs.declared.pickers.PickerName.{PickerName}
-use Rattle.modes.specs.Beds.{PicksForFigures}
+use Rattle.modes.specs.Beds.{BreaksFigures, PicksForFigures}
 use Rattle.modes.specs.Jobs.{Seen, picker_after}
-use Rattle.modes.specs.Market.{PicksForMarket}
+use Rattle.modes.specs.Market.{BreaksMarket, PicksForMarket}
 
 -- a picker: what it has told, and what it answers, by what it has told and the places it is asked
 -- with
@@ -44,6 +44,27 @@ abbrev pub TellsAfter : Result DeskStates Refusal → Seen → Played → Lent �
 TellsAfter (Ok desk) seen played =
     TellsLent (picker_after seen.request) (ArePicks seen.request.mode seen played desk)
 TellsAfter (Err refusal) seen played = Untold
+
+-- what the picker that each mode asks told where memory ran out in the ending: a beginning of what
+-- the ending would have told it
+abbrev pub BreaksPicks : Mode → Seen → Played → DeskStates → Asked → List ℕ → Type 0
+BreaksPicks (Beds school) seen played desk before told =
+    BreaksFigures seen.dossier seen.index played.orders played.days desk school before.choice
+    before.told told
+BreaksPicks Market seen played desk before told =
+    BreaksMarket seen.dossier played.orders before.choice before.told told
+BreaksPicks _ seen played desk before told = told ≡ before.told
+
+-- what the picker that is lent told then, where one is
+abbrev pub BreaksLent : Option PickerName → (Asked → List ℕ → Type 0) → Lent → Lent → Type 0
+BreaksLent None Breaks before after = ⊤
+BreaksLent (Some name) Breaks before after = Breaks (asked before name) (after.told name)
+
+-- what was told where memory ran out after the days
+abbrev pub BreaksEnding : Result DeskStates Refusal → Seen → Played → Lent → Lent → Type 0
+BreaksEnding (Ok desk) seen played =
+    BreaksLent (picker_after seen.request) (BreaksPicks seen.request.mode seen played desk)
+BreaksEnding (Err refusal) seen played = Untold
 
 -- no picker but the one that is lent is asked
 abbrev pub OthersUntold : Option PickerName → Lent → Lent → Type 0

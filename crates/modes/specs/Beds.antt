@@ -1,11 +1,16 @@
 -- The mode `beds`: how many beds a school needs in the last pass, and how the bars stand then.
-use Rattle.std.specs.Prelude.{◌≡◌, ℕ, ◌++◌, List, Some, nat_eq, position}
+use Rattle.std.specs.Prelude.{◌≡◌, ◌⊎◌, ℕ, ◌++◌, List, Some, nat_eq, position}
+use Rattle.admit_core.specs.Boarding.{boarding}
 use Rattle.admit_core.specs.DossierRows.{DossierRows}
 use Rattle.admit_core.specs.Explanations.{LastPass}
+use Rattle.admit_core.specs.LeastBeds.{IsLeastBeds}
 use Rattle.admit_core.specs.State.{State}
 use Rattle.admit_core.specs.declared.ranking.CallOrder.{CallOrder}
 use Rattle.admit_core.specs.declared.records.DayRecord.{DayRecord}
-use Rattle.bed_need.specs.Figures.{AreFigures, Figures, TellsOfFigures}
+use Rattle.bar_fixpoint.specs.Chosen.{TellsOfFalls}
+use Rattle.bed_need.specs.Figures.{AreFigures, Figures, TellsOfFigures, lacks}
+use Rattle.bed_need.specs.Growing.{with_more_beds, with_n_beds}
+use Rattle.bed_need.specs.Telling.{TellsOfFallsOfBoth, TellsOfRun}
 use Rattle.bed_need.specs.Text.{beds_text}
 use Rattle.desk_day.specs.DeskStates.{DeskStates}
 use Rattle.dossier_check.specs.Ids.{Ids}
@@ -45,6 +50,39 @@ pub record PicksForFigures (d : DossierRows) (ids : Ids) (orders : List CallOrde
   pub are_figures : AreFigures pass.opening pass.orders pass.ceilings place figures
   pub tells : TellsOfFigures pass.opening pass.orders pass.ceilings place figures.need choice
       told (told ++ picks)
+
+-- a picker told of the run by which the need of the school at a place is found, and then of falls
+-- of the two runs by which the bars are
+pub record TellsOfGrowth (s : State) (orders : List CallOrder) (ceilings : List ℕ) (place : ℕ)
+    (choice : List ℕ → List ℕ → ℕ) (told after : List ℕ) : Type 0 where
+  pub need : ℕ
+  pub is_need : IsLeastBeds s orders ceilings place need
+  pub between : List ℕ
+  pub least : TellsOfRun (with_n_beds s orders ceilings place 2000000000) choice told between
+  pub grown : TellsOfFallsOfBoth (boarding s orders ceilings)
+      (with_more_beds s orders ceilings place (lacks s place need)) choice between after
+
+-- what a picker told where memory ran out as the figures of the school at a place were found
+abbrev pub BreaksFiguring : State → List CallOrder → List ℕ → ℕ → (List ℕ → List ℕ → ℕ) → List ℕ
+    → List ℕ → Type 0
+BreaksFiguring s orders ceilings place choice told after =
+    TellsOfFalls (with_n_beds s orders ceilings place 2000000000) choice told after
+    ⊎ TellsOfGrowth s orders ceilings place choice told after
+
+-- what it told of the school of this id in the last pass
+pub record BreaksInPass (d : DossierRows) (ids : Ids) (orders : List CallOrder)
+    (days : List DayRecord) (desk : DeskStates) (school : ℕ) (choice : List ℕ → List ℕ → ℕ)
+    (told after : List ℕ) : Type 0 where
+  pub place : ℕ
+  pub pass : LastPass
+  pub is_asked : IsAsked d ids orders days desk school place pass
+  pub breaks : BreaksFiguring pass.opening pass.orders pass.ceilings place choice told after
+
+-- the same, or nothing
+abbrev pub BreaksFigures : DossierRows → Ids → List CallOrder → List DayRecord → DeskStates → ℕ
+    → (List ℕ → List ℕ → ℕ) → List ℕ → List ℕ → Type 0
+BreaksFigures d ids orders days desk school choice told after =
+    (after ≡ told) ⊎ BreaksInPass d ids orders days desk school choice told after
 
 -- no other text tells the figures, whatever a picker chooses
 abbrev pub IsOnlyText : DossierRows → Ids → List CallOrder → List DayRecord → DeskStates → ℕ

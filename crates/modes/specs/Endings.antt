@@ -1,26 +1,26 @@
 -- How a run over a job ends, by its mode.
-use Rattle.std.specs.Prelude.{◌≡◌, ℕ, Bool, List, [], ◌++◌, All, IfOk, IfSome, Result, Ok, Err, length}
+use Rattle.std.specs.Prelude.{◌≡◌, ◌⊎◌, ℕ, Bool, List, [], ◌++◌, All, IfOk, IfSome, OnErr, Result, Ok, Err, length}
 use Rattle.std.specs.Option.{option_copied}
 use Rattle.admit_core.specs.CallOrder.{AreCallOrders}
 use Rattle.admit_core.specs.Days.{first_evening}
+use Rattle.admit_core.specs.declared.ranking.CallOrder.{CallOrder}
 use Rattle.admit_core.specs.declared.refusal.Refusal.{Refusal}
 use Rattle.certificate.specs.ChainText.{chain_text}
 use Rattle.certificate.specs.Checked.{ids_in}
-use Rattle.desk_day.specs.DayPasses.{TellsMore}
 use Rattle.desk_day.specs.DeskStates.{DeskStates}
 use Rattle.intake.specs.Dated.{AreDatedFor, terms_in}
 use Rattle.intake.specs.Input.{Job, NamesIn}
 use Rattle.played.specs.KeptDays.{IsPlayedKept}
 use Rattle.played.specs.LastDays.{IsDeskAfter}
-use Rattle.played.specs.Lent.{Lent}
-use Rattle.played.specs.PlayedDays.{IsPlayed, Played}
+use Rattle.played.specs.Lent.{Lent, Untold}
+use Rattle.played.specs.PlayedDays.{BreaksDays, IsPlayed, Played, first_desk}
 use Rattle.report.specs.RefusalText.{refusal_line}
 use Rattle.report.specs.SampleText.{sample_text}
 use Rattle.request.specs.Request.{IsRequest}
 use Rattle.request.specs.declared.modes.Mode.{Mode}
 use Rattle.request.specs.declared.modes.Mode.TheVariants.{Order, Replay, Chain, Check, Explain, Envy, Beds, Market}
 use Rattle.request.specs.declared.modes.Mode.TheVariants.{Sample}
-use Rattle.modes.specs.Asking.{ArePicks, Asked, IsLent, TellsAfter, TellsPicks}
+use Rattle.modes.specs.Asking.{ArePicks, Asked, BreaksEnding, BreaksPicks, IsLent, TellsAfter, TellsPicks}
 use Rattle.modes.specs.Beds.{TellsFigures}
 use Rattle.modes.specs.Blocked.{blocked_text}
 use Rattle.modes.specs.Checking.{IsChecked}
@@ -128,7 +128,7 @@ pub record EndsLent {E : Type 0} (seen : Seen) (played : Played) (desk : DeskSta
   pub picks : IfOk result
       (λ reply. TellsPicks (ArePicks seen.request.mode seen played desk before)
       before.told after.told)
-  pub told : TellsMore before.told after.told
+  pub breaks : OnErr result (BreaksPicks seen.request.mode seen played desk before after.told)
   pub choice : after.choice ≡ before.choice
 
 -- how a run ends after its days, with the pickers as they stand between the days and the ending,
@@ -137,6 +137,7 @@ pub record EndsAfter {E : Type 0} (end : Result DeskStates Refusal) (seen : Seen
     (between after : Lent) (result : Result Reply E) : Type 0 where
   pub ends : IfOk result (λ reply. EndsWith end seen played reply.exit reply.text.items)
   pub tells : IfOk result (λ reply. TellsAfter end seen played between after)
+  pub breaks : OnErr result (BreaksEnding end seen played between after)
   pub lends : IsLent (picker_after seen.request) between after
 
 -- the same of what a run is to do, and of days that led to a desk
@@ -158,3 +159,25 @@ pub record IsEnding (job : Job) (before after : Lent) (exit : Exit) (text : List
   pub tells : TellsAfter played.end (seen_of job) played between after
   pub lends : IsLent (picker_after job.request) between after
   pub ends : EndsWith played.end (seen_of job) played exit text
+
+-- memory ran out on one of a job's days
+pub record BreaksDaysOf (job : Job) (before after : Lent) : Type 0 where
+  pub orders : List CallOrder
+  pub called : AreCallOrders (dossier job).groups orders
+  pub breaks : BreaksDays
+      (record { orders = orders; terms = terms_of job; who = job.request.picker })
+      (days_of job.request) (first_desk (dossier job)) before after
+
+-- memory ran out after a job's days, with the pickers as they stand between the two
+pub record BreaksEndingOf (job : Job) (before after : Lent) : Type 0 where
+  pub played : Played
+  pub between : Lent
+  pub days : AreDaysOf job before played between
+  pub breaks : BreaksEnding played.end (seen_of job) played between after
+  pub lends : IsLent (picker_after job.request) between after
+
+-- memory ran out in a run over a job: before its days, on one of them, or after them. The pickers
+-- told of a beginning of what the run would have told them
+abbrev pub BreaksJob : Job → Lent → Lent → Type 0
+BreaksJob job before after =
+    Untold before after ⊎ BreaksDaysOf job before after ⊎ BreaksEndingOf job before after

@@ -3,6 +3,7 @@ use Rattle.std.specs.Prelude.{◌≡◌, ℕ, ◌++◌, List}
 use Rattle.admit_core.specs.DossierRows.{DossierRows}
 use Rattle.admit_core.specs.Falls.{IsGreatest}
 use Rattle.admit_core.specs.declared.ranking.CallOrder.{CallOrder}
+use Rattle.bar_fixpoint.specs.Chosen.{TellsOfFalls}
 use Rattle.markets.specs.Bars.{market_system, matched_under}
 use Rattle.markets.specs.Dossiers.{market_candidates, market_of}
 use Rattle.markets.specs.Solving.{IsLedTo}
@@ -21,3 +22,9 @@ pub record PicksForMarket (d : DossierRows) (orders : List CallOrder) (choice : 
     (told picks : List ℕ) : Type 0 where
   pub bars : List ℕ
   pub led : IsLedTo (market_system (market_of d orders)) choice told (told ++ picks) bars
+
+-- what it told where memory ran out: of falls of the market, each of which it chose
+abbrev pub BreaksMarket : DossierRows → List CallOrder → (List ℕ → List ℕ → ℕ) → List ℕ → List ℕ
+    → Type 0
+BreaksMarket d orders choice told after =
+    TellsOfFalls (market_system (market_of d orders)) choice told after

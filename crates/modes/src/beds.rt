@@ -1,11 +1,11 @@
 //! The mode `beds`: how many beds a school needs in the last pass, and how the bars stand then.
-ghost use Rattle.std.specs.Prelude.{◌≡◌, ◌<◌, ◌≤◌, ◌+◌, ◌-◌, IfOk, IsTrue, length};
+ghost use Rattle.std.specs.Prelude.{◌≡◌, ◌<◌, ◌≤◌, ◌+◌, ◌-◌, IfOk, IsTrue, OnErr, length};
 ghost use Rattle.admit_core.specs.DossierRows.{beds_of};
 ghost use Rattle.admit_core.specs.Lists.{is_among};
 ghost use Rattle.bed_need.specs.Figures.{Figures, TellsOfFigures};
 ghost use Rattle.desk_day.specs.DayPasses.{TellsMore};
 ghost use Rattle.modes.specs.Asking.{TellsPicks};
-ghost use Rattle.modes.specs.Beds.{IsOnlyText, IsTextOf, PicksForFigures, TellsFigures};
+ghost use Rattle.modes.specs.Beds.{BreaksFigures, BreaksFiguring, IsOnlyText, IsTextOf, PicksForFigures, TellsFigures};
 ghost use Rattle.modes.specs.Endings.{IsDoneSaying};
 ghost use Rattle.played.specs.LastDays.{IsDeskAfter};
 
@@ -50,6 +50,8 @@ fn figures_of(
         text.items
         × TellsOfFigures questions.now.state questions.now.orders ceilings.now place figures.need
         (choice picker.old) (told picker.old) (told picker.new)) }
+    ensures breaks { OnErr result (BreaksFiguring questions.now.state questions.now.orders
+        ceilings.now place (choice picker.old) (told picker.old) (told picker.new)) }
     ensures early { TellsMore (told picker.old) (told picker.new) }
     ensures choice { choice picker.new ≡ choice picker.old }
 {
@@ -77,6 +79,8 @@ fn figures_text<'a, 'd>(
     ensures text { IfOk result (λ text. (figures : Figures)
         × IsTextOf dossier.now opening.now roster.now.orders ceilings.now place figures text.items
         × TellsOfFigures opening.now roster.now.orders ceilings.now place figures.need
+        (choice picker.old) (told picker.old) (told picker.new)) }
+    ensures breaks { OnErr result (BreaksFiguring opening.now roster.now.orders ceilings.now place
         (choice picker.old) (told picker.old) (told picker.new)) }
     ensures early { TellsMore (told picker.old) (told picker.new) }
     ensures choice { choice picker.new ≡ choice picker.old }
@@ -108,7 +112,9 @@ fn school_text(
         (PicksForFigures input.now.dossier input.now.index along.now.orders days.now along.now.desk
         school (choice picker.old) (told picker.old))
         (told picker.old) (told picker.new)) }
-    ensures early { TellsMore (told picker.old) (told picker.new) }
+    ensures breaks { OnErr result (BreaksFigures
+        input.now.dossier input.now.index along.now.orders days.now along.now.desk school
+        (choice picker.old) (told picker.old) (told picker.new)) }
     ensures choice { choice picker.new ≡ choice picker.old }
 {
     let Some(place) = school_place(&input.index, school) else {
@@ -152,7 +158,9 @@ pub(crate) fn needed(
         (PicksForFigures input.now.dossier input.now.index led.entry.last.orders
         led.entry.days.items led.entry.last.desk school (choice picker.old) (told picker.old))
         (told picker.old) (told picker.new)) }
-    ensures early { TellsMore (told picker.old) (told picker.new) }
+    ensures breaks { OnErr result (BreaksFigures input.now.dossier input.now.index
+        led.entry.last.orders led.entry.days.items led.entry.last.desk school
+        (choice picker.old) (told picker.old) (told picker.new)) }
     ensures choice { choice picker.new ≡ choice picker.old }
 {
     let (days, along) = led.into_along(alloc)?;

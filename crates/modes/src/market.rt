@@ -4,10 +4,9 @@ ghost use Rattle.std.specs.Prelude.{◌≡◌, ◌<◌, IfOk, OnErr};
 ghost use Rattle.admit_core.specs.CallOrder.{AreCallOrders};
 ghost use Rattle.admit_core.specs.Falls.{IsGreatest};
 ghost use Rattle.bar_fixpoint.specs.Chosen.{TellsOfFalls};
-ghost use Rattle.desk_day.specs.DayPasses.{TellsMore};
 ghost use Rattle.modes.specs.Asking.{TellsPicks};
 ghost use Rattle.modes.specs.Endings.{IsDoneSaying};
-ghost use Rattle.modes.specs.Market.{PicksForMarket, TellsMarket};
+ghost use Rattle.modes.specs.Market.{BreaksMarket, PicksForMarket, TellsMarket};
 ghost use Rattle.markets.specs.Bars.{market_system, matched_under};
 ghost use Rattle.markets.specs.Dossiers.{market_candidates, market_of};
 ghost use Rattle.markets.specs.Matchings.{IsStable};
@@ -64,7 +63,8 @@ fn text_of(
     ensures picks { IfOk result (λ text. TellsPicks
         (PicksForMarket dossier.now orders.now.orders (choice picker.old) (told picker.old))
         (told picker.old) (told picker.new)) }
-    ensures early { TellsMore (told picker.old) (told picker.new) }
+    ensures breaks { OnErr result (BreaksMarket dossier.now orders.now.orders
+        (choice picker.old) (told picker.old) (told picker.new)) }
     ensures choice { choice picker.new ≡ choice picker.old }
 {
     let _ = &dossier.wishes; // learns that the dossier is valid
@@ -86,7 +86,8 @@ fn matched_text(
     ensures picks { IfOk result (λ text. TellsPicks
         (PicksForMarket dossier.now orders.now.orders (choice picker.old) (told picker.old))
         (told picker.old) (told picker.new)) }
-    ensures early { TellsMore (told picker.old) (told picker.new) }
+    ensures breaks { OnErr result (BreaksMarket dossier.now orders.now.orders
+        (choice picker.old) (told picker.old) (told picker.new)) }
     ensures choice { choice picker.new ≡ choice picker.old }
 {
     let named = from_dossier(alloc, dossier, orders)?;
@@ -107,7 +108,8 @@ pub(crate) fn matched(
     ensures picks { IfOk result (λ _. TellsPicks
         (PicksForMarket dossier.now led.entry.last.orders (choice picker.old) (told picker.old))
         (told picker.old) (told picker.new)) }
-    ensures early { TellsMore (told picker.old) (told picker.new) }
+    ensures breaks { OnErr result (BreaksMarket dossier.now led.entry.last.orders
+        (choice picker.old) (told picker.old) (told picker.new)) }
     ensures choice { choice picker.new ≡ choice picker.old }
 {
     let orders = led.into_orders();

@@ -1,8 +1,9 @@
-use Rattle.std.proofs.Common.{◌∙◌, ◌+◌, ◌<◌, ◌≤◌, ap, arith, length, subst, sym}
+use Rattle.std.proofs.Common.{◌∙◌, ◌+◌, ◌<◌, ◌≤◌, ap, arith, inl, length, subst, sym}
+use Rattle.admit_core.proofs.Plain.{on_err}
 use Rattle.admit_core.specs.DossierRows.{DossierRows, beds_of}
 use Rattle.bar_fixpoint.proofs.SoFar.{IsAtMost-refl}
 use Rattle.desk_day.proofs.PassesSoFar.{tells_from}
-use Rattle.modes.proofs.Figuring.{all_figured}
+use Rattle.modes.proofs.Figuring.{all_figured, breaks_behind, breaks_grown}
 use Rattle.modes.proofs.beds.figures_of.Goals as goal
 
 pub returns-clause-text : goal.returns-clause-text
@@ -55,3 +56,20 @@ returns-in_err-growth-clause-early g c =
 
 pub returns-in_err-growth-clause-choice : goal.returns-in_err-growth-clause-choice
 returns-in_err-growth-clause-choice g c = c.grown_bars.ensures.choice ∙ c.least_beds.ensures.choice
+
+pub returns-in_err-need-clause-breaks : goal.returns-in_err-need-clause-breaks
+returns-in_err-need-clause-breaks g c = on_err c.from_residual.result (inl c.in_err-need.ensures.falls)
+
+pub returns-in_err-growth-clause-breaks : goal.returns-in_err-growth-clause-breaks
+returns-in_err-growth-clause-breaks g c =
+    on_err c.from_residual-in_err-growth.result
+    (breaks_grown _ _ _ _ c.in_ok-need.need c.lacking-more.result _ _ _ _ _ c.args.dossier.now c.requires.dossier
+    c.lacking-more.ensures.value c.in_ok-need.ensures.need c.in_ok-need.ensures.told c.least_beds.ensures.choice
+    c.in_err-growth.ensures.falls)
+
+pub returns-clause-breaks : goal.returns-clause-breaks
+returns-clause-breaks g c =
+    on_err c.beds_text.result
+    (breaks_behind _ _ _ _ c.in_ok-need.need c.lacking-more.result _ _ _ _ _ c.args.dossier.now c.requires.dossier
+    c.lacking-more.ensures.value c.in_ok-need.ensures.need c.in_ok-need.ensures.told c.least_beds.ensures.choice
+    c.in_ok-growth.ensures.told)

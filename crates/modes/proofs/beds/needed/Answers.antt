@@ -1,13 +1,13 @@
-use Rattle.std.proofs.Common.{◌∙◌, ◌<◌, List, ap, length, refl, sym, subst}
+use Rattle.std.proofs.Common.{◌∙◌, ◌<◌, List, ap, inl, length, refl, sym, subst}
+use Rattle.admit_core.proofs.Plain.{on_err}
 use Rattle.admit_core.specs.declared.ranking.CallOrder.{CallOrder}
 use Rattle.admit_core.specs.declared.records.DayRecord.{DayRecord}
 use Rattle.desk_day.specs.DeskStates.{DeskStates}
 use Rattle.played.specs.LastDays.{IsDeskAfter}
 use Rattle.played.specs.LastDesks.{DeskBy}
 use Rattle.std.proofs.lemmas.Result.{IfOk-from_err}
-use Rattle.desk_day.proofs.PassesSoFar.{tells_still}
 use Rattle.modes.specs.Asking.{TellsPicks}
-use Rattle.modes.specs.Beds.{PicksForFigures, TellsFigures}
+use Rattle.modes.specs.Beds.{BreaksFigures, PicksForFigures, TellsFigures}
 use Rattle.modes.proofs.Lending.{same_led}
 use Rattle.modes.proofs.beds.needed.Goals as goal
 
@@ -32,8 +32,24 @@ returns-in_err-days-clause-text g c = IfOk-from_err _ _ c.from_residual.ensures.
 pub returns-in_err-days-clause-picks : goal.returns-in_err-days-clause-picks
 returns-in_err-days-clause-picks g c = IfOk-from_err _ _ c.from_residual.ensures.0
 
-pub returns-in_err-days-clause-early : goal.returns-in_err-days-clause-early
-returns-in_err-days-clause-early g c = tells_still _ _ refl
+pub returns-in_err-days-clause-breaks : goal.returns-in_err-days-clause-breaks
+returns-in_err-days-clause-breaks g c = on_err c.from_residual.result (inl refl)
+
+pub returns-in_err-text-clause-breaks : goal.returns-in_err-text-clause-breaks
+returns-in_err-text-clause-breaks g c =
+    let called = ap (λ (x : DeskBy). x.orders) c.in_ok-days.ensures.along in
+    let led = ap (λ (x : DeskBy). x.desk) c.in_ok-days.ensures.along in
+    let d = c.args.input.now.dossier in
+    let index = c.args.input.now.index in
+    let school = c.args.school in
+    let before = goal.Picker-dyn g c.args.picker.now in
+    let after = goal.Picker-dyn g (c.args.picker.now.0, c.school_text.new.picker) in
+    on_err c.from_residual-in_err-text.result
+    (same_led (λ (o : List CallOrder) (ds : List DayRecord) (k : DeskStates).
+    BreaksFigures d index o ds k school (before.choice c.args.picker.now.1) (before.told c.args.picker.now.1)
+    (after.told c.school_text.new.picker))
+    called (c.as_slice.ensures.value ∙ c.in_ok-days.ensures.days)
+    led c.in_err-text.ensures.breaks)
 
 pub returns-in_err-text-clause-text : goal.returns-in_err-text-clause-text
 returns-in_err-text-clause-text g c = IfOk-from_err _ _ c.from_residual-in_err-text.ensures.0

@@ -1,9 +1,10 @@
-use Rattle.std.proofs.Common.{◌∙◌, ap, arith, length, nat_eq, subst, sym}
+use Rattle.std.proofs.Common.{◌∙◌, ap, arith, inl, length, nat_eq, refl, sym}
+use Rattle.admit_core.proofs.Plain.{on_err}
 use Rattle.admit_core.specs.DossierRows.{DossierRows}
 use Rattle.admit_core.specs.State.{State}
 use Rattle.desk_day.specs.DeskStates.{DeskStates}
 use Rattle.dossier_check.proofs.Places.{position-any}
-use Rattle.modes.proofs.Figuring.{all_only, all_picked, all_tell, opening_ceilings, opening_dossier}
+use Rattle.modes.proofs.Figuring.{all_broken, all_only, all_picked, all_tell, opening_ceilings, opening_dossier}
 use Rattle.modes.proofs.OnDesks.{found_within}
 use Rattle.modes.proofs.beds.school_text.Goals as goal
 
@@ -70,8 +71,18 @@ returns-clause-picks g c =
     c.roster.ensures.orders (c.deref.ensures.value ∙ c.in_ok-ceilings.ensures.ceilings)
     c.figures_text.ensures.early (λ text. text.items) c.figures_text.result c.figures_text.ensures.text
 
-pub returns-clause-early : goal.returns-clause-early
-returns-clause-early g c = c.figures_text.ensures.early
+pub returns-clause-breaks : goal.returns-clause-breaks
+returns-clause-breaks g c =
+    all_broken c.args.input.now.dossier c.args.input.now.index c.args.along.now.orders c.args.days.now
+    c.args.along.now.desk
+    c.args.school c.in-Some.place c.in-Some-last.day.now (sym c.school_place.ensures ∙ c.in-Some.is)
+    (sym c.in-Some-last.ensures.value) c.requires.desk c.opening-opening.result.now c.roster.result.now.orders
+    c.deref.result.now _ _ _ (c.opening-opening.ensures ∙ ap (λ (k : DeskStates). k.opening) c.desk.ensures)
+    c.roster.ensures.orders (c.deref.ensures.value ∙ c.in_ok-ceilings.ensures.ceilings)
+    c.figures_text.result c.figures_text.ensures.breaks
+
+pub returns-in_err-ceilings-clause-breaks : goal.returns-in_err-ceilings-clause-breaks
+returns-in_err-ceilings-clause-breaks g c = on_err c.from_residual.result (inl refl)
 
 pub returns-clause-choice : goal.returns-clause-choice
 returns-clause-choice g c = c.figures_text.ensures.choice

@@ -30,11 +30,11 @@ matched-requires g c = c.requires.can.called
 pub returns-in-Beds : goal.returns-in-Beds
 returns-in-Beds g c =
     let ends = c.needed.ensures in
-    ends_lent_by ends.early ends.choice (Beds c.in-Beds.school) (c.requires.asks ∙ ap asked_by c.in-Beds.is)
-    c.needed.result ends.text ends.picks
+    ends_lent_by ends.choice (Beds c.in-Beds.school) (c.requires.asks ∙ ap asked_by c.in-Beds.is)
+    c.needed.result ends.text ends.picks ends.breaks
 
 pub returns-in-Market : goal.returns-in-Market
 returns-in-Market g c =
     let ends = c.matched.ensures in
-    ends_lent_by ends.early ends.choice Market (c.requires.asks ∙ ap asked_by c.in-Market.is) c.matched.result
-    ends.text ends.picks
+    ends_lent_by ends.choice Market (c.requires.asks ∙ ap asked_by c.in-Market.is) c.matched.result
+    ends.text ends.picks ends.breaks

@@ -1,8 +1,9 @@
 use Rattle.std.proofs.Common.{List, sym, subst}
+use Rattle.admit_core.proofs.Plain.{on_err}
 use Rattle.admit_core.specs.CallOrder.{AreCallOrders}
 use Rattle.admit_core.specs.declared.ranking.CallOrder.{CallOrder}
 use Rattle.modes.specs.Asking.{TellsPicks}
-use Rattle.modes.specs.Market.{PicksForMarket, TellsMarket}
+use Rattle.modes.specs.Market.{BreaksMarket, PicksForMarket, TellsMarket}
 use Rattle.modes.proofs.market.matched.Goals as goal
 
 pub matched_text-requires : goal.matched_text-requires
@@ -28,3 +29,12 @@ returns-clause-picks g c =
     (before.told c.args.picker.now.1))
     (before.told c.args.picker.now.1) (after.told c.matched_text.new.picker)) c.into_orders-orders.ensures
     c.in_ok-text.ensures.picks
+
+pub returns-in_err-text-clause-breaks : goal.returns-in_err-text-clause-breaks
+returns-in_err-text-clause-breaks g c =
+    let before = goal.Picker-dyn g c.args.picker.now in
+    let after = goal.Picker-dyn g (c.args.picker.now.0, c.matched_text.new.picker) in
+    on_err c.from_residual.result
+    (subst (λ (o : List CallOrder). BreaksMarket c.args.dossier.now o (before.choice c.args.picker.now.1)
+    (before.told c.args.picker.now.1) (after.told c.matched_text.new.picker)) c.into_orders-orders.ensures
+    c.in_err-text.ensures.breaks)

@@ -1,16 +1,16 @@
 use Rattle.std.proofs.Common.{◌≡◌, subst}
 use Rattle.std.proofs.lemmas.Result.{IfOk-weaker}
+use Rattle.admit_core.proofs.Plain.{on_err}
 use Rattle.admit_core.specs.DossierRows.{DossierRows}
 use Rattle.admit_core.specs.Falls.{IsGreatest}
 use Rattle.admit_core.specs.Validity.{IsValid}
-use Rattle.desk_day.proofs.PassesSoFar.{tells_of_falls}
 use Rattle.markets.specs.Bars.{market_system}
 use Rattle.markets.specs.Markets.{MarketRows}
 use Rattle.markets.specs.Matchings.{IsStable}
 use Rattle.markets.specs.Text.{market_text}
 use Rattle.markets.proofs.Telling.{bar_each, places_there}
 use Rattle.modes.specs.Market.{TellsMarket}
-use Rattle.modes.proofs.Marketing.{always, led_more, picks_market, tells_market}
+use Rattle.modes.proofs.Marketing.{always, breaks_market, breaks_solved, picks_market, tells_market}
 use Rattle.modes.proofs.market.text_of.Goals as goal
 
 pub market_text-requires-clause-bars : goal.market_text-requires-clause-bars
@@ -50,9 +50,14 @@ returns-clause-picks g c =
     (picks_market c.args.dossier.now c.args.orders.now.orders c.args.named.now.market c.requires.market _ _ _
     c.in_ok-solved.solved.bars.items c.in_ok-solved.ensures.led)
 
-pub returns-clause-early : goal.returns-clause-early
-returns-clause-early g c = led_more c.args.named.now.market _ _ _ c.in_ok-solved.solved.bars.items
-    c.in_ok-solved.ensures.led
+pub returns-clause-breaks : goal.returns-clause-breaks
+returns-clause-breaks g c =
+    on_err c.market_text.result
+    (breaks_solved c.args.dossier.now c.args.orders.now.orders c.args.named.now.market c.requires.market _ _ _
+    c.in_ok-solved.solved.bars.items c.in_ok-solved.ensures.led)
 
-pub returns-in_err-solved-clause-early : goal.returns-in_err-solved-clause-early
-returns-in_err-solved-clause-early g c = tells_of_falls _ _ _ _ c.in_err-solved.ensures.early
+pub returns-in_err-solved-clause-breaks : goal.returns-in_err-solved-clause-breaks
+returns-in_err-solved-clause-breaks g c =
+    on_err c.from_residual.result
+    (breaks_market c.args.dossier.now c.args.orders.now.orders c.args.named.now.market c.requires.market _ _ _
+    c.in_err-solved.ensures.early)
