@@ -1,7 +1,7 @@
 -- A job's days, and how the run ends after them.
 use Rattle.std.proofs.Common.{◌≡◌, ◌∙◌, ℕ, ◌+◌, Bool, List, [], ◌∷◌, Option, None, Some, Result, Ok, Err, IfOk, IfSome}
 use Rattle.std.proofs.Common.{IsSomeAnd, IsTrue, ap, inl, inr, option_map, refl, subst, sym, true}
-use Rattle.std.specs.Prelude.{is_some, not}
+use Rattle.std.specs.Prelude.{MatchResult, is_some, not}
 use Rattle.std.proofs.lemmas.Bool.{cases_Bool, false≢true}
 use Rattle.admit_core.specs.CallOrder.{AreCallOrders}
 use Rattle.admit_core.specs.Days.{Days}
@@ -20,8 +20,8 @@ use Rattle.intake.specs.Dated.{AreDatedFor, dated_from, terms_in}
 use Rattle.intake.specs.Input.{IsInputOf, IsJobOf, Job, NamesIn}
 use Rattle.intake.specs.declared.input.Input.{Input}
 use Rattle.intake.specs.declared.terms.DatedTerms.{DatedTerms}
-use Rattle.modes.specs.Asking.{OthersUntold, IsLent, TellsAfter}
-use Rattle.modes.specs.Endings.{CanEnd, EndsAfter, EndsWith, IsEndOf, IsEnding}
+use Rattle.modes.specs.Asking.{BreaksEnding, OthersUntold, IsLent, TellsAfter}
+use Rattle.modes.specs.Endings.{AreDaysOf, BreaksJob, CanEnd, EndsAfter, EndsWith, IsEndOf, IsEnding}
 use Rattle.modes.proofs.KeptEnds.{ends_after_whole}
 use Rattle.modes.proofs.CheckedExits.{IsAfterDays, check_done, check_exit, is_after}
 use Rattle.modes.specs.Checking.{CanBeDone, HandsInProof}
@@ -36,7 +36,7 @@ use Rattle.admit_core.specs.declared.ranking.CallOrder.{CallOrder}
 use Rattle.played.specs.LastDesks.{DeskLeft, IsLeftBy}
 use Rattle.played.specs.Lent.{Lent, Untold}
 use Rattle.played.specs.PlayedDays as PlayedDays
-use Rattle.played.specs.PlayedDays.{IsPlayed, Lead, Plan, Played, lent_after}
+use Rattle.played.specs.PlayedDays.{BreaksDays, IsPlayed, Lead, Plan, Played, first_desk, lent_after}
 use Rattle.request.specs.Modes.{runs_days, sample_of}
 use Rattle.request.specs.Request.{IsDeadlines, IsRequest}
 use Rattle.request.specs.declared.modes.Mode.{Mode}
@@ -63,44 +63,91 @@ pub record Ends (played : Played) (between after : Lent) (exit : Exit) (text : L
   pub lends : IsLent (picker_after seen.request) between after
 
 -- what is played and written is the job's
-pub job_ends : (job : Job) (request : Request) (d : DossierRows) (ids : Ids) (chain : List ℕ)
-    (dates : List (Option Since)) (dated : Option DatedTerms) (before between after : Lent) (played : Played)
-    (exit : Exit) (text : List ℕ)
-    → job.request ≡ request → d ≡ dossier_of job.tables → ids ≡ ids_of job.tables → chain ≡ job.chain
-    → dates ≡ dates_of job.tables → dated ≡ option_map (dated_from d dates) (deadlines_of request)
-    → IsPlayed d (terms_in dated) (days_of request) request.picker before played between
-    → Ends played between after exit text
-    (record { request = request; dossier = d; index = ids; chain = chain; dated = dated })
-    → IsEnding job before after exit text
-job_ends job request d ids chain dates dated before between after played exit text asked same indexed chained
-    dates_are dated_is plays ends =
-    let dated_job : dated ≡ dated_of job =
-    dated_is ∙ ap (λ (e : DossierRows). option_map (dated_from e dates) (deadlines_of request)) same
-    ∙ ap (λ (ds : List (Option Since)). option_map (dated_from (dossier job) ds) (deadlines_of request)) dates_are
-    ∙ ap (λ (q : Request). option_map (dated_from (dossier job) (dates_of job.tables)) (deadlines_of q)) (sym asked) in
-    let P : Request → DossierRows → Ids → List ℕ → Option DatedTerms → Type 0 =
-    λ q e i c x. Ends played between after exit text
-    (record { request = q; dossier = e; index = i; chain = c; dated = x }) in
-    let of_job : P job.request (dossier job) (ids_of job.tables) job.chain (dated_of job) =
-    subst (λ (q : Request). P q (dossier job) (ids_of job.tables) job.chain (dated_of job)) (sym asked)
-    (subst (λ (x : Option DatedTerms). P request (dossier job) (ids_of job.tables) job.chain x) dated_job
-    (subst (λ (c : List ℕ). P request (dossier job) (ids_of job.tables) c dated) chained
-    (subst (λ (i : Ids). P request (dossier job) i chain dated) indexed
-    (subst (λ (e : DossierRows). P request e ids chain dated) same ends)))) in
-    record {
-      played = played;
-      between = between;
-      days =
-          subst (λ (q : Request). IsPlayed (dossier job) (terms_of job) (days_of q) q.picker before played between)
-          (sym asked)
-          (subst (λ (x : Option DatedTerms).
-          IsPlayed (dossier job) (terms_in x) (days_of request) request.picker before played between) dated_job
-          (subst (λ (e : DossierRows).
-          IsPlayed e (terms_in dated) (days_of request) request.picker before played between) same plays));
-      tells = of_job.tells;
-      lends = of_job.lends;
-      ends = of_job.ends;
-    }
+module _ (job : Job) (request : Request) (d : DossierRows) (ids : Ids) (chain : List ℕ)
+    (dates : List (Option Since)) (dated : Option DatedTerms) (asked : job.request ≡ request)
+    (same : d ≡ dossier_of job.tables) (indexed : ids ≡ ids_of job.tables) (chained : chain ≡ job.chain)
+    (dates_are : dates ≡ dates_of job.tables)
+    (dated_is : dated ≡ option_map (dated_from d dates) (deadlines_of request)) where
+  dated_job : dated ≡ dated_of job
+  dated_job =
+      dated_is ∙ ap (λ (e : DossierRows). option_map (dated_from e dates) (deadlines_of request)) same
+      ∙ ap (λ (ds : List (Option Since)). option_map (dated_from (dossier job) ds) (deadlines_of request)) dates_are
+      ∙ ap (λ (q : Request). option_map (dated_from (dossier job) (dates_of job.tables)) (deadlines_of q)) (sym asked)
+
+  -- what the modes see of it
+  seen_so : (P : Seen → Type 0)
+      → P (record { request = request; dossier = d; index = ids; chain = chain; dated = dated }) → P (seen_of job)
+  seen_so P holds =
+      let Q : Request → DossierRows → Ids → List ℕ → Option DatedTerms → Type 0 =
+      λ q e i c x. P (record { request = q; dossier = e; index = i; chain = c; dated = x }) in
+      subst (λ (q : Request). Q q (dossier job) (ids_of job.tables) job.chain (dated_of job)) (sym asked)
+      (subst (λ (x : Option DatedTerms). Q request (dossier job) (ids_of job.tables) job.chain x) dated_job
+      (subst (λ (c : List ℕ). Q request (dossier job) (ids_of job.tables) c dated) chained
+      (subst (λ (i : Ids). Q request (dossier job) i chain dated) indexed
+      (subst (λ (e : DossierRows). Q request e ids chain dated) same holds))))
+
+  days_so : (before between : Lent) (played : Played)
+      → IsPlayed d (terms_in dated) (days_of request) request.picker before played between
+      → AreDaysOf job before played between
+  days_so before between played plays =
+      subst (λ (q : Request). IsPlayed (dossier job) (terms_of job) (days_of q) q.picker before played between)
+      (sym asked)
+      (subst (λ (x : Option DatedTerms).
+      IsPlayed (dossier job) (terms_in x) (days_of request) request.picker before played between) dated_job
+      (subst (λ (e : DossierRows).
+      IsPlayed e (terms_in dated) (days_of request) request.picker before played between) same plays))
+
+  pub job_ends : (before between after : Lent) (played : Played) (exit : Exit) (text : List ℕ)
+      → IsPlayed d (terms_in dated) (days_of request) request.picker before played between
+      → Ends played between after exit text
+      (record { request = request; dossier = d; index = ids; chain = chain; dated = dated })
+      → IsEnding job before after exit text
+  job_ends before between after played exit text plays ends =
+      let of_job = seen_so (Ends played between after exit text) ends in
+      record {
+        played = played;
+        between = between;
+        days = days_so before between played plays;
+        tells = of_job.tells;
+        lends = of_job.lends;
+        ends = of_job.ends;
+      }
+
+  -- memory ran out after the days
+  pub job_breaks : (before between after : Lent) (played : Played)
+      → IsPlayed d (terms_in dated) (days_of request) request.picker before played between
+      → BreaksEnding played.end
+      (record { request = request; dossier = d; index = ids; chain = chain; dated = dated }) played between after
+      → IsLent (picker_after request) between after → BreaksJob job before after
+  job_breaks before between after played plays breaks lends = inr (inr (record {
+    played = played;
+    between = between;
+    days = days_so before between played plays;
+    breaks = seen_so (λ (seen : Seen). BreaksEnding played.end seen played between after) breaks;
+    lends = subst (λ (q : Request). IsLent (picker_after q) between after) (sym asked) lends;
+  }))
+
+  -- memory ran out on one of the days
+  pub job_stops : (orders : List CallOrder) (terms : Option Terms) (number : ℕ) (who : PickerChoice)
+      (before after : Lent) → AreCallOrders d.groups orders → terms ≡ terms_in dated → number ≡ days_of request
+      → who ≡ request.picker
+      → BreaksDays (record { orders = orders; terms = terms; who = who }) number (first_desk d) before after
+      → BreaksJob job before after
+  job_stops orders terms number who before after called terms_are number_is who_is breaks =
+      let P : Option Terms → PickerChoice → ℕ → DossierRows → Type 0 =
+      λ t w n e.
+      BreaksDays (record { orders = orders; terms = t; who = w }) n (first_desk e) before after in
+      let w = request.picker in
+      inr (inl (record {
+        orders = orders;
+        called = subst (λ (e : DossierRows). AreCallOrders e.groups orders) same called;
+        breaks = subst (λ (q : Request). P (terms_of job) q.picker (days_of q) (dossier job)) (sym asked)
+            (subst (λ (t : Option Terms). P t w (days_of request) (dossier job))
+            (terms_are ∙ ap (λ (x : Option DatedTerms). terms_in x) dated_job)
+            (subst (λ (p : PickerChoice). P terms p (days_of request) (dossier job)) who_is
+            (subst (λ (n : ℕ). P terms who n (dossier job)) number_is
+            (subst (λ (e : DossierRows). P terms who number e) same breaks))));
+      }))
 
 -- the plain days of a campaign
 pub lead_days : (plan : Plan) (d : ℕ) (old : DeskStates) (before : Lent) (days : List DayRecord) (new : DeskStates)
@@ -207,12 +254,16 @@ module _ (request : Request) (known : IsRequest request) (input : Input) (dated 
       → given ≡ option_map (dated_from input.dossier input.dates) (deadlines_of request)
       → IsJobOf request job → IsInputOf job input
       → EndsAfter played.end (seen_by request input dated) played between after result
-      → IfOk result (λ reply. IsEnding job before after reply.exit reply.text.items)
-  reply_ends after (Err e) job given_is is_job is_input ends = tt
+      → MatchResult result (λ reply. IsEnding job before after reply.exit reply.text.items)
+      (λ _. BreaksJob job before after)
+  reply_ends after (Err e) job given_is is_job is_input ends =
+      job_breaks job request input.dossier input.index input.chain input.dates dated is_job.request is_input.dossier
+      is_input.index is_input.chain is_input.dates (same ∙ given_is) before between after played asked_days ends.breaks
+      ends.lends
   reply_ends after (Ok reply) job given_is is_job is_input ends =
-      job_ends job request input.dossier input.index input.chain input.dates dated before between after played
-      reply.exit reply.text.items is_job.request is_input.dossier is_input.index is_input.chain is_input.dates
-      (same ∙ given_is) asked_days (record { ends = ends.ends; tells = ends.tells; lends = ends.lends })
+      job_ends job request input.dossier input.index input.chain input.dates dated is_job.request is_input.dossier
+      is_input.index is_input.chain is_input.dates (same ∙ given_is) before between after played reply.exit
+      reply.text.items asked_days (record { ends = ends.ends; tells = ends.tells; lends = ends.lends })
 
 -- the same where the falls of the days are kept if the mode tells them
 module _ (request : Request) (known : IsRequest request) (input : Input) (dated given : Option DatedTerms)
@@ -244,11 +295,28 @@ module _ (request : Request) (known : IsRequest request) (input : Input) (dated 
       → given ≡ option_map (dated_from input.dossier input.dates) (deadlines_of request)
       → IsJobOf request job → IsInputOf job input
       → EndsAfter kept.end (seen_by request input dated) kept between after result
-      → IfOk result (λ reply. IsEnding job before after reply.exit reply.text.items)
+      → MatchResult result (λ reply. IsEnding job before after reply.exit reply.text.items)
+      (λ _. BreaksJob job before after)
   reply_ends_kept after result job given_is is_job is_input ends =
       reply_ends request known input dated given (terms_in dated) (days_of request) before between kept_days.0 same is
       refl refl kept_days.1 after result job given_is is_job is_input
       (ends_after_whole (seen_by request input dated) kept kept_days.0 between after result kept_days.2 ends)
+
+-- memory ran out before the days, or on one of them
+pub breaks_untold : (job : Job) (before : Lent) → BreaksJob job before before
+breaks_untold job before = inl (λ name. refl)
+
+pub stops_so : (request : Request) (input : Input) (dated given : Option DatedTerms) (job : Job)
+    (orders : List CallOrder) (terms : Option Terms) (number : ℕ) (who : PickerChoice) (before after : Lent)
+    → IsJobOf request job → IsInputOf job input → dated ≡ given
+    → given ≡ option_map (dated_from input.dossier input.dates) (deadlines_of request)
+    → AreCallOrders input.dossier.groups orders → terms ≡ terms_in dated → number ≡ days_of request
+    → who ≡ request.picker
+    → BreaksDays (record { orders = orders; terms = terms; who = who }) number (first_desk input.dossier) before after
+    → BreaksJob job before after
+stops_so request input dated given job orders terms number who before after is_job is_input same given_is =
+    job_stops job request input.dossier input.index input.chain input.dates dated is_job.request is_input.dossier
+    is_input.index is_input.chain is_input.dates (same ∙ given_is) orders terms number who before after
 
 -- a run that asks no picker, on its days or after them; told is what the pickers had told before it
 pub untold_idle : (request : Request) (told : PickerName → List ℕ) (between after : Lent)

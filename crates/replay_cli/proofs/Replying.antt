@@ -1,7 +1,7 @@
 -- What a run answers: after its days, or where it stops before them.
-use Rattle.std.proofs.Common.{◌≡◌, ◌≢◌, ◌∙◌, ℕ, ◌+◌, ◌≤◌, ◌⊎◌, List, [], Option, None, Some, Result, Ok, Err, IfErr}
-use Rattle.std.proofs.Common.{IfOk, IsErrAnd, IsNone, IsOkAnd, IsTrue, ap, arith, inl, inr, refl, subst, sym}
-use Rattle.std.specs.Prelude.{Contains}
+use Rattle.std.proofs.Common.{◌≡◌, ℕ, ◌⊎◌, List, [], Option, None, Some, Result, Ok, Err}
+use Rattle.std.proofs.Common.{IfOk, IsNone, IsOkAnd, IsTrue, ap, arith, inl, inr, refl, subst, sym}
+use Rattle.std.specs.Prelude.{Contains, MatchResult}
 use Rattle.std.proofs.lemmas.Bool.{false≢true}
 use Rattle.admit_core.specs.declared.slot.Slot.{Slot}
 use Rattle.intake.specs.Input.{IsInputOf, IsJobOf, Job, accepted, job_of}
@@ -11,8 +11,8 @@ use Rattle.intake.proofs.TakenIn.{quiet_in}
 use Rattle.intake.specs.declared.input.Input.{Input}
 use Rattle.intake.specs.declared.stop.Stop.{Stop}
 use Rattle.intake.specs.declared.stop.Stop.TheVariants as stops
-use Rattle.modes.specs.Endings.{IsEnding}
-use Rattle.modes.specs.Exits.{ends_unasked, exit_of, is_answer}
+use Rattle.modes.specs.Endings.{BreaksJob, IsEnding}
+use Rattle.modes.specs.Exits.{ends_unasked, is_answer}
 use Rattle.modes.proofs.CheckedExits.{IsAfterDays}
 use Rattle.modes.specs.Checking.{CanBeDone}
 use Rattle.modes.specs.Jobs.{IsIdle}
@@ -27,9 +27,9 @@ use Rattle.request.specs.Request.{request_of}
 use Rattle.request.specs.declared.request.Request.{Request}
 use Rattle.slot_io.specs.Faults.{NoneFell, Rose}
 use Rattle.replay_cli.specs.Answering.{Replies, TakesAll, TakesAsked}
-use Rattle.replay_cli.specs.Outcome.{WantsNoPicker, Ends, IsOutcome, NamesFault, slots_read}
+use Rattle.replay_cli.specs.Outcome.{Breaks, Ends, IsBroken, IsOutcome, NamesFault, WantsNoPicker, slots_read}
 use Rattle.replay_cli.specs.Run.{KeepsOthers, SameFaults}
-use Rattle.replay_cli.proofs.Played.{ending_done, ending_exit}
+use Rattle.replay_cli.proofs.Played.{breaks_untold, ending_done, ending_exit}
 
 no_none : (request : Request) → IsNone (Some request) → ⊥
 no_none request none = false≢true (sym none)
@@ -49,6 +49,21 @@ unfolding IsOutcome
 stop_outcome words slots stop before exit text is by =
     subst (λ (a : Result Job Stop). Ends a before before exit text) (sym is)
     (record { is_exit = by.is_exit; is_line = by.is_line; untold = λ name. refl })
+
+-- where memory ran out before there was a text
+broken_of : (words : List (List ℕ)) (slots : Slot → List ℕ) (job : Job) (before after : Lent)
+    → accepted words slots ≡ Ok job → BreaksJob job before after → IsBroken words slots before after
+unfolding IsBroken
+broken_of words slots job before after is breaks =
+    subst (λ (a : Result Job Stop). Breaks a before after) (sym is) breaks
+
+none_broken : (before : Lent) (accepts : Result Job Stop) → Breaks accepts before before
+none_broken before (Ok job) = breaks_untold job before
+none_broken before (Err stop) = λ name. refl
+
+stop_broken : (words : List (List ℕ)) (slots : Slot → List ℕ) (before : Lent) → IsBroken words slots before before
+unfolding IsBroken
+stop_broken words slots before = none_broken before (accepted words slots)
 
 -- of an exit after the days
 answers_after : (exit : Exit) → IsAfterDays exit → IsTrue (is_answer exit)
@@ -133,7 +148,8 @@ module _ (words : List (List ℕ)) (shelf shelf' : OnShelf) (before after : Lent
 
   pub replies_played : {E : Type 0} (result : Result Reply E)
       → ((job : Job) → IsJobOf x.0 job → IsInputOf job x.1
-      → IfOk result (λ reply. IsEnding job before after reply.exit reply.text.items))
+      → MatchResult result (λ reply. IsEnding job before after reply.exit reply.text.items)
+      (λ _. BreaksJob job before after))
       → Replies words shelf shelf' before after result
   replies_played (Ok reply) ends =
       let ending = ends takes.input.job takes.input.is_job takes.input.is_input in
@@ -141,6 +157,7 @@ module _ (words : List (List ℕ)) (shelf shelf' : OnShelf) (before after : Lent
       record {
         outcome = λ slots tells answers. outcome_of words slots takes.input.job before after reply.exit reply.text.items
             (accepted_is slots tells) ending;
+        broken = λ slots tells. tt;
         kinds = inl (answers_after reply.exit exit);
         same_faults = λ answers. read_all;
         untold = λ asks. absurd (asks_after reply.exit exit asks);
@@ -158,6 +175,8 @@ module _ (words : List (List ℕ)) (shelf shelf' : OnShelf) (before after : Lent
       }
   replies_played (Err e) ends = record {
     outcome = tt;
+    broken = λ slots tells. broken_of words slots takes.input.job before after (accepted_is slots tells)
+        (ends takes.input.job takes.input.is_job takes.input.is_input);
     kinds = tt;
     same_faults = tt;
     untold = tt;
@@ -268,6 +287,7 @@ module _ (words : List (List ℕ)) (shelf shelf' : OnShelf) (before : Lent) wher
   replies_stopped stop (Ok reply) takes by = record {
     outcome = λ slots tells answers. stop_answers slots stop reply.exit reply.text.items
         (takes.stop slots tells) by answers;
+    broken = λ slots tells. tt;
     kinds = stop_kind (request_of words) stop reply.exit reply.text.items takes.slots by;
     same_faults = stop_none (request_of words) stop reply.exit reply.text.items takes.slots by;
     untold = λ asks name. refl;
@@ -284,6 +304,7 @@ module _ (words : List (List ℕ)) (shelf shelf' : OnShelf) (before : Lent) wher
   }
   replies_stopped stop (Err e) takes by = record {
     outcome = tt;
+    broken = λ slots tells. stop_broken words slots before;
     kinds = tt;
     same_faults = tt;
     untold = tt;

@@ -1,10 +1,10 @@
 -- What the words ask for, taken in.
-use Rattle.std.proofs.Common.{◌≡◌, ◌∙◌, ℕ, ◌≤◌, List, Option, None, Some, Result, Ok, Err, IsErrAnd, ap, arith}
+use Rattle.std.proofs.Common.{◌≡◌, ◌∙◌, ℕ, List, Option, None, Some, Result, Ok, Err, IsErrAnd, ap, arith}
 use Rattle.std.proofs.Common.{inl, refl, subst, sym}
 use Rattle.admit_core.specs.declared.slot.Slot.{Slot}
 use Rattle.certificate.specs.Checked.{ids_in}
 use Rattle.certificate.proofs.Indexed.{ids_are}
-use Rattle.intake.specs.Input.{IsInputFor, Job, NamesIn, TakesIn, job_of}
+use Rattle.intake.specs.Input.{IsInputFor, NamesIn, TakesIn, job_of}
 use Rattle.intake.specs.Shelves.{OnShelf, TakesSlots, Tells}
 use Rattle.intake.specs.Stops.{◌>>=◌, Stopped, asked, words_stop}
 use Rattle.intake.specs.declared.input.Input.{Input}
@@ -15,7 +15,7 @@ use Rattle.request.specs.Request.{IsRequest, Reads, request_of}
 use Rattle.request.specs.declared.refusal.WordsRefusal.{WordsRefusal}
 use Rattle.request.specs.declared.refusal.WordsRefusal.TheVariants as refusals
 use Rattle.request.specs.declared.request.Request.{Request}
-use Rattle.replay_cli.specs.Answering.{IsOfWords, TakesAll, TakesAsked}
+use Rattle.replay_cli.specs.Answering.{TakesAll, TakesAsked}
 use Rattle.replay_cli.specs.Outcome.{slots_read}
 
 -- memory runs out before anything is taken

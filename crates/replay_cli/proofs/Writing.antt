@@ -131,8 +131,11 @@ module _ {E : Type 0} (words : List (List ℕ)) (before after : Around)
       outcome = λ is. absurd (false≢true is);
       ends = λ is. absurd (cc);
       cut_off = λ is. absurd (cc);
-      no_memory = λ is. inl (subst (λ (sink : AtSink). Appends before.sink.held sink.held []) (sym same)
-          (appends_none before.sink.held));
+      no_memory = λ is. inl (record {
+        unwritten = subst (λ (sink : AtSink). Appends before.sink.held sink.held []) (sym same)
+            (appends_none before.sink.held);
+        broken = replies.broken slots tells;
+      });
       complete = λ fits none. inr refl;
     };
     others = replies.others;

@@ -1,8 +1,8 @@
 -- What a run answers before anything is written.
-use Rattle.std.specs.Prelude.{◌≡◌, ◌⊎◌, ℕ, List, [], Contains, Option, None, Some, Result, Ok, Err, IfErr, IfOk}
-use Rattle.std.specs.Prelude.{IsErrAnd, IsNone, IsOkAnd, IsTrue, ⊤}
+use Rattle.std.specs.Prelude.{◌≡◌, ◌⊎◌, ℕ, List, [], Contains, Option, None, Some, Result, IfErr, IfOk}
+use Rattle.std.specs.Prelude.{IsErrAnd, IsNone, IsOkAnd, IsTrue, OnErr, ⊤}
 use Rattle.admit_core.specs.declared.slot.Slot.{Slot}
-use Rattle.intake.specs.Input.{IsInputFor, Job, accepted}
+use Rattle.intake.specs.Input.{IsInputFor, accepted}
 use Rattle.intake.specs.Shelves.{OnShelf, TakesSlots, Tells}
 use Rattle.intake.specs.Stops.{Stopped}
 use Rattle.intake.specs.declared.input.Input.{Input}
@@ -10,7 +10,6 @@ use Rattle.intake.specs.declared.stop.Stop.{Stop}
 use Rattle.intake.specs.declared.stop.Stop.TheVariants as stops
 use Rattle.modes.specs.Exits.{ends_unasked, is_answer}
 use Rattle.modes.specs.Checking.{CanBeDone}
-use Rattle.modes.specs.declared.exit.Exit.{Exit}
 use Rattle.modes.specs.declared.exit.Exit.TheVariants.{BadWords, Done, ReadFault}
 use Rattle.modes.specs.declared.reply.Reply.{Reply}
 use Rattle.played.specs.Lent.{AreBack, Lent, Untold}
@@ -18,7 +17,7 @@ use Rattle.request.specs.Modes.{slots_of}
 use Rattle.request.specs.Request.{IsRequest, request_of}
 use Rattle.request.specs.declared.request.Request.{Request}
 use Rattle.slot_io.specs.Faults.{NoneFell, Rose}
-use Rattle.replay_cli.specs.Outcome.{WantsNoPicker, IsOutcome, NamesFault, slots_read}
+use Rattle.replay_cli.specs.Outcome.{IsBroken, WantsNoPicker, IsOutcome, NamesFault, slots_read}
 use Rattle.replay_cli.specs.Run.{KeepsOthers, SameFaults}
 
 -- what stops the reading of the words
@@ -54,6 +53,8 @@ pub record Replies {E : Type 0} (words : List (List ℕ)) (shelf shelf' : OnShel
       → Tells (slots_read (request_of words)) shelf.left slots
       → IsTrue (is_answer reply.exit)
       → IsOutcome words slots before after reply.exit reply.text.items)
+  pub broken : (slots : Slot → List ℕ) → Tells (slots_read (request_of words)) shelf.left slots
+      → OnErr result (IsBroken words slots before after)
   pub kinds : IfOk result (λ reply. IsTrue (is_answer reply.exit)
       ⊎ ((reply.exit ≡ ReadFault) × NamesFault (request_of words) shelf shelf' reply.text.items))
   pub same_faults : IfOk result (λ reply. IsTrue (is_answer reply.exit)

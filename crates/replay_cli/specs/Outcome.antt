@@ -1,18 +1,17 @@
 -- How a run ends and what it writes, by its words and the slots' bytes.
-use Rattle.std.specs.Prelude.{◌≡◌, ◌⊎◌, ℕ, List, [], Option, None, Some, Result, Ok, Err, IsSome, ⊤}
+use Rattle.std.specs.Prelude.{◌≡◌, ℕ, List, [], Option, None, Some, Result, Ok, Err, IsSome, ⊤}
 use Rattle.admit_core.specs.declared.slot.Slot.{Slot}
 use Rattle.intake.specs.Input.{Job, accepted}
 use Rattle.intake.specs.Shelves.{IsFaultAt, OnShelf}
 use Rattle.intake.specs.Stops.{stop_text}
 use Rattle.intake.specs.declared.stop.Stop.{Stop}
 use Rattle.intake.specs.declared.stop.Stop.TheVariants as stops
-use Rattle.modes.specs.Endings.{IsEnding}
+use Rattle.modes.specs.Endings.{BreaksJob, IsEnding}
 use Rattle.modes.specs.Exits.{exit_of}
 use Rattle.modes.specs.Jobs.{IsIdle}
 use Rattle.modes.specs.declared.exit.Exit.{Exit}
 use Rattle.played.specs.Lent.{Lent, Untold}
 use Rattle.request.specs.Modes.{slots_of}
-use Rattle.request.specs.Request.{request_of}
 use Rattle.request.specs.declared.request.Request.{Request}
 
 -- a run stops before its days: no picker is asked, and the line that says why is written
@@ -30,6 +29,16 @@ Ends (Err stop) = IsStop stop
 -- stand so before it and after it
 unfoldable pub IsOutcome : List (List ℕ) → (Slot → List ℕ) → Lent → Lent → Exit → List ℕ → Type 0
 IsOutcome words slots = Ends (accepted words slots)
+
+-- what the pickers told where memory ran out before there was a text: over an accepted job a
+-- beginning of what it would have told them, and over any other nothing
+abbrev pub Breaks : Result Job Stop → Lent → Lent → Type 0
+Breaks (Ok job) = BreaksJob job
+Breaks (Err stop) = Untold
+
+-- the same with these words over slots of these bytes
+unfoldable pub IsBroken : List (List ℕ) → (Slot → List ℕ) → Lent → Lent → Type 0
+IsBroken words slots = Breaks (accepted words slots)
 
 -- the slots that a run reads; with bad words it reads none
 abbrev pub slots_read : Option Request → List Slot

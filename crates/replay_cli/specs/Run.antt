@@ -1,5 +1,5 @@
 -- What a run does, as a whole: its exit, what it takes and writes, and what becomes of the pickers.
-use Rattle.std.specs.Prelude.{◌≡◌, ◌⊎◌, ◌≤◌, ℕ, List, [], Contains, Option, None, Some, IsNone, IsOkAnd, IsTrue}
+use Rattle.std.specs.Prelude.{◌≡◌, ◌⊎◌, ◌≤◌, ℕ, List, [], Contains, Option, Some, IsNone, IsOkAnd, IsTrue}
 use Rattle.std.specs.Io.KnownBytes.{Appends}
 use Rattle.admit_core.specs.declared.slot.Slot.{Slot}
 use Rattle.intake.specs.Input.{accepted}
@@ -10,10 +10,9 @@ use Rattle.modes.specs.declared.exit.Exit.{Exit}
 use Rattle.modes.specs.declared.exit.Exit.TheVariants.{BadWords, Done, NoMemory, ReadFault, WriteFault}
 use Rattle.played.specs.Lent.{AreBack, Lent, Untold}
 use Rattle.request.specs.Request.{request_of}
-use Rattle.request.specs.declared.request.Request.{Request}
 use Rattle.slot_io.specs.Bytes.{AppendsPart}
 use Rattle.slot_io.specs.Faults.{NoneFell, Rose}
-use Rattle.replay_cli.specs.Outcome.{WantsNoPicker, IsOutcome, NamesFault, slots_read}
+use Rattle.replay_cli.specs.Outcome.{IsBroken, WantsNoPicker, IsOutcome, NamesFault, slots_read}
 
 -- the bytes that a sink holds, where it tells them, and how often its writes have failed
 pub record AtSink : Type 0 where
@@ -50,6 +49,13 @@ IsWhole words slots before after text =
     ((exit : Exit) × IsOutcome words slots before.pickers after.pickers exit text)
     ⊎ IsFaultLine words before after text
 
+-- memory ran out before there was a text: nothing is written, and the pickers told of a beginning
+-- of what the run would have told them
+pub record BreaksOff (words : List (List ℕ)) (slots : Slot → List ℕ)
+    (before after : Around) : Type 0 where
+  pub unwritten : Appends before.sink.held after.sink.held []
+  pub broken : IsBroken words slots before.pickers after.pickers
+
 -- no call of the shelf or the sink failed
 pub record NoneFails (before after : Around) : Type 0 where
   pub reads : (slot : Slot) → ¬ Rose (before.shelf.faults slot) (after.shelf.faults slot)
@@ -65,9 +71,9 @@ pub record Answers (words : List (List ℕ)) (slots : Slot → List ℕ) (before
   pub ends : exit ≡ Done → (slot : Slot) → Contains (slots_read (request_of words)) slot
       → after.shelf.left slot ≡ Some []
   -- a run that is cut off has written the beginning of its text, and not all of it; where memory
-  -- runs out it may be that nothing is written
+  -- runs out it may be that there was no text
   pub cut_off : exit ≡ WriteFault → WritesPart before after (IsWhole words slots before after)
-  pub no_memory : exit ≡ NoMemory → Appends before.sink.held after.sink.held []
+  pub no_memory : exit ≡ NoMemory → BreaksOff words slots before after
       ⊎ WritesPart before after (IsWhole words slots before after)
   -- where the job is accepted, each answer fits, a chain that is handed in proves its days, and no
   -- call fails, the run is done, or memory ran out

@@ -1,9 +1,9 @@
 //! What a run answers, before anything is written.
-ghost use Rattle.std.specs.Prelude.{◌≡◌, IfOk, map, string_bytes};
+ghost use Rattle.std.specs.Prelude.{◌≡◌, MatchResult, map, string_bytes};
 ghost use Rattle.certificate.specs.Checked.{ids_in};
 ghost use Rattle.intake.specs.Input.{IsInputOf, IsJobOf, Job, NamesIn};
 ghost use Rattle.intake.specs.Shelves.{on_shelf};
-ghost use Rattle.modes.specs.Endings.{IsEnding};
+ghost use Rattle.modes.specs.Endings.{BreaksJob, IsEnding};
 ghost use Rattle.modes.specs.Jobs.{IsIdle};
 ghost use Rattle.played.specs.Lent.{AreBack, AreThere, Untold, standing};
 ghost use Rattle.replay_cli.specs.Answering.{Replies, TakesAll};
@@ -48,10 +48,14 @@ fn play_out(
     ensures idle { IsIdle request.now → Untold (standing (λ p. told p) (λ p. choice p) pickers.old)
         (standing (λ p. told p) (λ p. choice p) pickers.new) }
     ensures ends { (job : Job) → IsJobOf request.now job → IsInputOf job input.now
-        → IfOk result (λ reply. IsEnding job
+        → MatchResult result
+        (λ reply. IsEnding job
         (standing (λ p. told p) (λ p. choice p) pickers.old)
         (standing (λ p. told p) (λ p. choice p) pickers.new)
-        reply.exit reply.text.items) }
+        reply.exit reply.text.items)
+        (λ _. BreaksJob job
+        (standing (λ p. told p) (λ p. choice p) pickers.old)
+        (standing (λ p. told p) (λ p. choice p) pickers.new)) }
 {
     let dated = dated_terms(alloc, input, deadlines_of(request))?;
     let dated = dated.as_ref();

@@ -1,7 +1,12 @@
-use Rattle.std.proofs.Common.{◌∙◌, ap, option_map, refl}
+use Rattle.std.proofs.Common.{◌∙◌, List, ap, option_map, refl, subst}
+use Rattle.admit_core.specs.CallOrder.{AreCallOrders}
+use Rattle.admit_core.specs.DossierRows.{DossierRows}
+use Rattle.admit_core.specs.declared.ranking.RankGroup.{RankGroup}
 use Rattle.intake.specs.Dated.{dated_from}
+use Rattle.played.proofs.KeptDays.{where_broken}
 use Rattle.played.proofs.Naming.{back_again}
-use Rattle.replay_cli.proofs.Played.{by_orders, can_end_kept, no_days, reply_ends_kept, untold_idle}
+use Rattle.replay_cli.proofs.Played.{breaks_untold, by_orders, can_end_kept, no_days, reply_ends_kept, stops_so}
+use Rattle.replay_cli.proofs.Played.{untold_idle}
 use Rattle.replay_cli.proofs.answer.play_out.Goals as goal
 
 pub returns-in_err-played-clause-idle : goal.returns-in_err-played-clause-idle
@@ -35,3 +40,25 @@ returns-clause-ends g c =
     c.in_ok-played.ensures.ends.plays _ c.ending.result job (c.in_ok-dated.ensures.value
     ∙ ap (option_map (dated_from c.args.input.now.dossier c.args.input.now.dates)) c.deadlines_of.ensures) is_job
     is_input c.ending.ensures.ends
+
+pub returns-in_err-dated-clause-ends : goal.returns-in_err-dated-clause-ends
+returns-in_err-dated-clause-ends g c =
+    λ job is_job is_input. where_broken _ _ _ c.from_residual.result c.from_residual.ensures.1 (breaks_untold job _)
+
+pub returns-in_err-orders-clause-ends : goal.returns-in_err-orders-clause-ends
+returns-in_err-orders-clause-ends g c =
+    λ job is_job is_input.
+    where_broken _ _ _ c.from_residual-in_err-orders.result c.from_residual-in_err-orders.ensures.1
+    (breaks_untold job _)
+
+pub returns-in_err-played-clause-ends : goal.returns-in_err-played-clause-ends
+returns-in_err-played-clause-ends g c =
+    λ job is_job is_input.
+    where_broken _ _ _ c.from_residual-in_err-played.result c.from_residual-in_err-played.ensures.1
+    (stops_so c.args.request.now c.args.input.now _ _ job c.in_ok-orders.orders.orders _ _ _ _ _ is_job is_input
+    c.as_ref-dated.ensures.value
+    (c.in_ok-dated.ensures.value
+    ∙ ap (option_map (dated_from c.args.input.now.dossier c.args.input.now.dates)) c.deadlines_of.ensures)
+    (subst (λ (groups : List RankGroup). AreCallOrders groups c.in_ok-orders.orders.orders)
+    (c.as_slice.ensures ∙ ap (λ (d : DossierRows). d.groups) c.dossier.view_is) c.in_ok-orders.ensures.orders)
+    c.terms_in-terms.ensures c.days_of-number.ensures refl c.in_err-played.ensures.ends)
