@@ -1,5 +1,5 @@
 //! The state along which the days of a chain are tested.
-ghost use Rattle.std.specs.Prelude.{◌≡◌, ◌&&◌, IfErr, None, OnOk, true};
+ghost use Rattle.std.specs.Prelude.{◌≡◌, IfErr, None, OnOk, true};
 ghost use Rattle.std.specs.Option.{option_copied};
 ghost use Rattle.admit_core.specs.Days.{morning, unfit_on};
 ghost use Rattle.admit_core.specs.Lapses.{AreTermsFor};
@@ -81,7 +81,7 @@ impl<'d> CheckDesk<'d> {
         ensures { result ≡ true → IsAnswered self.now }
     {
         let _ = self.present.marks(); // one for each wish
-        both(self.is_answered, self.beside.as_slice().is_empty())
+        self.is_answered & self.beside.as_slice().is_empty()
     }
 
     /// Leads from the evening before to the state in which the passes of a day begin, by its lapse,
@@ -108,11 +108,4 @@ impl<'d> CheckDesk<'d> {
         self.beside = beside;
         Ok(())
     }
-}
-
-/// Whether two tests both pass.
-fn both(one: bool, other: bool) -> bool
-    ensures { result ≡ (one && other) }
-{
-    one && other
 }

@@ -9,7 +9,7 @@ use Rattle.certificate.proofs.desk.CheckDesk.is_settled.Goals as goal
 pub returns : goal.returns
 returns c = λ is.
     let s = c.self.inside.present in
-    let parts = and_parts c.self.inside.is_answered c.is_empty.result (sym c.both.ensures ∙ is) in
+    let parts = and_parts c.self.inside.is_answered c.is_empty.result is in
     let long : length s.marks ≡ length s.dossier.wishes =
     ap (λ (ms : List Mark). length ms) (sym c.marks.ensures.marks) ∙ c.marks.ensures.one_each in
     subst IsAnswered c.self.view_is
