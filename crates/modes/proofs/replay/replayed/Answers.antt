@@ -24,7 +24,8 @@ returns c =
     let orders = c.as_slice-called.ensures ∙ c.orders.ensures
     ∙ ap (λ (x : DeskLeft). x.orders) c.into_parts-days.ensures.last in
     let days = c.as_slice.ensures.value ∙ c.into_parts-days.ensures.days in
-    let evening = c.in_ok-evening.ensures.now ∙ ap (λ (x : DeskLeft). x.desk.present) c.into_parts-days.ensures.last in (
+    let evening = c.in_ok-evening.ensures.now
+    ∙ ap (λ (x : DeskLeft). x.desk.present) c.into_parts-days.ensures.last in (
       c.done.ensures.exit,
       c.done.ensures.text ∙ c.in_ok-text.ensures
           ∙ (λ i. replay_text c.args.input.now.dossier (option_copied c.args.dated) (orders i) (days i) (evening i)),
