@@ -3,14 +3,12 @@
 ghost use Rattle.std.specs.Prelude.{◌≡◌, ◌<◌, IfOk, OnErr};
 ghost use Rattle.admit_core.specs.CallOrder.{AreCallOrders};
 ghost use Rattle.admit_core.specs.Falls.{IsGreatest};
-ghost use Rattle.bar_fixpoint.specs.Chosen.{TellsOfFalls};
 ghost use Rattle.modes.specs.Asking.{TellsPicks};
 ghost use Rattle.modes.specs.Endings.{IsDoneSaying};
-ghost use Rattle.modes.specs.Market.{BreaksMarket, PicksForMarket, TellsMarket};
+ghost use Rattle.modes.specs.Market.{BreaksMarket, IsAskedFor, PicksForMarket, TellsMarket};
 ghost use Rattle.markets.specs.Bars.{market_system, matched_under};
 ghost use Rattle.markets.specs.Dossiers.{market_candidates, market_of};
 ghost use Rattle.markets.specs.Matchings.{IsStable};
-ghost use Rattle.markets.specs.Solving.{IsLedTo};
 
 use crate::led::Led;
 use crate::reply::{Reply, done};
@@ -37,11 +35,8 @@ fn solved<L: Ledger>(
         ≡ matched_under market.now solved.bars.items) }
     ensures greatest { IfOk result (λ solved. IsGreatest
         (market_system market.now) solved.bars.items) }
-    ensures led { IfOk result (λ solved. IsLedTo (market_system market.now)
-        (choice picker.old) (told picker.old) (told picker.new) solved.bars.items) }
-    ensures early { OnErr result (TellsOfFalls (market_system market.now)
-        (choice picker.old) (told picker.old) (told picker.new)) }
-    ensures choice { choice picker.new ≡ choice picker.old }
+    ensures asked { IsAskedFor market.now result
+        (choice picker.old) (choice picker.new) (told picker.old) (told picker.new) }
 {
     let mut steps: Steps<L> = Steps::new(blank);
     solve(alloc, market, picker, &mut steps)

@@ -48,16 +48,16 @@ pub returns-clause-picks : goal.returns-clause-picks
 returns-clause-picks g c =
     always c.market_text.result
     (picks_market c.args.dossier.now c.args.orders.now.orders c.args.named.now.market c.requires.market _ _ _
-    c.in_ok-solved.solved.bars.items c.in_ok-solved.ensures.led)
+    c.in_ok-solved.solved.bars.items c.in_ok-solved.ensures.asked.led)
 
 pub returns-clause-breaks : goal.returns-clause-breaks
 returns-clause-breaks g c =
     on_err c.market_text.result
     (breaks_solved c.args.dossier.now c.args.orders.now.orders c.args.named.now.market c.requires.market _ _ _
-    c.in_ok-solved.solved.bars.items c.in_ok-solved.ensures.led)
+    c.in_ok-solved.solved.bars.items c.in_ok-solved.ensures.asked.led)
 
 pub returns-in_err-solved-clause-breaks : goal.returns-in_err-solved-clause-breaks
 returns-in_err-solved-clause-breaks g c =
     on_err c.from_residual.result
     (breaks_market c.args.dossier.now c.args.orders.now.orders c.args.named.now.market c.requires.market _ _ _
-    c.in_err-solved.ensures.early)
+    c.in_err-solved.ensures.asked.early)
