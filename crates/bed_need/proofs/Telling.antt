@@ -1,14 +1,11 @@
 -- What a picker told.
-use Rattle.std.proofs.Common.{◌≡◌, ℕ, List, Result, Ok, Err, IfOk, inr, refl, subst}
-use Rattle.std.specs.Prelude.{OnErr}
+use Rattle.std.proofs.Common.{◌≡◌, ◌∙◌, ℕ, List, Result, Ok, Err, inl, inr, refl, subst}
 use Rattle.std.specs.Result.{IsErrAnd}
 use Rattle.admit_core.specs.Falls.{FallingSystem}
+use Rattle.bar_fixpoint.proofs.RunLaws.{none_told}
 use Rattle.bar_fixpoint.specs.Chosen.{IsRunBy, TellsOfFalls}
-use Rattle.bar_fixpoint.specs.Runs.{schools_of}
-use Rattle.desk_day.specs.DayPasses.{TellsMore}
-use Rattle.desk_day.proofs.PassesSoFar.{tells_of_falls}
 use Rattle.round.proofs.EarlyEnds.{told_of_all}
-use Rattle.bed_need.specs.Telling.{IsAsked, TellsOfBoth, TellsOfFallsOfBoth, TellsOfRun}
+use Rattle.bed_need.specs.Telling.{IsAsked, IsAskedTwice, TellsOfRun}
 
 -- of falls that nobody keeps, of a system that has another name
 pub run_of_settled : (now sys : FallingSystem) (choice : List ℕ → List ℕ → ℕ)
@@ -32,39 +29,13 @@ pub asked_named : {T E : Type 0} (one other : FallingSystem) (result : Result T 
 asked_named one other result chooses chooses_now before now same is =
     subst (λ (sys : FallingSystem). IsAsked sys result chooses chooses_now before now) same is
 
--- a picker that was asked told more
-pub asked_more : {T E : Type 0} (sys : FallingSystem) (result : Result T E)
-    (chooses chooses_now : List ℕ → List ℕ → ℕ) (before now : List ℕ)
-    → IsAsked sys result chooses chooses_now before now → TellsMore before now
-asked_more sys (Ok found) chooses chooses_now before now asked =
-    (schools_of asked.told.falls, asked.told.told_of)
-asked_more sys (Err e) chooses chooses_now before now asked = tells_of_falls sys chooses before now asked.falls
-
--- of runs that were told, of systems that have other names
-module _ {T E : Type 0} (result : Result T E) (choice : List ℕ → List ℕ → ℕ) (told after : List ℕ) where
-  pub told_named : (one other : FallingSystem) → one ≡ other
-      → IfOk result (λ _. TellsOfRun one choice told after) → IfOk result (λ _. TellsOfRun other choice told after)
-  told_named one other same =
-      subst (λ (sys : FallingSystem). IfOk result (λ _. TellsOfRun sys choice told after)) same
-
-  pub falls_named : (one other : FallingSystem) → one ≡ other
-      → OnErr result (TellsOfFalls one choice told after) → OnErr result (TellsOfFalls other choice told after)
-  falls_named one other same =
-      subst (λ (sys : FallingSystem). OnErr result (TellsOfFalls sys choice told after)) same
-
-  pub both_named : (one other then next : FallingSystem) → one ≡ then → other ≡ next
-      → IfOk result (λ _. TellsOfBoth one other choice told after)
-      → IfOk result (λ _. TellsOfBoth then next choice told after)
-  both_named one other then next first second is =
-      subst (λ (sys : FallingSystem). IfOk result (λ _. TellsOfBoth sys next choice told after)) first
-      (subst (λ (sys : FallingSystem). IfOk result (λ _. TellsOfBoth one sys choice told after)) second is)
-
-  pub either_named : (one other then next : FallingSystem) → one ≡ then → other ≡ next
-      → OnErr result (TellsOfFallsOfBoth one other choice told after)
-      → OnErr result (TellsOfFallsOfBoth then next choice told after)
-  either_named one other then next first second is =
-      subst (λ (sys : FallingSystem). OnErr result (TellsOfFallsOfBoth sys next choice told after)) first
-      (subst (λ (sys : FallingSystem). OnErr result (TellsOfFallsOfBoth one sys choice told after)) second is)
+-- a picker that was not asked
+pub asked_nobody : {T E : Type 0} (sys : FallingSystem) (result : Result T E) (Q : E → Type 0)
+    (chooses : List ℕ → List ℕ → ℕ) (before : List ℕ) → IsErrAnd result Q
+    → IsAsked sys result chooses chooses before before
+asked_nobody sys (Ok found) Q chooses before stops = absurd stops
+asked_nobody sys (Err e) Q chooses before stops =
+    record { told = tt; falls = none_told sys chooses before; choice = refl }
 
 -- of a run after which something else is answered, or nothing, where memory ran out
 module _ {T E U F : Type 0} {sys : FallingSystem} {chooses chooses_now : List ℕ → List ℕ → ℕ}
@@ -85,21 +56,57 @@ module _ {T E U F : Type 0} {sys : FallingSystem} {chooses chooses_now : List �
   asked_in_vain (Ok told) Q stops asked = absurd stops
   asked_in_vain (Err e) Q stops asked = record { told = tt; falls = asked.falls; choice = asked.choice }
 
--- of a run, and then of one whose choice has another name
-pub run_again : (one other : FallingSystem) (choice then : List ℕ → List ℕ → ℕ)
-    (told between after : List ℕ)
-    → TellsOfRun one choice told between → then ≡ choice
-    → TellsOfRun other then between after → TellsOfBoth one other choice told after
-run_again one other choice then told between after first kept second = record {
-  between = between;
-  first = first;
-  second = subst (λ (by : List ℕ → List ℕ → ℕ). TellsOfRun other by between after) kept second;
-}
+-- of the bars of two systems
+module _ {T E : Type 0} (one other : FallingSystem) (chooses : List ℕ → List ℕ → ℕ) (before : List ℕ) where
+  pub asked_neither : (result : Result T E) (Q : E → Type 0) → IsErrAnd result Q
+      → IsAskedTwice one other result chooses chooses before before
+  asked_neither (Ok found) Q stops = absurd stops
+  asked_neither (Err e) Q stops =
+      record { told = tt; falls = inl (none_told one chooses before); choice = refl }
 
--- and then of falls of one
-pub falls_again : (one other : FallingSystem) (choice then : List ℕ → List ℕ → ℕ)
-    (told between after : List ℕ)
-    → TellsOfRun one choice told between → then ≡ choice
-    → TellsOfFalls other then between after → TellsOfFallsOfBoth one other choice told after
-falls_again one other choice then told between after first kept second =
-    inr (between, first, subst (λ (by : List ℕ → List ℕ → ℕ). TellsOfFalls other by between after) kept second)
+  -- memory ran out on the first
+  pub asked_first : {U F : Type 0} (result : Result T E) (Q : E → Type 0) (f : F)
+      (chooses_now : List ℕ → List ℕ → ℕ) (now : List ℕ) → IsErrAnd result Q
+      → IsAsked {T = U} one (Err f) chooses chooses_now before now
+      → IsAskedTwice one other result chooses chooses_now before now
+  asked_first (Ok found) Q f chooses_now now stops asked = absurd stops
+  asked_first (Err e) Q f chooses_now now stops asked =
+      record { told = tt; falls = inl asked.falls; choice = asked.choice }
+
+  module _ {U V F G : Type 0} (u : U) (then chooses_now : List ℕ → List ℕ → ℕ) (between now : List ℕ)
+      (first : IsAsked {E = F} one (Ok u) chooses then before between) where
+    -- memory ran out on the second
+    pub asked_second : (result : Result T E) (Q : E → Type 0) (f : G) → IsErrAnd result Q
+        → IsAsked {T = V} other (Err f) then chooses_now between now
+        → IsAskedTwice one other result chooses chooses_now before now
+    asked_second (Ok found) Q f stops asked = absurd stops
+    asked_second (Err e) Q f stops asked = record {
+      told = tt;
+      falls = inr (
+        between,
+        first.told,
+        subst (λ (by : List ℕ → List ℕ → ℕ). TellsOfFalls other by between now) first.choice asked.falls,
+      );
+      choice = asked.choice ∙ first.choice;
+    }
+
+    pub asked_both : (found : T) (v : V) → IsAsked {E = G} other (Ok v) then chooses_now between now
+        → IsAskedTwice {E = E} one other (Ok found) chooses chooses_now before now
+    asked_both found v asked = record {
+      told = record {
+        between = between;
+        first = first.told;
+        second = subst (λ (by : List ℕ → List ℕ → ℕ). TellsOfRun other by between now) first.choice asked.told;
+      };
+      falls = tt;
+      choice = asked.choice ∙ first.choice;
+    }
+
+-- of two that have other names
+pub twice_named : {T E : Type 0} (one other then next : FallingSystem) (result : Result T E)
+    (chooses chooses_now : List ℕ → List ℕ → ℕ) (before now : List ℕ) → one ≡ then → other ≡ next
+    → IsAskedTwice one other result chooses chooses_now before now
+    → IsAskedTwice then next result chooses chooses_now before now
+twice_named one other then next result chooses chooses_now before now first second is =
+    subst (λ (sys : FallingSystem). IsAskedTwice sys next result chooses chooses_now before now) first
+    (subst (λ (sys : FallingSystem). IsAskedTwice one sys result chooses chooses_now before now) second is)

@@ -36,3 +36,10 @@ pub record IsAsked {T E : Type 0} (sys : FallingSystem) (result : Result T E)
   pub told : IfOk result (λ _. TellsOfRun sys chooses before now)
   pub falls : OnErr result (TellsOfFalls sys chooses before now)
   pub choice : chooses_now ≡ chooses
+
+-- the same of a picker that was asked for the bars of two systems, one after the other
+pub record IsAskedTwice {T E : Type 0} (one other : FallingSystem) (result : Result T E)
+    (chooses chooses_now : List ℕ → List ℕ → ℕ) (before now : List ℕ) : Type 0 where
+  pub told : IfOk result (λ _. TellsOfBoth one other chooses before now)
+  pub falls : OnErr result (TellsOfFallsOfBoth one other chooses before now)
+  pub choice : chooses_now ≡ chooses

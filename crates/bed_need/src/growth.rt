@@ -1,12 +1,11 @@
 //! How the bars stand with more beds.
-ghost use Rattle.std.specs.Prelude.{◌≡◌, ◌+◌, ◌<◌, ◌≤◌, length, IfOk, OnErr};
+ghost use Rattle.std.specs.Prelude.{◌≡◌, ◌+◌, ◌<◌, ◌≤◌, length, IfOk};
 ghost use Rattle.admit_core.specs.Boarding.{boarding};
 ghost use Rattle.admit_core.specs.CallOrder.{AreCallOrders};
 ghost use Rattle.admit_core.specs.DossierRows.{beds_of};
 ghost use Rattle.admit_core.specs.Falls.{IsAtMost};
-ghost use Rattle.desk_day.specs.DayPasses.{TellsMore};
 ghost use Rattle.bed_need.specs.Growing.{IsGrowth, with_more_beds};
-ghost use Rattle.bed_need.specs.Telling.{TellsOfBoth, TellsOfFallsOfBoth};
+ghost use Rattle.bed_need.specs.Telling.{IsAskedTwice};
 
 use crate::questions::BedQuestions;
 use crate::settled::bars_with;
@@ -23,6 +22,15 @@ pub struct Growth {
     pub after: Vec<u32>,
 }
 
+/// Beds that one school gets.
+#[derive(Clone, Copy)]
+pub struct MoreBeds {
+    /// The school, by place.
+    pub school: u32,
+    /// How many.
+    pub beds: u32,
+}
+
 impl BedQuestions<'_, '_> {
     /// The greatest bars under the low ceilings with the present beds, and those under the high
     /// ones with more beds in one school: no bar of the latter is below that of the former.
@@ -31,28 +39,21 @@ impl BedQuestions<'_, '_> {
         alloc: Global,
         low: &[u32],
         high: &[u32],
-        school: u32,
-        more: u32,
+        given: MoreBeds,
         picker: &mut dyn Picker,
     ) -> Result<Growth, OutOfMemory>
         requires ceilings { length low.now ≡ length self.now.state.dossier.schools }
         requires rise { IsAtMost low.now high.now }
-        requires school { school < length self.now.state.dossier.schools }
-        requires beds { beds_of self.now.state.dossier school + more ≤ 2000000000 }
+        requires school { given.school < length self.now.state.dossier.schools }
+        requires beds { beds_of self.now.state.dossier given.school + given.beds ≤ 2000000000 }
 
         ensures growth { IfOk result (λ growth. IsGrowth self.now.state self.now.orders low.now
-            high.now school more growth.before.items growth.after.items) }
-        ensures told { IfOk result (λ _. TellsOfBoth
-            (boarding self.now.state self.now.orders low.now)
-            (with_more_beds self.now.state self.now.orders high.now school more)
-            (choice picker.old) (told picker.old) (told picker.new)) }
-        ensures falls { OnErr result (TellsOfFallsOfBoth
-            (boarding self.now.state self.now.orders low.now)
-            (with_more_beds self.now.state self.now.orders high.now school more)
-            (choice picker.old) (told picker.old) (told picker.new)) }
-        ensures early { TellsMore (told picker.old) (told picker.new) }
-        ensures choice { choice picker.new ≡ choice picker.old }
+            high.now given.school given.beds growth.before.items growth.after.items) }
+        ensures asked { IsAskedTwice (boarding self.now.state self.now.orders low.now)
+            (with_more_beds self.now.state self.now.orders high.now given.school given.beds)
+            result (choice picker.old) (choice picker.new) (told picker.old) (told picker.new) }
     {
+        let MoreBeds { school, beds: more } = given;
         let mut beds = own_beds(alloc, self.state())?;
         let before = bars_with(alloc, self, &beds, low, picker)?;
         beds[school as usize] += more;
@@ -68,31 +69,23 @@ pub fn grown_bars(
     orders: &CallOrders,
     low: &[u32],
     high: &[u32],
-    school: u32,
-    more: u32,
+    given: MoreBeds,
     picker: &mut dyn Picker,
 ) -> Result<Growth, OutOfMemory>
     requires orders { AreCallOrders state.now.dossier.groups orders.now.orders }
     requires ceilings { length low.now ≡ length state.now.dossier.schools }
     requires rise { IsAtMost low.now high.now }
-    requires school { school < length state.now.dossier.schools }
-    requires beds { beds_of state.now.dossier school + more ≤ 2000000000 }
+    requires school { given.school < length state.now.dossier.schools }
+    requires beds { beds_of state.now.dossier given.school + given.beds ≤ 2000000000 }
 
     ensures growth { IfOk result (λ growth.
-        IsGrowth state.now orders.now.orders low.now high.now school more
+        IsGrowth state.now orders.now.orders low.now high.now given.school given.beds
         growth.before.items growth.after.items) }
-    ensures told { IfOk result (λ _.
-        TellsOfBoth (boarding state.now orders.now.orders low.now)
-        (with_more_beds state.now orders.now.orders high.now school more) (choice picker.old)
-        (told picker.old) (told picker.new)) }
-    ensures falls { OnErr result
-        (TellsOfFallsOfBoth (boarding state.now orders.now.orders low.now)
-        (with_more_beds state.now orders.now.orders high.now school more) (choice picker.old)
-        (told picker.old) (told picker.new)) }
-    ensures early { TellsMore (told picker.old) (told picker.new) }
-    ensures choice { choice picker.new ≡ choice picker.old }
+    ensures asked { IsAskedTwice (boarding state.now orders.now.orders low.now)
+        (with_more_beds state.now orders.now.orders high.now given.school given.beds)
+        result (choice picker.old) (choice picker.new) (told picker.old) (told picker.new) }
 {
     let roster = Roster::build(alloc, state, orders)?;
     let questions = BedQuestions::along(state, &roster);
-    questions.grown_bars(alloc, low, high, school, more, picker)
+    questions.grown_bars(alloc, low, high, given, picker)
 }

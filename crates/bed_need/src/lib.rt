@@ -13,7 +13,7 @@ mod questions;
 mod settled;
 mod text;
 
-pub use growth::{Growth, grown_bars};
+pub use growth::{Growth, MoreBeds, grown_bars};
 pub use laws::laws_of_beds;
 pub use need::least_beds;
 pub use questions::BedQuestions;

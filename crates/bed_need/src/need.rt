@@ -1,14 +1,12 @@
 //! How many beds a school needs.
-ghost use Rattle.std.specs.Prelude.{◌≡◌, ◌+◌, ◌<◌, ◌≤◌, length, IfOk, OnErr};
+ghost use Rattle.std.specs.Prelude.{◌≡◌, ◌+◌, ◌<◌, ◌≤◌, length, IfOk};
 ghost use Rattle.admit_core.specs.CallOrder.{AreCallOrders};
 ghost use Rattle.admit_core.specs.Falls.{IsAtMost};
 ghost use Rattle.admit_core.specs.LeastBeds.{IsLeastBeds};
 ghost use Rattle.admit_core.specs.Proposals.{demanded_ranks};
-ghost use Rattle.bar_fixpoint.specs.Chosen.{TellsOfFalls};
-ghost use Rattle.desk_day.specs.DayPasses.{TellsMore};
 ghost use Rattle.bed_need.specs.Growing.{with_n_beds};
 ghost use Rattle.bed_need.specs.Needing.{need_of};
-ghost use Rattle.bed_need.specs.Telling.{TellsOfRun};
+ghost use Rattle.bed_need.specs.Telling.{IsAsked};
 
 use crate::questions::BedQuestions;
 use crate::settled::settled;
@@ -61,14 +59,9 @@ impl BedQuestions<'_, '_> {
         ensures need { IfOk result (IsLeastBeds self.now.state self.now.orders ceilings.now
             school) }
         ensures few { IfOk result (λ need. need ≤ 16000000) }
-        ensures told { IfOk result (λ _. TellsOfRun
-            (with_n_beds self.now.state self.now.orders ceilings.now school 2000000000)
-            (choice picker.old) (told picker.old) (told picker.new)) }
-        ensures falls { OnErr result (TellsOfFalls
-            (with_n_beds self.now.state self.now.orders ceilings.now school 2000000000)
-            (choice picker.old) (told picker.old) (told picker.new)) }
-        ensures early { TellsMore (told picker.old) (told picker.new) }
-        ensures choice { choice picker.new ≡ choice picker.old }
+        ensures asked { IsAsked
+            (with_n_beds self.now.state self.now.orders ceilings.now school 2000000000) result
+            (choice picker.old) (choice picker.new) (told picker.old) (told picker.new) }
     {
         let state = self.state();
         let dossier = state.dossier();
@@ -96,14 +89,9 @@ pub fn least_beds(
 
     ensures need { IfOk result (IsLeastBeds state.now orders.now.orders ceilings.now school) }
     ensures few { IfOk result (λ need. need ≤ 16000000) }
-    ensures told { IfOk result (λ _.
-        TellsOfRun (with_n_beds state.now orders.now.orders ceilings.now school 2000000000)
-        (choice picker.old) (told picker.old) (told picker.new)) }
-    ensures falls { OnErr result
-        (TellsOfFalls (with_n_beds state.now orders.now.orders ceilings.now school 2000000000)
-        (choice picker.old) (told picker.old) (told picker.new)) }
-    ensures early { TellsMore (told picker.old) (told picker.new) }
-    ensures choice { choice picker.new ≡ choice picker.old }
+    ensures asked { IsAsked
+        (with_n_beds state.now orders.now.orders ceilings.now school 2000000000) result
+        (choice picker.old) (choice picker.new) (told picker.old) (told picker.new) }
 {
     let roster = Roster::build(alloc, state, orders)?;
     let questions = BedQuestions::along(state, &roster);

@@ -16,6 +16,8 @@ use Rattle.bed_need.specs.Questions.{Questions}
 use Rattle.bed_need.specs.Telling.{TellsOfBoth, TellsOfFallsOfBoth, TellsOfRun}
 use Rattle.bed_need.specs.Text.{beds_text}
 use Rattle.bed_need.proofs.Growing.{figures_are_fixed}
+use Rattle.bar_fixpoint.specs.Runs.{schools_of}
+use Rattle.desk_day.proofs.PassesSoFar.{tells_from}
 use Rattle.desk_day.specs.DayPasses.{TellsMore}
 use Rattle.desk_day.specs.DeskStates.{DeskStates}
 use Rattle.desk_day.specs.LastPasses.{IsLastPass}
@@ -23,7 +25,8 @@ use Rattle.dossier_check.specs.Ids.{Ids}
 use Rattle.played.specs.LastDays.{IsDeskAfter, IsLastOf, pass_on}
 use Rattle.round.proofs.EarlyEnds.{told_of_all}
 use Rattle.modes.specs.Asking.{TellsPicks}
-use Rattle.modes.specs.Beds.{BreaksFigures, BreaksFiguring, IsAsked, IsOnlyText, IsTextOf, PicksForFigures, TellsFigures}
+use Rattle.modes.specs.Beds.{BreaksFigures, BreaksFiguring, IsAsked, IsOnlyText, IsTextOf, PicksForFigures}
+use Rattle.modes.specs.Beds.{TellsFigures}
 
 -- the figures that were found, with what the picker told
 module _ (s : State) (d : DossierRows) (orders : List CallOrder) (ceilings : List ℕ) (place need more : ℕ)
@@ -122,6 +125,16 @@ pub breaks_there : {T E : Type 0} (ceilings : List ℕ) (place : ℕ) (choice : 
 breaks_there ceilings place choice told after r one other same =
     subst (λ (q : Questions). OnErr r (BreaksFiguring q.state q.orders ceilings place choice told after)) same
 
+-- what a picker had told is a prefix of what it tells as figures are found
+figures_more : (s : State) (orders : List CallOrder) (ceilings : List ℕ) (place need : ℕ)
+    (choice : List ℕ → List ℕ → ℕ) (told after : List ℕ) → TellsOfFigures s orders ceilings place need choice told after
+    → TellsMore told after
+figures_more s orders ceilings place need choice told after tells =
+    let grown = tells.grown in
+    tells_from told tells.between after (schools_of tells.least.falls) tells.least.told_of
+    (tells_from tells.between grown.between after (schools_of grown.first.falls) grown.first.told_of
+    (schools_of grown.second.falls, grown.second.told_of))
+
 -- one place has an id, and one day is the last
 one_place : (found one other : ℕ) (p : Option ℕ) → p ≡ Some one → p ≡ Some other → one ≡ other
 one_place found one other p is also = cc (is, also)
@@ -198,8 +211,8 @@ module _ (d : DossierRows) (ids : Ids) (orders : List CallOrder) (days : List Da
 
   -- what was figured in the opening, by the call orders of a roster, under the day's ceilings
   module _ (opening : State) (called : List CallOrder) (ceilings : List ℕ) (choice : List ℕ → List ℕ → ℕ)
-      (told told' : List ℕ) (opens : opening ≡ desk.opening) (calls : called ≡ orders) (ceil : ceilings ≡ last.ceilings)
-      (more : TellsMore told told') where
+      (told told' : List ℕ) (opens : opening ≡ desk.opening) (calls : called ≡ orders)
+      (ceil : ceilings ≡ last.ceilings) where
     abbrev Figured : List ℕ → Type 0
     Figured text = (figures : Figures) × IsTextOf d opening called ceilings place figures text
         × TellsOfFigures opening called ceilings place figures.need choice told told'
@@ -228,7 +241,8 @@ module _ (d : DossierRows) (ids : Ids) (orders : List CallOrder) (days : List Da
     picks : (text : List ℕ) → Figured text → TellsPicks (PicksForFigures d ids orders days desk school choice told) told
         told'
     picks text figured =
-        let found = in_last text figured in (
+        let found = in_last text figured in
+        let more = figures_more last.opening orders last.ceilings place found.0.need choice told told' found.2 in (
           more.0,
           record {
             place = place;

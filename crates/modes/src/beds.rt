@@ -3,7 +3,6 @@ ghost use Rattle.std.specs.Prelude.{◌≡◌, ◌<◌, ◌≤◌, ◌+◌, ◌-
 ghost use Rattle.admit_core.specs.DossierRows.{beds_of};
 ghost use Rattle.admit_core.specs.Lists.{is_among};
 ghost use Rattle.bed_need.specs.Figures.{Figures, TellsOfFigures};
-ghost use Rattle.desk_day.specs.DayPasses.{TellsMore};
 ghost use Rattle.modes.specs.Asking.{TellsPicks};
 ghost use Rattle.modes.specs.Beds.{BreaksFigures, BreaksFiguring, IsOnlyText, IsTextOf, PicksForFigures, TellsFigures};
 ghost use Rattle.modes.specs.Endings.{IsDoneSaying};
@@ -13,7 +12,7 @@ use crate::led::Led;
 use crate::reply::{Reply, done};
 use admit_core::{DayRecord, Dossier, OutOfMemory};
 use bar_fixpoint::Picker;
-use bed_need::{BedQuestions, beds_text};
+use bed_need::{BedQuestions, MoreBeds, beds_text};
 use day_state::DayState;
 use desk_day::ceilings_on;
 use dossier_check::school_place;
@@ -52,12 +51,15 @@ fn figures_of(
         (choice picker.old) (told picker.old) (told picker.new)) }
     ensures breaks { OnErr result (BreaksFiguring questions.now.state questions.now.orders
         ceilings.now place (choice picker.old) (told picker.old) (told picker.new)) }
-    ensures early { TellsMore (told picker.old) (told picker.new) }
     ensures choice { choice picker.new ≡ choice picker.old }
 {
     let need = questions.least_beds(alloc, ceilings, place, picker)?;
     let more = lacking(dossier, place, need);
-    let growth = questions.grown_bars(alloc, ceilings, ceilings, place, more, picker)?;
+    let given = MoreBeds {
+        school: place,
+        beds: more,
+    };
+    let growth = questions.grown_bars(alloc, ceilings, ceilings, given, picker)?;
     beds_text(alloc, dossier, place, need, &growth)
 }
 
@@ -82,7 +84,6 @@ fn figures_text<'a, 'd>(
         (choice picker.old) (told picker.old) (told picker.new)) }
     ensures breaks { OnErr result (BreaksFiguring opening.now roster.now.orders ceilings.now place
         (choice picker.old) (told picker.old) (told picker.new)) }
-    ensures early { TellsMore (told picker.old) (told picker.new) }
     ensures choice { choice picker.new ≡ choice picker.old }
 {
     let questions = BedQuestions::along(opening, roster);

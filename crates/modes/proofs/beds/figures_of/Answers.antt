@@ -2,7 +2,6 @@ use Rattle.std.proofs.Common.{◌∙◌, ◌+◌, ◌<◌, ◌≤◌, ap, arith,
 use Rattle.admit_core.proofs.Plain.{on_err}
 use Rattle.admit_core.specs.DossierRows.{DossierRows, beds_of}
 use Rattle.bar_fixpoint.proofs.SoFar.{IsAtMost-refl}
-use Rattle.desk_day.proofs.PassesSoFar.{tells_from}
 use Rattle.modes.proofs.Figuring.{all_figured, breaks_behind, breaks_grown}
 use Rattle.modes.proofs.beds.figures_of.Goals as goal
 
@@ -11,8 +10,9 @@ returns-clause-text g c =
     all_figured c.args.questions.now.state c.args.dossier.now c.args.questions.now.orders c.args.ceilings.now
     c.args.place c.in_ok-need.need c.lacking-more.result c.in_ok-growth.growth.before.items
     c.in_ok-growth.growth.after.items _ _ _ _ _ c.requires.dossier c.lacking-more.ensures.value
-    c.in_ok-need.ensures.need c.in_ok-growth.ensures.growth c.in_ok-need.ensures.told c.least_beds.ensures.choice
-    c.in_ok-growth.ensures.told (λ text. text.items) c.beds_text.result c.beds_text.ensures
+    c.in_ok-need.ensures.need c.in_ok-growth.ensures.growth c.in_ok-need.ensures.asked.told
+    c.least_beds.ensures.asked.choice
+    c.in_ok-growth.ensures.asked.told (λ text. text.items) c.beds_text.result c.beds_text.ensures
 
 pub lacking-more-requires-clause-place : goal.lacking-more-requires-clause-place
 lacking-more-requires-clause-place g c =
@@ -43,33 +43,27 @@ beds_text-requires-clause-after g c =
     c.in_ok-growth.ensures.growth.after.fits.under_ceilings.as_many ∙ c.requires.ceilings
     ∙ ap (λ (d : DossierRows). length d.schools) c.requires.dossier
 
-pub returns-clause-early : goal.returns-clause-early
-returns-clause-early g c =
-    tells_from _ _ _ c.least_beds.ensures.early.0 c.least_beds.ensures.early.1 c.grown_bars.ensures.early
-
 pub returns-clause-choice : goal.returns-clause-choice
-returns-clause-choice g c = c.grown_bars.ensures.choice ∙ c.least_beds.ensures.choice
-
-pub returns-in_err-growth-clause-early : goal.returns-in_err-growth-clause-early
-returns-in_err-growth-clause-early g c =
-    tells_from _ _ _ c.least_beds.ensures.early.0 c.least_beds.ensures.early.1 c.grown_bars.ensures.early
+returns-clause-choice g c = c.grown_bars.ensures.asked.choice ∙ c.least_beds.ensures.asked.choice
 
 pub returns-in_err-growth-clause-choice : goal.returns-in_err-growth-clause-choice
-returns-in_err-growth-clause-choice g c = c.grown_bars.ensures.choice ∙ c.least_beds.ensures.choice
+returns-in_err-growth-clause-choice g c = c.grown_bars.ensures.asked.choice ∙ c.least_beds.ensures.asked.choice
 
 pub returns-in_err-need-clause-breaks : goal.returns-in_err-need-clause-breaks
-returns-in_err-need-clause-breaks g c = on_err c.from_residual.result (inl c.in_err-need.ensures.falls)
+returns-in_err-need-clause-breaks g c = on_err c.from_residual.result (inl c.in_err-need.ensures.asked.falls)
 
 pub returns-in_err-growth-clause-breaks : goal.returns-in_err-growth-clause-breaks
 returns-in_err-growth-clause-breaks g c =
     on_err c.from_residual-in_err-growth.result
     (breaks_grown _ _ _ _ c.in_ok-need.need c.lacking-more.result _ _ _ _ _ c.args.dossier.now c.requires.dossier
-    c.lacking-more.ensures.value c.in_ok-need.ensures.need c.in_ok-need.ensures.told c.least_beds.ensures.choice
-    c.in_err-growth.ensures.falls)
+    c.lacking-more.ensures.value c.in_ok-need.ensures.need c.in_ok-need.ensures.asked.told
+    c.least_beds.ensures.asked.choice
+    c.in_err-growth.ensures.asked.falls)
 
 pub returns-clause-breaks : goal.returns-clause-breaks
 returns-clause-breaks g c =
     on_err c.beds_text.result
     (breaks_behind _ _ _ _ c.in_ok-need.need c.lacking-more.result _ _ _ _ _ c.args.dossier.now c.requires.dossier
-    c.lacking-more.ensures.value c.in_ok-need.ensures.need c.in_ok-need.ensures.told c.least_beds.ensures.choice
-    c.in_ok-growth.ensures.told)
+    c.lacking-more.ensures.value c.in_ok-need.ensures.need c.in_ok-need.ensures.asked.told
+    c.least_beds.ensures.asked.choice
+    c.in_ok-growth.ensures.asked.told)

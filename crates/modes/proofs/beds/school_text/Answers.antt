@@ -49,7 +49,7 @@ returns-clause-text g c =
     (sym c.in-Some-last.ensures.value) c.requires.desk c.opening-opening.result.now c.roster.result.now.orders
     c.deref.result.now _ _ _ (c.opening-opening.ensures ∙ ap (λ (k : DeskStates). k.opening) c.desk.ensures)
     c.roster.ensures.orders (c.deref.ensures.value ∙ c.in_ok-ceilings.ensures.ceilings)
-    c.figures_text.ensures.early (λ text. text.items) c.figures_text.result c.figures_text.ensures.text
+    (λ text. text.items) c.figures_text.result c.figures_text.ensures.text
 
 pub returns-clause-only : goal.returns-clause-only
 returns-clause-only g c =
@@ -59,7 +59,7 @@ returns-clause-only g c =
     (sym c.in-Some-last.ensures.value) c.requires.desk c.opening-opening.result.now c.roster.result.now.orders
     c.deref.result.now _ _ _ (c.opening-opening.ensures ∙ ap (λ (k : DeskStates). k.opening) c.desk.ensures)
     c.roster.ensures.orders (c.deref.ensures.value ∙ c.in_ok-ceilings.ensures.ceilings)
-    c.figures_text.ensures.early (λ text. text.items) c.figures_text.result c.figures_text.ensures.text
+    (λ text. text.items) c.figures_text.result c.figures_text.ensures.text
 
 pub returns-clause-picks : goal.returns-clause-picks
 returns-clause-picks g c =
@@ -69,7 +69,7 @@ returns-clause-picks g c =
     (sym c.in-Some-last.ensures.value) c.requires.desk c.opening-opening.result.now c.roster.result.now.orders
     c.deref.result.now _ _ _ (c.opening-opening.ensures ∙ ap (λ (k : DeskStates). k.opening) c.desk.ensures)
     c.roster.ensures.orders (c.deref.ensures.value ∙ c.in_ok-ceilings.ensures.ceilings)
-    c.figures_text.ensures.early (λ text. text.items) c.figures_text.result c.figures_text.ensures.text
+    (λ text. text.items) c.figures_text.result c.figures_text.ensures.text
 
 pub returns-clause-breaks : goal.returns-clause-breaks
 returns-clause-breaks g c =

@@ -4,14 +4,12 @@ use Rattle.admit_core.specs.Falls.{FallingSystem, IsGreatest}
 use Rattle.admit_core.specs.Proposals.{demanded_ranks}
 use Rattle.admit_core.specs.State.{State, bed_holders}
 use Rattle.admit_core.specs.Validity.{IsValid}
-use Rattle.admit_core.proofs.Plain.{on_err}
-use Rattle.bar_fixpoint.proofs.RunLaws.{none_told}
 use Rattle.linked_demand.specs.Lent.{own_beds}
 use Rattle.linked_demand.specs.Rounds.{bar_each}
 use Rattle.bed_need.specs.Needing.{need_of}
 use Rattle.bed_need.proofs.Least.{few, few_need, needs_least}
 use Rattle.bed_need.proofs.LentBeds.{put_lent}
-use Rattle.bed_need.proofs.Telling.{asked_named, falls_of_run}
+use Rattle.bed_need.proofs.Telling.{asked_found, asked_in_vain, asked_named, asked_nobody}
 use Rattle.bed_need.proofs.questions.BedQuestions.least_beds.Goals as goal
 
 pub returns-clause-need : goal.returns-clause-need
@@ -90,8 +88,8 @@ overflow_cast-coming g c =
     let enough = few s orders c.args.ceilings.now h valid c.requires.school c.requires.ceilings bars in
     omega (arith, coming, enough)
 
-pub returns-clause-told : goal.returns-clause-told
-returns-clause-told g c =
+pub returns-clause-asked : goal.returns-clause-asked
+returns-clause-asked g c =
     let s = c.args.self.now.state in
     let orders = c.args.self.now.orders in
     let beds : c.in_ok-beds.beds.items ≡ own_beds s.dossier =
@@ -99,13 +97,13 @@ returns-clause-told g c =
     let same = ap (λ (t : State). boarding t orders c.args.ceilings.now)
     (put_lent s c.in_ok-beds.beds.items c.deref.result.now c.args.school 2000000000 beds c.requires.school
     c.deref.ensures.value) in
-    (asked_named _ _ _ _ _ _ _ same c.in_ok-round.ensures.asked).told
+    asked_found _ (asked_named _ _ _ _ _ _ _ same c.in_ok-round.ensures.asked)
 
-pub returns-in_err-beds-clause-falls : goal.returns-in_err-beds-clause-falls
-returns-in_err-beds-clause-falls g c = on_err _ (none_told _ _ _)
+pub returns-in_err-beds-clause-asked : goal.returns-in_err-beds-clause-asked
+returns-in_err-beds-clause-asked g c = asked_nobody _ c.from_residual.result _ _ _ c.from_residual.ensures.1
 
-pub returns-in_err-round-clause-falls : goal.returns-in_err-round-clause-falls
-returns-in_err-round-clause-falls g c =
+pub returns-in_err-round-clause-asked : goal.returns-in_err-round-clause-asked
+returns-in_err-round-clause-asked g c =
     let s = c.args.self.now.state in
     let orders = c.args.self.now.orders in
     let beds : c.in_ok-beds.beds.items ≡ own_beds s.dossier =
@@ -113,10 +111,11 @@ returns-in_err-round-clause-falls g c =
     let same = ap (λ (t : State). boarding t orders c.args.ceilings.now)
     (put_lent s c.in_ok-beds.beds.items c.deref.result.now c.args.school 2000000000 beds c.requires.school
     c.deref.ensures.value) in
-    on_err _ (asked_named _ _ _ _ _ _ _ same c.in_err-round.ensures.asked).falls
+    asked_in_vain c.from_residual-in_err-round.result _ c.from_residual-in_err-round.ensures.1
+    (asked_named _ _ _ _ _ _ _ same c.in_err-round.ensures.asked)
 
-pub returns-in_err-coming-clause-falls : goal.returns-in_err-coming-clause-falls
-returns-in_err-coming-clause-falls g c =
+pub returns-in_err-coming-clause-asked : goal.returns-in_err-coming-clause-asked
+returns-in_err-coming-clause-asked g c =
     let s = c.args.self.now.state in
     let orders = c.args.self.now.orders in
     let beds : c.in_ok-beds.beds.items ≡ own_beds s.dossier =
@@ -124,4 +123,4 @@ returns-in_err-coming-clause-falls g c =
     let same = ap (λ (t : State). boarding t orders c.args.ceilings.now)
     (put_lent s c.in_ok-beds.beds.items c.deref.result.now c.args.school 2000000000 beds c.requires.school
     c.deref.ensures.value) in
-    on_err _ (falls_of_run _ _ _ _ (asked_named _ _ _ _ _ _ _ same c.in_ok-round.ensures.asked).told)
+    asked_found c.from_residual-in_err-coming.result (asked_named _ _ _ _ _ _ _ same c.in_ok-round.ensures.asked)
