@@ -3,6 +3,7 @@ ghost use Rattle.std.specs.Prelude.{◌≡◌, length, IfOk};
 ghost use Rattle.admit_core.specs.CallOrder.{AreCallOrders};
 ghost use Rattle.admit_core.specs.Ranges.{IsDay as IsDayNumber};
 
+use crate::campaigns::{campaign_of, grown_bars_of, least_beds_of, with_beds_of};
 use crate::tables::{call_orders_of, dossier_of};
 use crate::views::{push_wishes, school_id};
 use admit_core::{
@@ -37,7 +38,7 @@ fn push_pass(text: &mut String, dossier: &Dossier, pass: &PassRecord) -> Result<
 }
 
 /// Adds numbers to a line, and ends it.
-fn push_numbers(text: &mut String, numbers: &[u32]) -> Result<(), OutOfMemory> {
+pub(crate) fn push_numbers(text: &mut String, numbers: &[u32]) -> Result<(), OutOfMemory> {
     for number in numbers {
         write!(text, " {number}")?;
     }
@@ -92,7 +93,7 @@ fn refusal_text(alloc: Global, refusal: &Refusal) -> Result<String, OutOfMemory>
 }
 
 /// The lines of a day, or that of the answer that ended it.
-fn ended_text(
+pub(crate) fn ended_text(
     alloc: Global,
     dossier: &Dossier,
     ended: &Result<DayRecord, DayRefusal>,
@@ -123,7 +124,7 @@ fn pass_of(
 }
 
 /// The lines of the first pass of a dossier, under the schools' own ceilings.
-fn first_pass(alloc: Global, dossier: &Dossier) -> Result<String, OutOfMemory> {
+pub(crate) fn first_pass(alloc: Global, dossier: &Dossier) -> Result<String, OutOfMemory> {
     let orders = call_orders_of(alloc, dossier)?;
     let ceilings = own_ceilings(alloc, dossier)?;
     let mut state = DayState::begin(alloc, dossier)?;
@@ -260,6 +261,10 @@ fn answer_on(
         "pass" => first_pass(alloc, dossier),
         "run_day" if 1 <= number && number <= 366 => one_day(alloc, dossier, number),
         "run_dated_day" if 1 <= number && number <= 366 => one_dated_day(alloc, dossier, number),
+        "campaign" => campaign_of(alloc, dossier, number),
+        "with_beds" => with_beds_of(alloc, dossier, number),
+        "least_beds" => least_beds_of(alloc, dossier, number),
+        "grown_bars" => grown_bars_of(alloc, dossier, number),
         _ => answer_in(alloc, dossier, call, number),
     }
 }

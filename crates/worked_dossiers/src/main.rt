@@ -1,7 +1,7 @@
 //! Looks at worked dossiers, and prints a line for each thing that is looked at: whether it is as
 //! its file says. The bars fall in the plain and in the linked system of boarding schools side by
 //! side, which must answer alike from fall to fall; the tables of next mornings are made; chains of
-//! a first day are tested; and single calls of passes and days are made. Its words are the names of
+//! a first day are tested; and single calls of passes, days, campaigns and beds are made. Its words are the names of
 //! the files.
 //!
 //! `worked_dossiers dossiers.txt mornings.txt chains.txt calls.txt`
@@ -11,6 +11,7 @@ ghost use Rattle.std.specs.Prelude.{◌<◌};
 
 mod alike;
 mod calls;
+mod campaigns;
 mod chains;
 mod mornings;
 mod tables;
@@ -110,7 +111,16 @@ fn take_other(
             let seen = verdict_in(alloc, slots);
             Ok(Some(seen_line(alloc, name, section.line, &seen, text)?))
         }
-        "pass" | "run_day" | "run_dated_day" | "make_morning" | "auto_one" | "envy_list" => {
+        "pass"
+        | "run_day"
+        | "run_dated_day"
+        | "campaign"
+        | "with_beds"
+        | "least_beds"
+        | "grown_bars"
+        | "make_morning"
+        | "auto_one"
+        | "envy_list" => {
             let number = section.words.parse::<u32>().unwrap_or(0);
             let seen = called_in(alloc, slots, section.name, number);
             Ok(Some(seen_line(alloc, name, section.line, &seen, text)?))
