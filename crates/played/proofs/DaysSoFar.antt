@@ -1,6 +1,6 @@
 -- The days that were played so far.
 use Rattle.std.proofs.Common.{◌≡◌, ◌∙◌, ℕ, ◌+◌, ◌<◌, List, [], ◌∷◌, ◌++◌, Option, Result, Ok, Err, IsErrAnd}
-use Rattle.std.proofs.Common.{IsSomeAnd, ap, append_assoc, arith, false, length, refl, subst, sym}
+use Rattle.std.proofs.Common.{IsSomeAnd, ap, append_assoc, arith, false, inr, length, None, refl, subst, sym}
 use Rattle.std.proofs.lemmas.List.{append-nil, length-append}
 use Rattle.admit_core.specs.CallOrder.{AreCallOrders}
 use Rattle.admit_core.specs.Days.{Passes, ceilings_of, morning, unfit_on}
@@ -8,7 +8,7 @@ use Rattle.admit_core.specs.DossierRows.{DossierRows}
 use Rattle.admit_core.specs.declared.records.DayRecord.{DayRecord}
 use Rattle.admit_core.specs.declared.records.Terms.{Terms}
 use Rattle.admit_core.specs.declared.refusal.Refusal.{Refusal}
-use Rattle.desk_day.proofs.ToldPasses.{told_nothing as no_pass_told, told_to_the_end}
+use Rattle.desk_day.proofs.ToldPasses.{told_to_the_end}
 use Rattle.desk_day.specs.AnswersOn.{unfit_refusal}
 use Rattle.desk_day.specs.DeskStates.{DeskStates}
 use Rattle.desk_day.specs.RunDay.{IsDayDone}
@@ -101,16 +101,7 @@ breaks_same plan d old one other after told choice breaks =
     record {
       own = subst (λ c. P (other.told name) c) choice (subst (λ t. P t (one.choice name)) (told name) breaks.own);
       others = λ n none. breaks.others n none ∙ told n;
-    }
-
--- nobody was told of anything
-breaks_untold : (plan : Plan) (d : ℕ) (old : DeskStates) (before : Lent) → BreaksDay plan d old before before
-breaks_untold plan d old before =
-    let name = picker_on plan.who d in
-    record {
-      own = no_pass_told plan.orders (ceilings_of old.present.dossier d) d (before.choice name)
-          (morning plan.terms d old.present) (before.told name);
-      others = λ n none. refl;
+      fits = breaks.fits;
     }
 
 -- a day that came about broke off behind its last pass
@@ -132,6 +123,7 @@ breaks_behind plan d old before day new after next told =
       others = λ n none.
           told n ∙ ap (λ l. before.told n ++ l) (picked_none plan.who n day (other n none))
           ∙ append-nil (before.told n);
+      fits = subst (λ (n : ℕ). unfit_on plan.terms n old.present ≡ None) rule.number rule.is_day.fits;
     }
 
 -- memory ran out on the day after these
@@ -151,12 +143,6 @@ breaks_after plan d old before (first ∷ days) mid after lead breaks =
           (subst (λ (n : ℕ). BreaksDay plan n mid (lents_after plan.who days (lent_after plan.who first before)) after)
           at breaks),
     )
-
--- memory ran out before the first of some days
-pub breaks_before : (plan : Plan) (number : ℕ) (old : DeskStates) (before : Lent) → 0 < number
-    → BreaksDays plan number old before before
-breaks_before plan number old before some =
-    record { days = []; fewer = omega (arith, some); last = breaks_untold plan 1 old before }
 
 -- the dossier stays as it was
 pub lead_dossier : (plan : Plan) (d : ℕ) (old : DeskStates) (before : Lent) (days : List DayRecord)
@@ -216,7 +202,7 @@ module _ (plan : Plan) (old : DeskStates) (before : Lent) (played : ℕ) (days :
       → BreaksDays plan number old before after
   broken number after fewer breaks =
       let at : played + 1 ≡ 1 + length days = omega (arith, so_far.number) in
-      record {
+      inr (record {
         days = days;
         fewer = omega (arith, so_far.number, fewer);
         last = breaks_after plan 1 old before days mid after so_far.lead
@@ -225,7 +211,7 @@ module _ (plan : Plan) (old : DeskStates) (before : Lent) (played : ℕ) (days :
             (let name = picker_on plan.who (1 + length days) in
             so_far.back.choice name ∙ sym (choice_after plan.who days before name))
             (subst (λ (n : ℕ). BreaksDay plan n mid between after) at breaks));
-      }
+      })
 
   out_there : (number : ℕ) (kept : List DayRecord) (new : DeskStates) (after : Lent) → played < number
       → BreaksDay plan (played + 1) mid between after → AreBack between after

@@ -80,7 +80,7 @@ module _ (plan : Plan) (d : ℕ) (old new : DeskStates) (before after : Lent)
     done = tt;
     told = tt;
     unfit = ends.unfit;
-    undone = record { own = ends.undone; others = only.told };
+    undone = record { own = ends.undone; others = only.told; fits = ends.unfit };
     back = record {
       choice = choices ends.choice;
       told = more (told_more plan.orders (ceilings_of old.present.dossier d) d (before.choice name)

@@ -1,7 +1,7 @@
 -- The days of a campaign, each with the picker of the day, and what becomes of the days that are
 -- asked for.
 use Rattle.std.specs.Prelude.{◌≡◌, ℕ, ◌+◌, ◌<◌, false, List, [], ◌∷◌, ◌++◌, Option, IsSomeAnd, Result, Ok, Err, IfErr}
-use Rattle.std.specs.Prelude.{IfOk, length, ⊤}
+use Rattle.std.specs.Prelude.{◌⊎◌, IfOk, None, length, ⊤}
 use Rattle.admit_core.specs.CallOrder.{AreCallOrders}
 use Rattle.admit_core.specs.Days.{ceilings_of, first_evening, unfit_on}
 use Rattle.admit_core.specs.DossierRows.{DossierRows}
@@ -48,13 +48,14 @@ pub record IsNext (plan : Plan) (d : ℕ) (old : DeskStates) (before : Lent) (da
   pub evening : new.evening ≡ old.present
   pub dossier : new.present.dossier ≡ old.present.dossier
 
--- memory ran out on day d: its picker told of a beginning of what the day would have told it, and
--- the others told of nothing
+-- memory ran out on day d, each answer of which fits: its picker told of a beginning of what the
+-- day would have told it, and the others told of nothing
 pub record BreaksDay (plan : Plan) (d : ℕ) (old : DeskStates) (before after : Lent) : Type 0 where
   pub own : TellsOfDay plan.orders plan.terms d (moment_of plan d old before)
       (after.told (picker_on plan.who d))
   pub others : (name : PickerName) → is_named name (picker_on plan.who d) ≡ false
       → after.told name ≡ before.told name
+  pub fits : unfit_on plan.terms d old.present ≡ None
 
 -- what the pickers told on day d, which did not come about: nothing where an answer does not fit
 abbrev pub TellWhereUndone : Plan → ℕ → DeskStates → Lent → Lent → DayRefusal → Type 0
@@ -85,11 +86,16 @@ BreaksAfter plan d old before after (day ∷ days) =
     × BreaksAfter plan (d + 1) desk (lent_after plan.who day before) after days
 
 -- memory ran out on one of so many days from day 1 on
-pub record BreaksDays (plan : Plan) (number : ℕ) (old : DeskStates)
+pub record BreaksOneDay (plan : Plan) (number : ℕ) (old : DeskStates)
     (before after : Lent) : Type 0 where
   pub days : List DayRecord
   pub fewer : length days < number
   pub last : BreaksAfter plan 1 old before after days
+
+-- the same, or before the first of them
+abbrev pub BreaksDays : Plan → ℕ → DeskStates → Lent → Lent → Type 0
+BreaksDays plan number old before after =
+    Untold before after ⊎ BreaksOneDay plan number old before after
 
 -- after fewer days than so many, an answer of the next day does not fit
 pub record IsCutShort (terms : Option Terms) (number : ℕ) (days : List DayRecord) (evening : State)

@@ -1,9 +1,8 @@
-use Rattle.std.proofs.Common.{◌∙◌, List, Ok, Result, ap, refl, sym, true}
+use Rattle.std.proofs.Common.{◌∙◌, List, Ok, Result, ap, inl, refl, sym, true}
 use Rattle.admit_core.specs.declared.ranking.CallOrder.{CallOrder}
 use Rattle.admit_core.specs.declared.refusal.Refusal.{Refusal}
 use Rattle.desk_day.specs.DeskStates.{DeskStates}
 use Rattle.played.specs.LastDesks.{DeskBy, DeskLeft}
-use Rattle.played.proofs.DaysSoFar.{breaks_before}
 use Rattle.played.proofs.KeptDays.{all_kept, along_still, breaks_kept, cut_kept, kept_by_orders, where_broken}
 use Rattle.played.proofs.days.play_some.Goals as goal
 
@@ -33,7 +32,7 @@ returns-in-Err-Unfit-clause-ends g c =
 
 pub returns-in_err-begin-clause-ends : goal.returns-in_err-begin-clause-ends
 returns-in_err-begin-clause-ends g c =
-    where_broken _ _ _ c.from_residual.result c.from_residual.ensures.1 (breaks_before _ _ _ _ c.requires.some_day)
+    where_broken _ _ _ c.from_residual.result c.from_residual.ensures.1 (inl (λ name. refl))
 
 pub returns-clause-ends : goal.returns-clause-ends
 returns-clause-ends g c =
