@@ -1,8 +1,8 @@
 //! Looks at worked dossiers, and prints a line for each thing that is looked at: whether it is as
 //! its file says. The bars fall in the plain and in the linked system of boarding schools side by
 //! side, which must answer alike from fall to fall; the tables of next mornings are made; chains of
-//! a first day are tested; and single calls of passes, days, campaigns and beds are made. Its words are the names of
-//! the files.
+//! a first day are tested; and single calls of passes, days, campaigns and beds are made. Its words
+//! are the names of the files.
 //!
 //! `worked_dossiers dossiers.txt mornings.txt chains.txt calls.txt`
 #![tactic(auto)]
