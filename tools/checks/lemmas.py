@@ -138,7 +138,8 @@ def check_witnesses(tally: Tally) -> None:
 PROMISED = """| promise | contract |
 |---|---|
 | a clause | `round::pass`, `pass`, `laws` (`beds` of `KeepsPassLaws`) |
-| one that is not there | the same, `pazz` |
+| one that is not there | `round::pass`, `pazz` |
+| a row that names none | the same, `scholar_rate` |
 | a word for a call | **day**, `done` (`is_day`: `fits` of `IsDay`); **run**, `answers.outcome` |
 | a method and a type | `day_state::DayState::apply`, `result`; `bar_law::Falling`, `offers`; `Campaign::begins` |
 | no function | `round::offer` |
@@ -146,12 +147,11 @@ PROMISED = """| promise | contract |
 | call | answers | when | then |
 |---|---|---|---|
 | `read_slot` | `TooLarge` | `too_large` | `taken`, `gifen` |
-| | `Failed` | | `others` |
 """
 
 
 def check_promises(tally: Tally) -> None:
     """Of the names that a page cites, those are found that the crates do not have."""
     tally.begin("promises.py")
-    missing = ["line 4: pazz", "line 6: Campaign::begins", "line 7: round::offer", "line 11: gifen"]
+    missing = ["line 4: pazz", "line 5: scholar_rate", "line 7: Campaign::begins", "line 8: round::offer", "line 12: gifen"]
     tally.equal("what is not there", promises.unknown_names(PROMISED), missing)

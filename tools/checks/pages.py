@@ -1,8 +1,8 @@
 """The runs in the pages: what stands behind `$` is run, and must give the bytes that stand below it.
 
 What a page links to, file and heading, and what it names as a path of the repository, must be there; so must each
-clause that PROMISES cites (`promises.py`). A sentence of a page has at most 25 words. What README and LISEZMOI tell of
-a run is what MEASURED has of it.
+clause that PROMISES and FAILURES cite (`promises.py`). A sentence of a page has at most 25 words. What README and
+LISEZMOI tell of a run is what MEASURED has of it.
 
 A run stands in a fenced or an indented block. Each page has a copy of the repository to itself. A block begins at the
 page's own folder under `examples/`, else at the top; its lines go to one shell. Of an output, a last line `..` stands
@@ -130,7 +130,7 @@ def check_links(tally: Tally, name: Path) -> str:
     tally.equal(f"sentences of more than {MOST_WORDS} words", long_sentences(page), [])
     if name in TOLD_RUNS:
         check_figures(tally, page, TOLD_RUNS[name])
-    if name == promises.PAGE:
+    if name in promises.PAGES:
         unknown = promises.unknown_names(page)
         tally.check("the crates have what it cites", not unknown, "\n".join(unknown))
     return page
@@ -209,8 +209,8 @@ def main(given: list[str]) -> int:
         "Runs what stands behind $ in the README, in docs/ and in examples/, and compares what is printed with the "
         "bytes below it. They run with the program that PARCOURS names in the environment, else with the script "
         "parcours, which builds the program first where it is not built, and that takes long. What a page links to, or "
-        "names as a path, must be there, and so must the clauses that PROMISES cites. No sentence may have more than "
-        f"{MOST_WORDS} words. The last line is `N passed, M failed`.",
+        "names as a path, must be there, and so must the clauses that PROMISES and FAILURES cite. No sentence may have "
+        f"more than {MOST_WORDS} words. The last line is `N passed, M failed`.",
         "Status: 0 all passed, 1 some failed, 2 bad words.")
     words.add_argument("--links", action="store_true",
                        help="test links, paths and clauses alone, which needs no program")

@@ -1,9 +1,10 @@
-"""The names in docs/PROMISES.md: a function, and the clause of it that a promise cites, must stand in the crates.
+"""The names in docs/PROMISES.md and docs/FAILURES.md: a function, and the clause of it that a promise cites, must stand
+in the crates.
 
 A name in a contract cell is that of a crate, a function, a type, a path, or a definition of `specs`. Any other is of a
 clause of the functions that were named before it in the cell, or of a field of a record that their clauses come to.
-`the same` is what the row above names, **run** and **day** what the page says of them. What a sentence says of its
-clause no check tells.
+**run** and **day** are what the page says of them; no row is read by the one above it. What a sentence says of its clause
+no check tells.
 """
 
 import re
@@ -15,7 +16,7 @@ from pathlib import Path
 
 from .harness import TOP
 
-PAGE = Path("docs/PROMISES.md")
+PAGES = (Path("docs/PROMISES.md"), Path("docs/FAILURES.md"))
 WORDS_FOR_CALLS = {"run": ("replay_cli", "run"), "day": ("desk_day", "run_day_along")}
 # The first cell of the tables whose rows cite contracts. In the third kind the call stands in the first cell.
 PROMISED, ENDED, CALLED = ("promise", "law"), "exit", "call"
@@ -32,7 +33,7 @@ EXPORT = re.compile(r"\bpub use (\w+)::([^;]+);")
 DEFINITION = re.compile(r"(?:abbrev|unfoldable|record)(?: pub)? ([\w'-]+)|pub record ([\w'-]+)")
 FIELD = re.compile(r"^  (?:pub )?(\w+) :", re.M)
 WORD = re.compile(r"[\w'-]+")
-NAMED = re.compile(r"`([^`]+)`|([Tt]he same)\b|\*\*(run|day)\*\*")
+NAMED = re.compile(r"`([^`]+)`|\*\*(run|day)\*\*")
 CELLS = re.compile(r"(?<!\\)\|")
 
 
@@ -226,12 +227,12 @@ def is_no_name(text: str) -> bool:
 def contract_in(header: str, cells: list[str]) -> str:
     """What a row of a table of this header cites."""
     if header == CALLED:
-        return " ".join([cells[0] or "the same", *cells[2:]])
+        return " ".join([cells[0], *cells[2:]])
     return f"**run** {' '.join(cells[1:])}" if header == ENDED else cells[-1]
 
 
-def rows_in(page: str) -> Iterator[tuple[int, str, str]]:
-    """The rows that cite contracts: their line in the page, the first cell of their header, and what they cite."""
+def rows_in(page: str) -> Iterator[tuple[int, str]]:
+    """The rows that cite contracts: their line in the page, and what they cite."""
     header = ""
     for number, line in enumerate(page.splitlines(), start=1):
         cells = [cell.strip() for cell in CELLS.split(line)[1:-1]]
@@ -240,21 +241,16 @@ def rows_in(page: str) -> Iterator[tuple[int, str, str]]:
         elif not header:
             header = cells[0] or "none"
         elif header in (*PROMISED, ENDED, CALLED) and set(line) - set("|- "):
-            yield number, header, contract_in(header, cells)
+            yield number, contract_in(header, cells)
 
 
 def unknown_names(page: str) -> list[str]:
     """What the page cites and the crates do not have, each with its line."""
     crates = crates_here()
     unknown = []
-    scope = Scope(crates)
-    for number, header, cited in rows_in(page):
-        names = NAMED.findall(cited)
-        if not any(same for _, same, _ in names):
-            crate = scope.crate if header != CALLED else ""
-            scope = Scope(crates)
-            scope.crate = crate
-        for name, _, word in names:
+    for number, cited in rows_in(page):
+        scope = Scope(crates)
+        for name, word in NAMED.findall(cited):
             if word:
                 scope.crate, function = WORDS_FOR_CALLS[word]
                 scope.add(crates.functions_of(scope.crate, function))
