@@ -130,40 +130,23 @@ impl WrittenRow for WishRow {
     }
 
     fn push(&self, text: &mut String) -> Result<(), AllocError> {
-        let (id, candidate) = (Number(self.id), Number(self.candidate));
-        let (programme, preference) = (Number(self.programme), Number(self.preference));
-        let comma = Text(",");
-        match self.school {
-            Some(school) => {
-                let school = Number(school);
-                let pieces = [
-                    id,
-                    comma,
-                    candidate,
-                    comma,
-                    programme,
-                    comma,
-                    school,
-                    comma,
-                    preference,
-                    Text("\n"),
-                ];
-                push_all(text, &pieces)
-            }
-            None => {
-                let pieces = [
-                    id,
-                    comma,
-                    candidate,
-                    comma,
-                    programme,
-                    Text(",,"),
-                    preference,
-                    Text("\n"),
-                ];
-                push_all(text, &pieces)
-            }
-        }
+        let school = match self.school {
+            Some(school) => Number(school),
+            None => Text(""),
+        };
+        let pieces = [
+            Number(self.id),
+            Text(","),
+            Number(self.candidate),
+            Text(","),
+            Number(self.programme),
+            Text(","),
+            school,
+            Text(","),
+            Number(self.preference),
+            Text("\n"),
+        ];
+        push_all(text, &pieces)
     }
 }
 
