@@ -30,7 +30,7 @@ use Rattle.campaign_laws.specs.Witnesses.{AutomaticEveningsAreStableWitness, IsM
 use Rattle.campaign_laws.specs.Witnesses.{StableMatchingsAreNoWorseWitness}
 use Rattle.campaign_laws.proofs.AutomaticDay.{stable_matchings_are_no_worse}
 use Rattle.campaign_laws.proofs.StableEvening.{automatic_evenings_are_stable}
-use Rattle.campaign_laws.proofs.WorkedCampaign.{end_by}
+use Rattle.campaign_laws.proofs.WorkedCampaign.{day_by, end_by}
 
 faultless : first_fault crossed_rows ≡ None
 unfolding first_after
@@ -160,13 +160,7 @@ days_hold : Days None crossed_orders 1 (first_evening crossed) crossed_days cros
 days_hold = (
   crossed_evening,
   refl,
-  record {
-    lapsed = refl;
-    fits = refl;
-    passes = (end_by _ _ _ _ _ _ (record { are_falls = tt; settled = refl }) refl refl refl refl, refl, refl);
-    left = refl;
-    free = refl;
-  },
+  day_by _ _ _ _ _ _ (end_by _ _ _ _ _ _ (record { are_falls = tt; settled = refl }) refl refl refl refl, refl, refl) refl refl refl refl,
   refl,
 )
 

@@ -4,7 +4,7 @@ use Rattle.admit_core.specs.Faults.{first_after}
 use Rattle.admit_core.proofs.ByPlaces.{by_places}
 use Rattle.campaign_laws.specs.NotPromised.{BedMoreCanPlaceFewer, SeatMoreCanPlaceFewer, BedMoreCanLowerBar}
 use Rattle.campaign_laws.specs.NotPromised.{BetterRankCanHarm, LeavingOutCanPay, SeatMoreCanEmpty}
-use Rattle.campaign_laws.proofs.WorkedCampaign.{end_by}
+use Rattle.campaign_laws.proofs.WorkedCampaign.{day_by, end_by}
 
 pub seat_more_can_empty : SeatMoreCanEmpty
 unfolding first_after
@@ -16,15 +16,7 @@ seat_more_can_empty = (
     are_days = (
       _,
       refl,
-      record {
-        lapsed = refl;
-        fits = refl;
-        passes =
-            (end_by _ _ _ _ _ _ (record { are_falls = tt; settled = refl }) refl refl refl refl, refl, refl);
-        left =
-            refl;
-        free = refl;
-      },
+      day_by _ _ _ _ _ _ (end_by _ _ _ _ _ _ (record { are_falls = tt; settled = refl }) refl refl refl refl, refl, refl) refl refl refl refl,
       refl,
     );
   },
@@ -35,18 +27,12 @@ seat_more_can_empty = (
     are_days = (
       _,
       refl,
-      record {
-        lapsed = refl;
-        fits = refl;
-        passes = (
-          end_by _ _ _ _ _ _ (record { are_falls = (refl, refl, (refl, refl, tt)); settled = refl }) refl refl refl
-              refl,
-          refl,
-          refl,
-        );
-        left = refl;
-        free = refl;
-      },
+      day_by _ _ _ _ _ _ (
+        end_by _ _ _ _ _ _ (record { are_falls = (refl, refl, (refl, refl, tt)); settled = refl }) refl refl refl
+            refl,
+        refl,
+        refl,
+      ) refl refl refl refl,
       refl,
     );
   },
@@ -64,15 +50,7 @@ leaving_out_can_pay = (
     are_days = (
       _,
       refl,
-      record {
-        lapsed = refl;
-        fits = refl;
-        passes =
-            (end_by _ _ _ _ _ _ (record { are_falls = tt; settled = refl }) refl refl refl refl, refl, refl);
-        left =
-            refl;
-        free = refl;
-      },
+      day_by _ _ _ _ _ _ (end_by _ _ _ _ _ _ (record { are_falls = tt; settled = refl }) refl refl refl refl, refl, refl) refl refl refl refl,
       refl,
     );
   },
@@ -85,18 +63,11 @@ leaving_out_can_pay = (
     are_days = (
       _,
       refl,
-      record {
-        lapsed = refl;
-        fits = refl;
-        passes = (
-          end_by _ _ _ _ _ _ (record { are_falls = tt; settled = refl }) refl refl refl refl,
-          refl,
-          (end_by _ _ _ _ _ _ (record { are_falls = tt; settled = refl }) refl refl refl refl, refl, refl),
-        );
-        left =
-            refl;
-        free = refl;
-      },
+      day_by _ _ _ _ _ _ (
+        end_by _ _ _ _ _ _ (record { are_falls = tt; settled = refl }) refl refl refl refl,
+        refl,
+        (end_by _ _ _ _ _ _ (record { are_falls = tt; settled = refl }) refl refl refl refl, refl, refl),
+      ) refl refl refl refl,
       refl,
     );
   },
@@ -114,18 +85,11 @@ better_rank_can_harm = (
     are_days = (
       _,
       refl,
-      record {
-        lapsed = refl;
-        fits = refl;
-        passes = (
-          end_by _ _ _ _ _ _ (record { are_falls = tt; settled = refl }) refl refl refl refl,
-          refl,
-          (end_by _ _ _ _ _ _ (record { are_falls = tt; settled = refl }) refl refl refl refl, refl, refl),
-        );
-        left =
-            refl;
-        free = refl;
-      },
+      day_by _ _ _ _ _ _ (
+        end_by _ _ _ _ _ _ (record { are_falls = tt; settled = refl }) refl refl refl refl,
+        refl,
+        (end_by _ _ _ _ _ _ (record { are_falls = tt; settled = refl }) refl refl refl refl, refl, refl),
+      ) refl refl refl refl,
       refl,
     );
   },
@@ -138,15 +102,7 @@ better_rank_can_harm = (
     are_days = (
       _,
       refl,
-      record {
-        lapsed = refl;
-        fits = refl;
-        passes =
-            (end_by _ _ _ _ _ _ (record { are_falls = tt; settled = refl }) refl refl refl refl, refl, refl);
-        left =
-            refl;
-        free = refl;
-      },
+      day_by _ _ _ _ _ _ (end_by _ _ _ _ _ _ (record { are_falls = tt; settled = refl }) refl refl refl refl, refl, refl) refl refl refl refl,
       refl,
     );
   },
@@ -162,17 +118,11 @@ bed_more_can_lower_bar = (
     are_days = (
       _,
       refl,
-      record {
-        lapsed = refl;
-        fits = refl;
-        passes = (
-          end_by _ _ _ _ _ _ (record { are_falls = (refl, refl, tt); settled = refl }) refl refl refl refl,
-          refl,
-          refl,
-        );
-        left = refl;
-        free = refl;
-      },
+      day_by _ _ _ _ _ _ (
+        end_by _ _ _ _ _ _ (record { are_falls = (refl, refl, tt); settled = refl }) refl refl refl refl,
+        refl,
+        refl,
+      ) refl refl refl refl,
       refl,
     );
   },
@@ -183,21 +133,15 @@ bed_more_can_lower_bar = (
     are_days = (
       _,
       refl,
-      record {
-        lapsed = refl;
-        fits = refl;
-        passes = (
-          end_by _ _ _ _ _ _ (record { are_falls = tt; settled = refl }) refl refl refl refl,
+      day_by _ _ _ _ _ _ (
+        end_by _ _ _ _ _ _ (record { are_falls = tt; settled = refl }) refl refl refl refl,
+        refl,
+        (
+          end_by _ _ _ _ _ _ (record { are_falls = (refl, refl, tt); settled = refl }) refl refl refl refl,
           refl,
-          (
-            end_by _ _ _ _ _ _ (record { are_falls = (refl, refl, tt); settled = refl }) refl refl refl refl,
-            refl,
-            refl,
-          ),
-        );
-        left = refl;
-        free = refl;
-      },
+          refl,
+        ),
+      ) refl refl refl refl,
       refl,
     );
   },
@@ -213,15 +157,7 @@ seat_more_can_place_fewer = (
     are_days = (
       _,
       refl,
-      record {
-        lapsed = refl;
-        fits = refl;
-        passes =
-            (end_by _ _ _ _ _ _ (record { are_falls = tt; settled = refl }) refl refl refl refl, refl, refl);
-        left =
-            refl;
-        free = refl;
-      },
+      day_by _ _ _ _ _ _ (end_by _ _ _ _ _ _ (record { are_falls = tt; settled = refl }) refl refl refl refl, refl, refl) refl refl refl refl,
       refl,
     );
   },
@@ -232,17 +168,11 @@ seat_more_can_place_fewer = (
     are_days = (
       _,
       refl,
-      record {
-        lapsed = refl;
-        fits = refl;
-        passes = (
-          end_by _ _ _ _ _ _ (record { are_falls = (refl, refl, tt); settled = refl }) refl refl refl refl,
-          refl,
-          refl,
-        );
-        left = refl;
-        free = refl;
-      },
+      day_by _ _ _ _ _ _ (
+        end_by _ _ _ _ _ _ (record { are_falls = (refl, refl, tt); settled = refl }) refl refl refl refl,
+        refl,
+        refl,
+      ) refl refl refl refl,
       refl,
     );
   },
@@ -258,17 +188,11 @@ bed_more_can_place_fewer = (
     are_days = (
       _,
       refl,
-      record {
-        lapsed = refl;
-        fits = refl;
-        passes = (
-          end_by _ _ _ _ _ _ (record { are_falls = (refl, refl, tt); settled = refl }) refl refl refl refl,
-          refl,
-          refl,
-        );
-        left = refl;
-        free = refl;
-      },
+      day_by _ _ _ _ _ _ (
+        end_by _ _ _ _ _ _ (record { are_falls = (refl, refl, tt); settled = refl }) refl refl refl refl,
+        refl,
+        refl,
+      ) refl refl refl refl,
       refl,
     );
   },
@@ -279,15 +203,7 @@ bed_more_can_place_fewer = (
     are_days = (
       _,
       refl,
-      record {
-        lapsed = refl;
-        fits = refl;
-        passes =
-            (end_by _ _ _ _ _ _ (record { are_falls = tt; settled = refl }) refl refl refl refl, refl, refl);
-        left =
-            refl;
-        free = refl;
-      },
+      day_by _ _ _ _ _ _ (end_by _ _ _ _ _ _ (record { are_falls = tt; settled = refl }) refl refl refl refl, refl, refl) refl refl refl refl,
       refl,
     );
   },

@@ -8,7 +8,7 @@ use Rattle.admit_core.specs.WorkedRows.{marked}
 use Rattle.admit_core.proofs.ByPlaces.{by_places}
 use Rattle.campaign_laws.specs.NotPromised.{AcceptingCanCost, AcceptingEarlierCanCost, AnswersCannotBeSplit}
 use Rattle.campaign_laws.specs.NotPromised.{QuittingCanCost, WithdrawingCanCost, if_accepted_on, if_split}
-use Rattle.campaign_laws.proofs.WorkedCampaign.{end_by}
+use Rattle.campaign_laws.proofs.WorkedCampaign.{day_by, end_by}
 
 pub quitting_can_cost : QuittingCanCost
 unfolding first_after
@@ -20,15 +20,7 @@ quitting_can_cost = (
     are_days = (
       _,
       refl,
-      record {
-        lapsed = refl;
-        fits = refl;
-        passes =
-            (end_by _ _ _ _ _ _ (record { are_falls = tt; settled = refl }) refl refl refl refl, refl, refl);
-        left =
-            refl;
-        free = refl;
-      },
+      day_by _ _ _ _ _ _ (end_by _ _ _ _ _ _ (record { are_falls = tt; settled = refl }) refl refl refl refl, refl, refl) refl refl refl refl,
       refl,
     );
   },
@@ -39,17 +31,11 @@ quitting_can_cost = (
     are_days = (
       _,
       refl,
-      record {
-        lapsed = refl;
-        fits = refl;
-        passes = (
-          end_by _ _ _ _ _ _ (record { are_falls = (refl, refl, tt); settled = refl }) refl refl refl refl,
-          refl,
-          refl,
-        );
-        left = refl;
-        free = refl;
-      },
+      day_by _ _ _ _ _ _ (
+        end_by _ _ _ _ _ _ (record { are_falls = (refl, refl, tt); settled = refl }) refl refl refl refl,
+        refl,
+        refl,
+      ) refl refl refl refl,
       refl,
     );
   },
@@ -65,15 +51,7 @@ accepting_can_cost = (
     are_days = (
       _,
       refl,
-      record {
-        lapsed = refl;
-        fits = refl;
-        passes =
-            (end_by _ _ _ _ _ _ (record { are_falls = tt; settled = refl }) refl refl refl refl, refl, refl);
-        left =
-            refl;
-        free = refl;
-      },
+      day_by _ _ _ _ _ _ (end_by _ _ _ _ _ _ (record { are_falls = tt; settled = refl }) refl refl refl refl, refl, refl) refl refl refl refl,
       refl,
     );
   },
@@ -84,15 +62,7 @@ accepting_can_cost = (
     are_days = (
       _,
       refl,
-      record {
-        lapsed = refl;
-        fits = refl;
-        passes =
-            (end_by _ _ _ _ _ _ (record { are_falls = tt; settled = refl }) refl refl refl refl, refl, refl);
-        left =
-            refl;
-        free = refl;
-      },
+      day_by _ _ _ _ _ _ (end_by _ _ _ _ _ _ (record { are_falls = tt; settled = refl }) refl refl refl refl, refl, refl) refl refl refl refl,
       refl,
     );
   },
@@ -108,17 +78,11 @@ withdrawing_can_cost = (
     are_days = (
       _,
       refl,
-      record {
-        lapsed = refl;
-        fits = refl;
-        passes = (
-          end_by _ _ _ _ _ _ (record { are_falls = (refl, refl, tt); settled = refl }) refl refl refl refl,
-          refl,
-          refl,
-        );
-        left = refl;
-        free = refl;
-      },
+      day_by _ _ _ _ _ _ (
+        end_by _ _ _ _ _ _ (record { are_falls = (refl, refl, tt); settled = refl }) refl refl refl refl,
+        refl,
+        refl,
+      ) refl refl refl refl,
       refl,
     );
   },
@@ -129,15 +93,7 @@ withdrawing_can_cost = (
     are_days = (
       _,
       refl,
-      record {
-        lapsed = refl;
-        fits = refl;
-        passes =
-            (end_by _ _ _ _ _ _ (record { are_falls = tt; settled = refl }) refl refl refl refl, refl, refl);
-        left =
-            refl;
-        free = refl;
-      },
+      day_by _ _ _ _ _ _ (end_by _ _ _ _ _ _ (record { are_falls = tt; settled = refl }) refl refl refl refl, refl, refl) refl refl refl refl,
       refl,
     );
   },
@@ -157,27 +113,11 @@ accepting_earlier_can_cost = (
             marked Offered 1 1 ∷ marked Accepted 1 0 ∷ marked Waiting 0 0 ∷ [];
       },
       refl,
-      record {
-        lapsed = refl;
-        fits = refl;
-        passes =
-            (end_by _ _ _ _ _ _ (record { are_falls = tt; settled = refl }) refl refl refl refl, refl, refl);
-        left =
-            refl;
-        free = refl;
-      },
+      day_by _ _ _ _ _ _ (end_by _ _ _ _ _ _ (record { are_falls = tt; settled = refl }) refl refl refl refl, refl, refl) refl refl refl refl,
       (
         _,
         refl,
-        record {
-          lapsed = refl;
-          fits = refl;
-          passes =
-              (end_by _ _ _ _ _ _ (record { are_falls = tt; settled = refl }) refl refl refl refl, refl, refl);
-          left =
-              refl;
-          free = refl;
-        },
+        day_by _ _ _ _ _ _ (end_by _ _ _ _ _ _ (record { are_falls = tt; settled = refl }) refl refl refl refl, refl, refl) refl refl refl refl,
         refl,
       ),
     );
@@ -193,27 +133,11 @@ accepting_earlier_can_cost = (
             marked Offered 1 1 ∷ marked Offered 0 0 ∷ marked Waiting 0 0 ∷ [];
       },
       refl,
-      record {
-        lapsed = refl;
-        fits = refl;
-        passes =
-            (end_by _ _ _ _ _ _ (record { are_falls = tt; settled = refl }) refl refl refl refl, refl, refl);
-        left =
-            refl;
-        free = refl;
-      },
+      day_by _ _ _ _ _ _ (end_by _ _ _ _ _ _ (record { are_falls = tt; settled = refl }) refl refl refl refl, refl, refl) refl refl refl refl,
       (
         _,
         refl,
-        record {
-          lapsed = refl;
-          fits = refl;
-          passes =
-              (end_by _ _ _ _ _ _ (record { are_falls = tt; settled = refl }) refl refl refl refl, refl, refl);
-          left =
-              refl;
-          free = refl;
-        },
+        day_by _ _ _ _ _ _ (end_by _ _ _ _ _ _ (record { are_falls = tt; settled = refl }) refl refl refl refl, refl, refl) refl refl refl refl,
         refl,
       ),
     );
@@ -236,15 +160,7 @@ answers_cannot_be_split = (
             marked Waiting 0 0 ∷ marked Offered 1 1 ∷ marked Offered 1 1 ∷ [];
       },
       refl,
-      record {
-        lapsed = refl;
-        fits = refl;
-        passes =
-            (end_by _ _ _ _ _ _ (record { are_falls = tt; settled = refl }) refl refl refl refl, refl, refl);
-        left =
-            refl;
-        free = refl;
-      },
+      day_by _ _ _ _ _ _ (end_by _ _ _ _ _ _ (record { are_falls = tt; settled = refl }) refl refl refl refl, refl, refl) refl refl refl refl,
       (
         record {
           dossier =
@@ -254,27 +170,11 @@ answers_cannot_be_split = (
               marked Offered 2 1 ∷ marked Accepted 2 0 ∷ marked HasQuit 2 0 ∷ [];
         },
         refl,
-        record {
-          lapsed = refl;
-          fits = refl;
-          passes =
-              (end_by _ _ _ _ _ _ (record { are_falls = tt; settled = refl }) refl refl refl refl, refl, refl);
-          left =
-              refl;
-          free = refl;
-        },
+        day_by _ _ _ _ _ _ (end_by _ _ _ _ _ _ (record { are_falls = tt; settled = refl }) refl refl refl refl, refl, refl) refl refl refl refl,
         (
           _,
           refl,
-          record {
-            lapsed = refl;
-            fits = refl;
-            passes =
-                (end_by _ _ _ _ _ _ (record { are_falls = tt; settled = refl }) refl refl refl refl, refl, refl);
-            left =
-                refl;
-            free = refl;
-          },
+          day_by _ _ _ _ _ _ (end_by _ _ _ _ _ _ (record { are_falls = tt; settled = refl }) refl refl refl refl, refl, refl) refl refl refl refl,
           refl,
         ),
       ),
@@ -293,15 +193,7 @@ answers_cannot_be_split = (
             marked Waiting 0 0 ∷ marked Offered 1 1 ∷ marked Offered 1 1 ∷ [];
       },
       refl,
-      record {
-        lapsed = refl;
-        fits = refl;
-        passes =
-            (end_by _ _ _ _ _ _ (record { are_falls = tt; settled = refl }) refl refl refl refl, refl, refl);
-        left =
-            refl;
-        free = refl;
-      },
+      day_by _ _ _ _ _ _ (end_by _ _ _ _ _ _ (record { are_falls = tt; settled = refl }) refl refl refl refl, refl, refl) refl refl refl refl,
       (
         record {
           dossier =
@@ -311,27 +203,11 @@ answers_cannot_be_split = (
               marked Offered 2 1 ∷ marked Offered 1 1 ∷ marked HasQuit 2 0 ∷ [];
         },
         refl,
-        record {
-          lapsed = refl;
-          fits = refl;
-          passes =
-              (end_by _ _ _ _ _ _ (record { are_falls = tt; settled = refl }) refl refl refl refl, refl, refl);
-          left =
-              refl;
-          free = refl;
-        },
+        day_by _ _ _ _ _ _ (end_by _ _ _ _ _ _ (record { are_falls = tt; settled = refl }) refl refl refl refl, refl, refl) refl refl refl refl,
         (
           _,
           refl,
-          record {
-            lapsed = refl;
-            fits = refl;
-            passes =
-                (end_by _ _ _ _ _ _ (record { are_falls = tt; settled = refl }) refl refl refl refl, refl, refl);
-            left =
-                refl;
-            free = refl;
-          },
+          day_by _ _ _ _ _ _ (end_by _ _ _ _ _ _ (record { are_falls = tt; settled = refl }) refl refl refl refl, refl, refl) refl refl refl refl,
           refl,
         ),
       ),

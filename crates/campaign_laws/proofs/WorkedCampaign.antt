@@ -1,14 +1,18 @@
 -- The worked campaign, by computation.
-use Rattle.std.proofs.Common.{ℕ, ◌≡◌, List, [], ◌∷◌, None, refl}
+use Rattle.std.proofs.Common.{ℕ, ◌≡◌, List, [], ◌∷◌, Option, None, length, map, refl}
+use Rattle.std.specs.List.{range_with_len}
 use Rattle.admit_core.specs.declared.ranking.CallOrder.{CallOrder}
+use Rattle.admit_core.specs.declared.records.DayRecord.{DayRecord}
 use Rattle.admit_core.specs.declared.records.PassEnd.{PassEnd}
+use Rattle.admit_core.specs.declared.records.Terms.{Terms}
 use Rattle.admit_core.specs.Boarding.{boarding}
-use Rattle.admit_core.specs.Days.{Days, IsDay, IsPassEnd, ceilings_of, changes, closing, freed_after, offered}
+use Rattle.admit_core.specs.Days.{Days, IsDay, IsPassEnd, Passes, ceilings_of, changes, closing, freed_after, offered}
+use Rattle.admit_core.specs.Days.{lapsed_on, morning, unfit_on}
 use Rattle.admit_core.specs.CallOrder.{AreCallOrders}
 use Rattle.admit_core.specs.Days.{first_evening}
 use Rattle.admit_core.specs.Falls.{IsRunOfFalls, bars_after}
 use Rattle.admit_core.specs.Proposals.{proposed}
-use Rattle.admit_core.specs.State.{State}
+use Rattle.admit_core.specs.State.{State, free_beds, seats_left}
 use Rattle.admit_core.specs.WorkedRows.{small_dossier}
 use Rattle.admit_core.proofs.ByPlaces.{by_places}
 use Rattle.admit_core.proofs.Rows.{passes_with}
@@ -27,45 +31,37 @@ pub end_by : (s : State) (orders : List CallOrder) (ceilings : List ℕ) (day k 
 end_by s orders ceilings day k end run bars offers autos freed =
     record { pass = passes_with s orders ceilings end.pass run bars offers; autos = autos; freed = freed }
 
+-- a day, by its passes: what lapses, the answers and what is left are computed
+pub day_by : (terms : Option Terms) (orders : List CallOrder) (ceilings : List ℕ) (old : State) (day : DayRecord)
+    (evening : State) → Passes orders ceilings day.day 1 (morning terms day.day old) day.passes evening
+    → day.lapsed ≡ lapsed_on terms day.day old → unfit_on terms day.day old ≡ None
+    → day.left ≡ map (seats_left evening) (range_with_len 0 (length evening.dossier.programmes))
+    → day.free ≡ map (free_beds evening) (range_with_len 0 (length evening.dossier.schools))
+    → IsDay terms orders ceilings old day evening
+day_by terms orders ceilings old day evening passes lapsed fits left free =
+    record { lapsed = lapsed; fits = fits; passes = passes; left = left; free = free }
+
 pub first_holds : IsDay next_day summer_orders (ceilings_of summer 1) before_summer first_day first_night
-first_holds = record {
-  lapsed = refl;
-  fits = refl;
-  passes = (
-    end_by _ summer_orders (9 ∷ []) _ _ _ (record { are_falls = (refl, refl, tt); settled = refl }) refl refl
-        refl refl,
-    refl,
-    refl,
-  );
-  left = refl;
-  free = refl;
-}
+first_holds = day_by _ _ _ _ _ _ (
+  end_by _ summer_orders (9 ∷ []) _ _ _ (record { are_falls = (refl, refl, tt); settled = refl }) refl refl
+      refl refl,
+  refl,
+  refl,
+) refl refl refl refl
 
 pub second_holds : IsDay next_day summer_orders (ceilings_of summer 2) first_night second_day second_night
-second_holds = record {
-  lapsed = refl;
-  fits = refl;
-  passes = (
-    end_by _ summer_orders (9 ∷ []) _ _ _ (record { are_falls = tt; settled = refl }) refl refl refl refl,
-    refl,
-    refl,
-  );
-  left = refl;
-  free = refl;
-}
+second_holds = day_by _ _ _ _ _ _ (
+  end_by _ summer_orders (9 ∷ []) _ _ _ (record { are_falls = tt; settled = refl }) refl refl refl refl,
+  refl,
+  refl,
+) refl refl refl refl
 
 pub third_holds : IsDay next_day summer_orders (ceilings_of summer 3) second_night third_day third_night
-third_holds = record {
-  lapsed = refl;
-  fits = refl;
-  passes = (
-    end_by _ summer_orders (9 ∷ []) _ _ _ (record { are_falls = tt; settled = refl }) refl refl refl refl,
-    refl,
-    refl,
-  );
-  left = refl;
-  free = refl;
-}
+third_holds = day_by _ _ _ _ _ _ (
+  end_by _ summer_orders (9 ∷ []) _ _ _ (record { are_falls = tt; settled = refl }) refl refl refl refl,
+  refl,
+  refl,
+) refl refl refl refl
 
 pub summer_holds : Days next_day summer_orders 1 before_summer summer_days third_night
 summer_holds =
@@ -78,17 +74,11 @@ pub small_holds : Days None small_orders 2 (first_evening small_dossier) small_d
 small_holds = (
   small_night,
   refl,
-  record {
-    lapsed = refl;
-    fits = refl;
-    passes = (
-      end_by _ small_orders (3 ∷ []) _ _ _ (record { are_falls = tt; settled = refl }) refl refl refl refl,
-      refl,
-      refl,
-    );
-    left = refl;
-    free = refl;
-  },
+  day_by _ _ _ _ _ _ (
+    end_by _ small_orders (3 ∷ []) _ _ _ (record { are_falls = tt; settled = refl }) refl refl refl refl,
+    refl,
+    refl,
+  ) refl refl refl refl,
   refl,
 )
 
@@ -99,16 +89,10 @@ pub small_next_holds : Days None small_orders 3 small_night (small_next ∷ []) 
 small_next_holds = (
   small_night,
   refl,
-  record {
-    lapsed = refl;
-    fits = refl;
-    passes = (
-      end_by _ small_orders (3 ∷ []) _ _ _ (record { are_falls = tt; settled = refl }) refl refl refl refl,
-      refl,
-      refl,
-    );
-    left = refl;
-    free = refl;
-  },
+  day_by _ _ _ _ _ _ (
+    end_by _ small_orders (3 ∷ []) _ _ _ (record { are_falls = tt; settled = refl }) refl refl refl refl,
+    refl,
+    refl,
+  ) refl refl refl refl,
   refl,
 )

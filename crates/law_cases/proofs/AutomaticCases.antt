@@ -21,6 +21,7 @@ use Rattle.law_cases.specs.AutomaticDays.{QuietDaysEndFairWitness, WaitingIsFair
 use Rattle.law_cases.specs.AutomaticDays.{automatic_evening, ranked_plainly, three_in_order, two_passes}
 use Rattle.law_cases.proofs.Tested.{all_by}
 use Rattle.law_cases.proofs.Valid.{valid_by}
+use Rattle.campaign_laws.proofs.WorkedCampaign.{day_by}
 
 abbrev start : State
 start = first_evening ranked_plainly
@@ -153,10 +154,7 @@ days = (
   (
     automatic_evening,
     refl,
-    record {
-      lapsed = refl;
-      fits = refl;
-      passes = (
+    day_by _ _ _ _ _ _ (
         record {
           pass = passes_with _ three_in_order [] _ (record { are_falls = tt; settled = refl }) refl refl;
           autos = refl;
@@ -164,10 +162,7 @@ days = (
         },
         refl,
         refl,
-      );
-      left = refl;
-      free = refl;
-    },
+      ) refl refl refl refl,
     refl,
   ),
 )

@@ -21,7 +21,7 @@ use Rattle.campaign_laws.specs.WorkedCampaign.{before_summer, next_day, summer_d
 use Rattle.campaign_laws.specs.WorkedCampaign.{thirteenth}
 use Rattle.campaign_laws.proofs.PassedOver.{without_school}
 use Rattle.campaign_laws.proofs.Walks.{all_of}
-use Rattle.campaign_laws.proofs.WorkedCampaign.{end_by, summer_holds}
+use Rattle.campaign_laws.proofs.WorkedCampaign.{day_by, end_by, summer_holds}
 use Rattle.change_laws.proofs.StruckCampaign.{unbarred_wish_may_be_struck_out}
 use Rattle.change_laws.specs.Kinder.{IsKinder, IsSilent, giver}
 use Rattle.change_laws.proofs.KinderDays.{kindness_hurts_nobody}
@@ -45,23 +45,11 @@ stay_holds : Days None three_orders 1 (first_evening all_stay) stay_days stay_ev
 stay_holds = (
   stay_evening,
   refl,
-  record {
-    lapsed = refl;
-    fits = refl;
-    passes = (end_by _ _ _ _ _ _ (record { are_falls = tt; settled = refl }) refl refl refl refl, refl, refl);
-    left = refl;
-    free = refl;
-  },
+  day_by _ _ _ _ _ _ (end_by _ _ _ _ _ _ (record { are_falls = tt; settled = refl }) refl refl refl refl, refl, refl) refl refl refl refl,
   (
     stay_evening,
     refl,
-    record {
-      lapsed = refl;
-      fits = refl;
-      passes = (end_by _ _ _ _ _ _ (record { are_falls = tt; settled = refl }) refl refl refl refl, refl, refl);
-      left = refl;
-      free = refl;
-    },
+    day_by _ _ _ _ _ _ (end_by _ _ _ _ _ _ (record { are_falls = tt; settled = refl }) refl refl refl refl, refl, refl) refl refl refl refl,
     refl,
   ),
 )
@@ -70,23 +58,11 @@ quit_holds : Days None three_orders 1 (first_evening one_quits) quit_days quit_e
 quit_holds = (
   record stay_evening { dossier = one_quits },
   refl,
-  record {
-    lapsed = refl;
-    fits = refl;
-    passes = (end_by _ _ _ _ _ _ (record { are_falls = tt; settled = refl }) refl refl refl refl, refl, refl);
-    left = refl;
-    free = refl;
-  },
+  day_by _ _ _ _ _ _ (end_by _ _ _ _ _ _ (record { are_falls = tt; settled = refl }) refl refl refl refl, refl, refl) refl refl refl refl,
   (
     quit_evening,
     refl,
-    record {
-      lapsed = refl;
-      fits = refl;
-      passes = (end_by _ _ _ _ _ _ (record { are_falls = tt; settled = refl }) refl refl refl refl, refl, refl);
-      left = refl;
-      free = refl;
-    },
+    day_by _ _ _ _ _ _ (end_by _ _ _ _ _ _ (record { are_falls = tt; settled = refl }) refl refl refl refl, refl, refl) refl refl refl refl,
     refl,
   ),
 )
@@ -170,23 +146,11 @@ later_hold : Days None second_of_two 1 (first_evening waits_behind) later_days
 later_hold = (
   with_two (marked Waiting 0 0) (marked Offered 1 1),
   refl,
-  record {
-    lapsed = refl;
-    fits = refl;
-    passes = (end_by _ _ _ _ _ _ (record { are_falls = tt; settled = refl }) refl refl refl refl, refl, refl);
-    left = refl;
-    free = refl;
-  },
+  day_by _ _ _ _ _ _ (end_by _ _ _ _ _ _ (record { are_falls = tt; settled = refl }) refl refl refl refl, refl, refl) refl refl refl refl,
   (
     with_two (marked Offered 2 1) (marked Quit 2 0),
     refl,
-    record {
-      lapsed = refl;
-      fits = refl;
-      passes = (end_by _ _ _ _ _ _ (record { are_falls = tt; settled = refl }) refl refl refl refl, refl, refl);
-      left = refl;
-      free = refl;
-    },
+    day_by _ _ _ _ _ _ (end_by _ _ _ _ _ _ (record { are_falls = tt; settled = refl }) refl refl refl refl, refl, refl) refl refl refl refl,
     refl,
   ),
 )
@@ -196,23 +160,11 @@ sooner_hold : Days None first_of_two 1 (first_evening waits_behind) sooner_days
 sooner_hold = (
   with_two (marked Offered 1 1) (marked Waiting 0 0),
   refl,
-  record {
-    lapsed = refl;
-    fits = refl;
-    passes = (end_by _ _ _ _ _ _ (record { are_falls = tt; settled = refl }) refl refl refl refl, refl, refl);
-    left = refl;
-    free = refl;
-  },
+  day_by _ _ _ _ _ _ (end_by _ _ _ _ _ _ (record { are_falls = tt; settled = refl }) refl refl refl refl, refl, refl) refl refl refl refl,
   (
     with_two (marked Offered 1 1) (marked Quit 2 0),
     refl,
-    record {
-      lapsed = refl;
-      fits = refl;
-      passes = (end_by _ _ _ _ _ _ (record { are_falls = tt; settled = refl }) refl refl refl refl, refl, refl);
-      left = refl;
-      free = refl;
-    },
+    day_by _ _ _ _ _ _ (end_by _ _ _ _ _ _ (record { are_falls = tt; settled = refl }) refl refl refl refl, refl, refl) refl refl refl refl,
     refl,
   ),
 )
@@ -255,13 +207,7 @@ third_hold : Days None one_order 1 (first_evening third_choice) third_days third
 third_hold = (
   third_evening,
   refl,
-  record {
-    lapsed = refl;
-    fits = refl;
-    passes = (end_by _ _ _ _ _ _ (record { are_falls = tt; settled = refl }) refl refl refl refl, refl, refl);
-    left = refl;
-    free = refl;
-  },
+  day_by _ _ _ _ _ _ (end_by _ _ _ _ _ _ (record { are_falls = tt; settled = refl }) refl refl refl refl, refl, refl) refl refl refl refl,
   refl,
 )
 

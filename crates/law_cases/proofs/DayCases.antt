@@ -25,16 +25,14 @@ use Rattle.law_cases.specs.Explanations.{held_start, realistic_day, realistic_ev
 use Rattle.law_cases.proofs.PassCases.{held_called, held_passes, realistic_called, realistic_holds}
 use Rattle.law_cases.proofs.Tested.{all_by}
 use Rattle.law_cases.proofs.Valid.{valid_by}
+use Rattle.campaign_laws.proofs.WorkedCampaign.{day_by}
 
 abbrev old : State
 old = first_evening full_schools
 
 -- the days of the two schools
 one_first : IsDay None two_candidates (4 ∷ 4 ∷ []) old (first_falls_first 1) old
-one_first = record {
-  lapsed = refl;
-  fits = refl;
-  passes = (
+one_first = day_by _ _ _ _ _ _ (
     record {
       pass = passes_with _ two_candidates (4 ∷ 4 ∷ []) _
           (record { are_falls = (refl, refl, (refl, refl, tt)); settled = refl }) refl refl;
@@ -43,16 +41,10 @@ one_first = record {
     },
     refl,
     refl,
-  );
-  left = refl;
-  free = refl;
-}
+  ) refl refl refl refl
 
 one_second : IsDay None two_candidates (4 ∷ 4 ∷ []) old (second_falls_first 1) old
-one_second = record {
-  lapsed = refl;
-  fits = refl;
-  passes = (
+one_second = day_by _ _ _ _ _ _ (
     record {
       pass = passes_with _ two_candidates (4 ∷ 4 ∷ []) _
           (record { are_falls = (refl, refl, (refl, refl, tt)); settled = refl }) refl refl;
@@ -61,16 +53,10 @@ one_second = record {
     },
     refl,
     refl,
-  );
-  left = refl;
-  free = refl;
-}
+  ) refl refl refl refl
 
 two_first : IsDay None two_candidates (4 ∷ 4 ∷ []) old (first_falls_first 2) old
-two_first = record {
-  lapsed = refl;
-  fits = refl;
-  passes = (
+two_first = day_by _ _ _ _ _ _ (
     record {
       pass = passes_with _ two_candidates (4 ∷ 4 ∷ []) _
           (record { are_falls = (refl, refl, (refl, refl, tt)); settled = refl }) refl refl;
@@ -79,16 +65,10 @@ two_first = record {
     },
     refl,
     refl,
-  );
-  left = refl;
-  free = refl;
-}
+  ) refl refl refl refl
 
 two_second : IsDay None two_candidates (4 ∷ 4 ∷ []) old (second_falls_first 2) old
-two_second = record {
-  lapsed = refl;
-  fits = refl;
-  passes = (
+two_second = day_by _ _ _ _ _ _ (
     record {
       pass = passes_with _ two_candidates (4 ∷ 4 ∷ []) _
           (record { are_falls = (refl, refl, (refl, refl, tt)); settled = refl }) refl refl;
@@ -97,10 +77,7 @@ two_second = record {
     },
     refl,
     refl,
-  );
-  left = refl;
-  free = refl;
-}
+  ) refl refl refl refl
 
 full_called : AreCallOrders full_schools.groups two_candidates
 full_called = (called 2 _ _ refl (refl, (refl, tt)) (λ k. refl), tt)

@@ -40,6 +40,7 @@ use Rattle.law_cases.proofs.DayCases.{held_is_day, realistic_is_day}
 use Rattle.law_cases.proofs.PassCases.{held_called, realistic_called}
 use Rattle.law_cases.proofs.Tested.{at_most_by, pairs_by}
 use Rattle.law_cases.proofs.Valid.{valid_by}
+use Rattle.campaign_laws.proofs.WorkedCampaign.{day_by}
 
 pub passes_are_few_here : PassesAreFewWitness
 passes_are_few_here = (
@@ -120,10 +121,7 @@ next_unanswered : Days None (realistic_order ∷ []) 2 unanswered_evening (day_a
 next_unanswered = (
   unanswered_evening,
   refl,
-  record {
-    lapsed = refl;
-    fits = refl;
-    passes = (
+  day_by _ _ _ _ _ _ (
       record {
         pass = passes_with _ (realistic_order ∷ []) (10 ∷ []) _ (record { are_falls = tt; settled = refl }) refl refl;
         autos = refl;
@@ -131,10 +129,7 @@ next_unanswered = (
       },
       refl,
       refl,
-    );
-    left = refl;
-    free = refl;
-  },
+    ) refl refl refl refl,
   refl,
 )
 
@@ -196,10 +191,7 @@ past_holds : Days None three_called 1 (first_evening called_past) (day_past ∷ 
 past_holds = (
   evening_past,
   refl,
-  record {
-    lapsed = refl;
-    fits = refl;
-    passes = (
+  day_by _ _ _ _ _ _ (
       record {
         pass = passes_with _ three_called [] _ (record { are_falls = tt; settled = refl }) refl refl;
         autos = refl;
@@ -207,10 +199,7 @@ past_holds = (
       },
       refl,
       refl,
-    );
-    left = refl;
-    free = refl;
-  },
+    ) refl refl refl refl,
   refl,
 )
 
@@ -250,10 +239,7 @@ roomy_holds : Days None small_orders 2 (first_evening roomy) (roomy_day ∷ []) 
 roomy_holds = (
   roomy_night,
   refl,
-  record {
-    lapsed = refl;
-    fits = refl;
-    passes = (
+  day_by _ _ _ _ _ _ (
       record {
         pass = passes_with _ small_orders (3 ∷ []) _ (record { are_falls = tt; settled = refl }) refl refl;
         autos = refl;
@@ -261,10 +247,7 @@ roomy_holds = (
       },
       refl,
       refl,
-    );
-    left = refl;
-    free = refl;
-  },
+    ) refl refl refl refl,
   refl,
 )
 
