@@ -43,7 +43,7 @@ def topics(program: str) -> dict[str, list[Checks]]:
                    rounds.check_endless, *given(rounds.check_stopped)],
         "measure": [*given(measuring.check_tables, measuring.check_found), measuring.check_words,
                     measuring.check_start, measuring.check_shape],
-        "audit": [auditing.check_audits, auditing.check_alone],
+        "audit": [auditing.check_audits, auditing.check_alone, auditing.check_stopped],
         "recheck": given(rechecking.check_said, rechecking.check_worked, rechecking.check_random,
                          rechecking.check_broken, rechecking.check_large) + [wrong_rules.check_wrong_rules],
         "rules": given(by_rules.check_modes),

@@ -1,11 +1,15 @@
 """Does `audit_day` see? Kept days as `next_day` leaves them pass, and each with one thing changed does not."""
 
+import os
 import shutil
+import signal
+import subprocess
 import sys
+import time
 from collections.abc import Callable
 from pathlib import Path
 
-from .harness import EXAMPLES, TOOLS, Tally, contents, run, scratch
+from .harness import EXAMPLES, TOOLS, Tally, contents, executable, run, scratch, stopped_once_begun
 
 AUDIT = TOOLS / "audit_day"
 
@@ -147,6 +151,29 @@ def check_alone(tally: Tally) -> None:
             tally.check(f"a kept day {day}", status == 0 and is_told, text)
 
 
+def check_stopped(tally: Tally) -> None:
+    """Told to stop, they say so in a line, and nothing is left."""
+    tally.begin("recheck and audit_day, told to stop")
+    with scratch() as place:
+        (place / "temporary").mkdir()
+        campaign_of(place / "campaign")
+        slow = executable(place / "slow", "#!/bin/sh\nexec sleep 60\n")
+        for number in (signal.SIGINT, signal.SIGTERM):
+            ended = stopped_once_begun(number, 1.5, place / "temporary", "audit_day", str(place / "campaign"), "1",
+                                       PARCOURS=slow)
+            tally.equal(f"audit_day, {number.name}", (ended.status, ended.complaint),
+                        (128 + number, "audit_day: stopped\n"))
+            tally.equal(f"audit_day, {number.name}: what is left", list((place / "temporary").iterdir()), [])
+        os.mkfifo(place / "report")
+        with subprocess.Popen([TOOLS / "recheck", EXAMPLES / "two-days", place / "report"], stderr=subprocess.PIPE,
+                              preexec_fn=lambda: signal.signal(signal.SIGINT, signal.default_int_handler)) as call:
+            with open(place / "report", "wb"):  # it has begun, and waits for the text
+                time.sleep(0.1)
+                call.send_signal(signal.SIGINT)
+                complaint = call.communicate()[1]
+        tally.equal("recheck, SIGINT", (call.returncode, complaint), (130, b"recheck: stopped\n"))
+
+
 def check_words(tally: Tally, campaign: Path, place: Path) -> None:
     def says(name: str, status: int, sentence: str, *words: str | Path, program: str | None = None) -> None:
         ended = run(AUDIT, *words, environment={"PARCOURS": program} if program else None)
@@ -160,6 +187,10 @@ def check_words(tally: Tally, campaign: Path, place: Path) -> None:
     says("no folder", 3, "no such record", place / "missing", "1")
     says("a program that is not there", 0, "chain      not tested: ", campaign, "1", program=str(place / "none"))
     says("a program that is none", 1, "chain      WRONG", campaign, "1", program="/bin/false")
+    closed = subprocess.run(["/bin/sh", "-c", '{ "$0" "$1" 1; echo $? >&2; } | head -n 1', AUDIT, campaign], check=False,
+                            capture_output=True, text=True)
+    tally.equal("a reader that has gone", (closed.stdout.splitlines()[0].split(" of ")[0], closed.stderr),
+                ("day 1", "141\n"))
     says("a folder to keep", 0, "ok", campaign, "2", "--keep", place / "kept")
     tally.check("what is kept", (place / "kept/report.txt").is_file() and (place / "kept/wishes.csv").is_file())
     says("a folder that is there", 3, "File exists", campaign, "2", "--keep", place / "kept")

@@ -228,6 +228,7 @@ def check_said(tally: Tally, program: str) -> None:
         report.write_bytes(run_text(program, dated, days)[1])
         says("deadlines that are forgotten", 1, "were --start and --term forgotten?", days, report)
         says("deadlines that are given", 0, "as the rules say: 1 day, 21 lines", days, report, *dated[3:])
+        says("a folder that next_day keeps", 1, "see audit_day", EXAMPLES / "kept", days / "replay.txt")
         says("the stored report", 0, "as the rules say: 2 days, 38 lines", days, days / "replay.txt")
         says("the stored chain", 0, "as the rules say: 2 days, 7 lines", days, days / "chain.txt")
         for text in (b"\0", b"\xff\n", b"order\n", b"day\n", b"fall 1 2 3 4\n", b"refused\n", b"market -1\n",
