@@ -63,6 +63,8 @@ def check_faults(tally: Tally) -> None:
             (";E99;;;démission", "aucun vœu n'est d'un candidat E99"), (";E01;;;accepter", "ne nomme pas de vœu"),
             (";;;V04;démission", "ne dit pas de qui"), (";;;V04;renonce", "se lit de deux façons"),
             ("04/07/2028;;;V04;refuser", "plus d'un an"),
+            ("demain;;;V04;refuser", "demain n'est ni le numéro d'un jour, ni une date"),
+            ("-1;;;V04;refuser", "-1 n'est pas un nombre entier"), ("367,0;;;V04;refuser", "367 n'est pas entre 1 et"),
         )
         ended = take_in(folder, TITLES + "".join(f"{row}\n" for row, _ in rows), *DAY_FIRST)
         for row, sentence in rows:

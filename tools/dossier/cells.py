@@ -11,9 +11,9 @@ from .faults import shown
 from .headers import fold
 from .messages import (BECAME_DATE, CORRECT_DATE, CORRECT_NUMBER, CORRECT_RATE, DATE_READINGS, DIGITS_ALONE,
                        DIGITS_LOST, EMPTY, ENTER_ANEW, EXPORT_VALUES, FAR_YEAR, FILL_IN, FORMAT_NUMBER, FORMAT_TEXT,
-                       FORMAT_TEXT_AGAIN, FORMULA, HIDDEN_LETTER, LEAVE_EMPTY, MEND_FORMULA, NO_DAY, NOT_DATE,
+                       FORMAT_TEXT_AGAIN, FORMULA, HIDDEN_LETTER, LEAVE_EMPTY, MEND_FORMULA, NO_DAY, NOT_DATE, NOT_DAY,
                        NOT_FLAG, NOT_WHOLE, OUT_OF_RANGE, PART_OF_PERCENT, RATE_READINGS, SAY_ORDER, SHEET_ERROR,
-                       SIGN_RATE, THOUSANDS, TWO_WORDS, UNKNOWN_WORD, WITHOUT_POINTS, WRITE_DATE, WRITE_FLAG,
+                       SIGN_RATE, THOUSANDS, TWO_WORDS, UNKNOWN_WORD, WITHOUT_POINTS, WRITE_DATE, WRITE_DAY, WRITE_FLAG,
                        WRITE_WORD, WRITE_ZERO, ZERO_ID)
 from .slots import GREATEST_NUMBER, Column, Content
 from .texts import NoReading
@@ -25,7 +25,7 @@ WHOLE_TAIL = re.compile(r"(.*[0-9])[.,]0{1,2}", re.DOTALL)
 THOUSANDS_OR_DECIMALS = re.compile(r"[0-9]{1,3}(?:[.,][0-9]{3})+")
 LOST_DIGITS = re.compile(r"[0-9]+(?:[.,][0-9]+)?[eE][+-][0-9]+")
 NUMBER_LIKE = re.compile(rf"[+-]?[0-9][0-9.,'’{BLANKS}]*|[+-][0-9.,'’{BLANKS}]+|[.,'’][0-9]+")
-SHORT_NUMBER = re.compile(r"[0-9]{1,3}")
+DAY_NUMBER = re.compile(r"[+-]?[0-9]{1,3}(?:[.,]0{1,2})?")
 DECIMAL = re.compile(r"[0-9]{1,6}(?:\.[0-9]{1,20})?")
 MOST_DIGITS = 1000
 ERROR = re.compile(r"#.*|Err:[0-9]+", re.DOTALL)
@@ -140,8 +140,8 @@ def read_cell(text: str, column: Column, dates: DateOrder | None, rates: Rates |
             return read_word(trimmed, STATUSES)
         case Content.ANSWER:
             return read_word(trimmed, ANSWERS)
-        case Content.DAY if SHORT_NUMBER.fullmatch(trimmed):
-            return _in_range(int(trimmed), column)
+        case Content.DAY:
+            return read_day(trimmed, column, dates)
     return read_date(trimmed, dates)
 
 
@@ -255,6 +255,18 @@ def read_date(text: str, order: DateOrder | None) -> str:
     if not EARLIEST_YEAR <= year <= LATEST_YEAR:
         raise Unclear(FAR_YEAR.of(text=text, least=EARLIEST_YEAR, greatest=LATEST_YEAR), CORRECT_DATE.of())
     return found.isoformat()
+
+
+def read_day(text: str, column: Column, order: DateOrder | None) -> int | str:
+    """A day as its number, or as a date."""
+    if DAY_NUMBER.fullmatch(text):
+        return _in_range(read_number(text), column)
+    try:
+        return read_date(text, order)
+    except Unclear as error:
+        if error.what.text is NOT_DATE:
+            raise Unclear(NOT_DAY.of(text=shown(text)), WRITE_DAY.of()) from None
+        raise
 
 
 def parts_of_date(text: str, order: DateOrder | None) -> tuple[int, int, int]:

@@ -111,6 +111,10 @@ SAY_ORDER = Text("write it as YYYY-MM-DD, or say --dates day-first or --dates mo
                  "écrivez-la AAAA-MM-JJ, ou dites --dates day-first (le jour d'abord) ou --dates month-first.")
 NOT_DATE = Text("{text} is not a date in one reading.", "{text} n'est pas une date qui se lise d'une seule façon.")
 WRITE_DATE = Text("write it as YYYY-MM-DD.", "écrivez-la AAAA-MM-JJ.")
+NOT_DAY = Text("{text} is neither the number of a day nor a date in one reading.",
+               "{text} n'est ni le numéro d'un jour, ni une date qui se lise d'une seule façon.")
+WRITE_DAY = Text("write the number of the day, 1 for the coming one, or a date as YYYY-MM-DD.",
+                 "écrivez le numéro du jour, 1 pour celui qui vient, ou une date AAAA-MM-JJ.")
 NO_DAY = Text("{text} is not a day of the calendar.", "{text} n'est pas un jour du calendrier.")
 CORRECT_DATE = Text("correct the date.", "corrigez la date.")
 FAR_YEAR = Text("{text} is not of a year from {least} to {greatest}.",
