@@ -168,8 +168,8 @@ NUMBER_TAKEN = Text("the {thing} {number} has the number that an earlier dossier
                     "{thing} {number} a le numéro qu'un dossier précédent a donné à {id}.")
 GIVE_ANOTHER = Text("give it another number, or prepare without --ids.",
                     "donnez-lui un autre numéro, ou préparez sans --ids.")
-UNTESTED = Text("What names rows of {file} is tested when all of these can be read.",
-                "Ce qui nomme des lignes de {file} sera vérifié quand elles pourront toutes être lues.")
+UNTESTED = Text("What names rows {of_file} is tested when all of these can be read.",
+                "Ce qui nomme des lignes {of_file} sera vérifié quand elles pourront toutes être lues.")
 
 NO_TARGET = Text("neither a wish nor a candidate is named by a column.",
                  "aucune colonne ne nomme un vœu ou un candidat.")

@@ -21,7 +21,7 @@ from .relations import Relations
 from .slots import SLOTS, Column, Content, Thing
 from .sources import SEPARATORS, TextSheet
 from .tables import PROGRESS, Choices, Table
-from .texts import Counted, Filled, Language, Text, said
+from .texts import Counted, Filled, Language, OfName, Text, said
 from .values import ANSWER_WORDS, NOTHING, QUIT, STATUS_WORDS
 from .wording import Words
 from .writing import Told, csv_bytes, is_folder, named_folder, say, stop_cleanly, write_folder
@@ -30,7 +30,7 @@ DONE, FAULTY, BAD_WORDS, NOT_WRITTEN = range(4)
 CHUNK = 4_000
 COLUMN_NAMES = frozenset(column.name for slot in SLOTS for column in slot.columns)
 
-READ = Text("{slot}: {rows} of {file}{how}", "{slot} : {rows} de {file}{how}")
+READ = Text("{slot}: {rows} {of_file}{how}", "{slot} : {rows} {of_file}{how}")
 ROW, ROWS = Text("row", "ligne"), Text("rows", "lignes")
 LEFT_OUT = Text("{file}: not read are the columns {names}", "{file} : colonnes qui ne sont pas lues : {names}")
 NUMBERED = Text("{ids}: ids of {things} numbered, {count} from {first} to {last}",
@@ -131,7 +131,8 @@ def summary(exports: Exports, numbers: Numbers, folder: Path, language: Language
         sheet = table.sheet
         how = f" ({sheet.coding.name}, {said(SEPARATORS[sheet.separator], language)})" \
             if isinstance(sheet, TextSheet) else ""
-        lines.append(READ.of(slot=slot.file, rows=Counted(len(table), ROW, ROWS), file=shown(sheet.label), how=how))
+        lines.append(READ.of(slot=slot.file, rows=Counted(len(table), ROW, ROWS), how=how,
+                             of_file=OfName(shown(sheet.label))))
         left_out += columns_left_out(table)
     for thing, by_code in numbers.by_code.items():
         if by_code:

@@ -16,7 +16,7 @@ from .messages import (ADD_BOARDER, ADD_RANK, ADD_ROW, ALL_OR_NONE, CORRECT_EITH
                        QUIT_CANDIDATE, SORT_DAYS, THINGS, TWICE, TWO_ACCEPTED, UNRANKED, UNTESTED, WRITE_DIFFERENT)
 from .slots import Content, Thing
 from .tables import Table
-from .texts import Filled
+from .texts import Filled, OfName
 from .values import ACCEPTED, FAULT, NOTHING, QUIT, Spellings
 
 SHIFT = 1 << 32
@@ -103,7 +103,7 @@ class Relations:
     def tell_untested(self, *ranks: Keys | None) -> None:
         for keys in (*self.homes.values(), *ranks):
             if keys is not None and not keys.is_whole:
-                self.faults.untested.append(UNTESTED.of(file=keys.table.sheet.label))
+                self.faults.untested.append(UNTESTED.of(of_file=OfName(keys.table.sheet.label)))
 
     def keys(self, slot: str, *names: str) -> Keys | None:
         table = self.tables.get(slot)

@@ -18,14 +18,14 @@ from .preparing import chosen_column, columns_left_out
 from .records import wishes_in
 from .slots import ANSWER_SHEET, ANSWERS
 from .tables import Choices, Table
-from .texts import Language, Text
+from .texts import Language, OfName, Text
 from .values import things
 from .wording import Words
 from .writing import Told, csv_bytes, is_folder, named_folder, replace_file, say, stop_cleanly
 
 DONE, FAULTY = 0, 1
-TAKEN = Text("answers of {file} for the coming day{dated}: {count}, for later days: {later}, there already: {known}.",
-             "réponses de {file} pour le jour qui vient{dated} : {count}, pour plus tard : {later}, déjà là : {known}.")
+TAKEN = Text("answers {of_file} for the coming day{dated}: {count}, for later days: {later}, there already: {known}.",
+             "réponses {of_file} pour le jour qui vient{dated} : {count}, pour plus tard : {later}, déjà là : {known}.")
 REPLACED = Text("answers that were there and are replaced: {count}.",
                 "réponses qui y étaient et sont remplacées : {count}.")
 LATER = Text("Whether an answer of a later day fits is told when that day comes.",
@@ -70,7 +70,7 @@ def summary(table: Table, old: list[tuple[Row, Answer]], new: list[tuple[Row, An
     replaced = len(old) - (len(both) - len(added))
     dated = f" ({calendar.today})" if calendar.today else ""
     lines = [TAKEN.of(count=len(added) - later, later=later, known=len(new) - len(added), dated=dated,
-                      file=shown(table.sheet.label))]
+                      of_file=OfName(shown(table.sheet.label)))]
     lines += [REPLACED.of(count=replaced)] if replaced else []
     lines += [LATER.of()] if later else []
     lines += columns_left_out(table)

@@ -1,5 +1,6 @@
 """Texts in two languages."""
 
+import unicodedata
 from dataclasses import dataclass, field
 from typing import Literal, Protocol, runtime_checkable
 
@@ -50,6 +51,19 @@ class Counted:
     def said(self, language: Language) -> str:
         is_one = self.count == 1 or self.count == 0 and language == "fr"
         return f"{self.count} {(self.one if is_one else self.many).of().said(language)}"
+
+
+@dataclass(frozen=True)
+class OfName:
+    """A name behind a word for `of`, which in French loses its vowel before another."""
+
+    name: str
+
+    def said(self, language: Language) -> str:
+        if language == "en":
+            return f"of {self.name}"
+        begins_with_vowel = unicodedata.normalize("NFD", self.name)[:1].lower() in tuple("aeiouœæ")
+        return f"d'{self.name}" if begins_with_vowel else f"de {self.name}"
 
 
 @runtime_checkable
