@@ -30,7 +30,7 @@ def answers():
 
 
 def main():
-    if sys.argv[1:] in (["--help"], ["-h"]):
+    if sys.argv[1:] in (["--help"], ["-h"], ["help"]):
         print("usage: memory_answers.py\n" + textwrap.fill(" ".join(__doc__.split()), 80))
         return 0
     if sys.argv[1:]:
