@@ -2,6 +2,7 @@
 
 import ast
 import os
+import re
 import shutil
 import sys
 from pathlib import Path
@@ -47,7 +48,11 @@ def check_words(tally: Tally) -> None:
     tally.begin("words that a tool does not know")
     for tool, *words in BAD_WORDS:
         with scratch() as folder:
-            refused(tally, f"{tool} {' '.join(words)}", run(TOOLS / tool, *words, folder=folder), 2)
+            ended = run(TOOLS / tool, *words, folder=folder)
+            refused(tally, f"{tool} {' '.join(words)}", ended, 2)
+            # (else argparse says it, with the name of a function of this code)
+            is_own = re.search("invalid (?!choice|int|float)", ended.complaint) is None
+            tally.check(f"{tool} {' '.join(words)}: what is told", is_own, ended)
             tally.equal(f"{tool} {' '.join(words)}: nothing is written", list(folder.iterdir()), [])
 
 
@@ -128,6 +133,10 @@ def check_names(tally: Tally) -> None:
                         environment={"PYTHONIOENCODING": encoding})
             tally.check(f"a terminal of {encoding}", (ended.status, ended.complaint) == (0, ""), ended)
             tally.equal(f"a terminal of {encoding}: slots", contents(folder / f"new-{number}"), contents(BLANK))
+        for tool, *words in (("next_day",), ("why", "1"), ("tables", "-tables"), ("take_in", "-dossier/answers.csv")):
+            shutil.copytree(EXAMPLES / "two-days", folder / "-dossier", dirs_exist_ok=True)
+            ended = run(TOOLS / tool, "--", "-dossier", *words, folder=folder)
+            tally.check(f"{tool}: a name behind `--` that begins with a hyphen", ended.status == 0, ended)
         (folder / "link").symlink_to("nowhere")
         refused(tally, "a link to nothing", run(TOOLS / "prepare", "exports", "link", folder=folder), 3)
 

@@ -3,12 +3,15 @@
 import os
 import re
 import sys
+from argparse import ArgumentTypeError
+from contextlib import suppress
 from datetime import date
 from pathlib import Path
 
 from . import program
 from .campaign import CALENDAR, Stopped, next_day
 from .dating import Calendar
+from .faults import shown
 from .wording import Words
 from .writing import Told, is_folder, named_folder, say, stop_cleanly
 
@@ -18,16 +21,17 @@ PLAIN_DATE = re.compile(r"[0-9]{4}-[0-9]{2}-[0-9]{2}")
 
 
 def start_date(text: str) -> date:
-    found = date.fromisoformat(text)
-    if not PLAIN_DATE.fullmatch(text) or not FIRST_YEAR <= found.year <= LAST_YEAR:
-        raise ValueError(text)
-    return found
+    with suppress(ValueError):
+        found = date.fromisoformat(text)
+        if PLAIN_DATE.fullmatch(text) and FIRST_YEAR <= found.year <= LAST_YEAR:
+            return found
+    raise ArgumentTypeError(f"{shown(text)} is no date as 2026-06-02, of a year from {FIRST_YEAR} to {LAST_YEAR}")
 
 
 def term_of_days(text: str) -> int:
-    if not (text.isascii() and text.isdigit()) or int(text) > LONGEST_TERM:
-        raise ValueError(text)
-    return int(text)
+    if text.isascii() and text.isdigit() and int(text) <= LONGEST_TERM:
+        return int(text)
+    raise ArgumentTypeError(f"{shown(text)} is no number of days from 0 to {LONGEST_TERM}")
 
 
 def words() -> Words:

@@ -23,7 +23,7 @@ from .sources import SEPARATORS, TextSheet
 from .tables import PROGRESS, Choices, Table
 from .texts import Counted, Filled, Language, OfName, Text, said
 from .values import ANSWER_WORDS, NOTHING, QUIT, STATUS_WORDS
-from .wording import Words
+from .wording import Words, one_of
 from .writing import Told, csv_bytes, is_folder, named_folder, say, stop_cleanly, write_folder
 
 DONE, FAULTY, BAD_WORDS, NOT_WRITTEN = range(4)
@@ -57,9 +57,9 @@ def words() -> Words:
         "Status: 0 written, 1 faults, 2 bad words, 3 not read or not written.")
     parser.add_argument("exports", metavar="SHEETS", type=named_folder, help="the folder of the sheets")
     parser.add_argument("folder", type=named_folder, metavar="FOLDER", help="the new folder for the slots")
-    parser.add_argument("--dates", type=DateOrder, choices=list(DateOrder), metavar="day-first|month-first",
+    parser.add_argument("--dates", type=one_of(DateOrder), metavar="day-first|month-first",
                         help="how dates such as 02/06/2025 are to be read")
-    parser.add_argument("--rates", type=Rates, choices=list(Rates), metavar="percent|fraction",
+    parser.add_argument("--rates", type=one_of(Rates), metavar="percent|fraction",
                         help="how rates without a sign are to be read: 20, or 0.2, for 20 %%")
     parser.add_argument("--column", action="append", default=[], type=chosen_column, metavar="TITLE=COLUMN",
                         help="which column a title names; may be given again")

@@ -20,7 +20,7 @@ from .slots import ANSWER_SHEET, ANSWERS
 from .tables import Choices, Table
 from .texts import Language, OfName, Text
 from .values import things
-from .wording import Words
+from .wording import Words, one_of
 from .writing import Told, csv_bytes, is_folder, named_folder, replace_file, say, stop_cleanly
 
 DONE, FAULTY = 0, 1
@@ -46,7 +46,7 @@ def words() -> Words:
     parser.add_argument("--start", type=start_date, metavar="DATE", help="the date of day 1, where no day is made yet")
     parser.add_argument("--term", type=term_of_days, metavar="N",
                         help="the days that an offer stands after its own; with --start")
-    parser.add_argument("--dates", type=DateOrder, choices=list(DateOrder), metavar="day-first|month-first",
+    parser.add_argument("--dates", type=one_of(DateOrder), metavar="day-first|month-first",
                         help="how dates such as 02/06/2025 are to be read")
     parser.add_argument("--column", action="append", default=[], type=chosen_column, metavar="TITLE=COLUMN",
                         help="which column a title names; may be given again")
