@@ -33,7 +33,7 @@ def topics(program: str) -> dict[str, list[Checks]]:
         "sheets": [sheets.check_sheets, sheets.check_headers, sheets.check_codes, sheets.check_groups_of_faults,
                    sheets.check_states, sheets.check_rates, sheets.check_flags],
         "hostile": [hostile.check_help, hostile.check_old_python, hostile.check_words, hostile.check_folders,
-                    hostile.check_names, hostile.check_broken_dossiers, hostile.check_lines],
+                    hostile.check_names, hostile.check_broken_dossiers, hostile.check_pipes, hostile.check_lines],
         "disks": [disks.check_full_devices, disks.check_small_disks],
         "killing": list(killing.CHECKS),
         "lemmas": [lemmas.check_same_lemmas, lemmas.check_witnesses, lemmas.check_memory_answers,

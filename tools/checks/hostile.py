@@ -167,6 +167,26 @@ def check_broken_dossiers(tally: Tally) -> None:
         refused(tally, "a program that is not there", ended, 125)
 
 
+def check_pipes(tally: Tally) -> None:
+    """A named pipe in the place of a file is told, and not waited for."""
+    tally.begin("named pipes in the place of files")
+    with scratch() as place:
+        shutil.copytree(EXAMPLES / "lycee/slots", place / "dossier")
+        for words in (("next_day", "dossier"), ("why", "dossier", "V01"), ("tables", "dossier", "tables"),
+                      ("take_in", "dossier", EXAMPLES / "lycee/exports/reponses.csv")):
+            for name in ("wishes.csv", "ids.csv", "campaign.csv"):
+                path, kept = place / "dossier" / name, place / name
+                if path.exists():
+                    path.rename(kept)
+                os.mkfifo(path)
+                ended = run(TOOLS / words[0], *words[1:], folder=place)
+                refused(tally, f"{words[0]}: {name}", ended, 3)
+                tally.check(f"{words[0]}: {name} is told", f"{name} is no file" in ended.complaint, ended)
+                path.unlink()
+                if kept.exists():
+                    kept.rename(path)
+
+
 def check_lines(tally: Tally) -> None:
     tally.begin("in_words, what is no line of explain")
     lines = [f"{line}\n".encode() for line in (DATA / "no_lines.txt").read_text().split("\n")[:-1]]

@@ -14,6 +14,7 @@ import hashlib
 import os
 import re
 import shutil
+import stat
 from collections.abc import Iterator
 from contextlib import contextmanager, suppress
 from dataclasses import dataclass
@@ -64,6 +65,16 @@ def read_files(folder: Path) -> Files:
         return files | ({CALENDAR: calendar.read_bytes()} if calendar.exists() else {})
     except OSError as error:
         raise unread(error) from None
+
+
+def test_files(folder: Path) -> None:
+    """What should be a file of the folder must not be a device or a named pipe, which would be waited for."""
+    for name in (*(slot.file for slot in SLOTS), IDS, CALENDAR):
+        with suppress(OSError):  # it is told where it is read
+            mode = os.stat(folder / name).st_mode
+            if not (stat.S_ISREG(mode) or stat.S_ISDIR(mode)):
+                raise Stopped(program.READ_FAULT, f"{folder / name} is no file, but a device or a named pipe; put a "
+                                                  "file in its place, and call again.")
 
 
 def unread(error: OSError) -> Stopped:
@@ -255,6 +266,7 @@ def next_day(folder: Path, asked: Calendar) -> str:
     """Makes the coming day, or ends the one that was stopped half way; answers a line on it, and one on what was
     changed by hand since the day before."""
     with alone(folder):
+        test_files(folder)
         files = read_files(folder)
         calendar = calendar_of(folder, files, asked)
         days = folder / "days"

@@ -11,7 +11,7 @@ from pathlib import Path
 from typing import NamedTuple
 
 from .campaign import (CALENDAR, CHANGING, CHECKSUMS, IDS, IDS_CHECKSUM, LASTING, Stopped, checksums, ids_checksum,
-                       slots_changed, unread)
+                       slots_changed, test_files, unread)
 from .dating import Calendar
 from .faults import shown
 from .program import READ_FAULT
@@ -205,6 +205,7 @@ def kept_days(dossier: Path) -> list[KeptDay]:
 
 def made_days(dossier: Path) -> list[KeptDay]:
     """The days that were made, of which there is one at least, the last of them to its end."""
+    test_files(dossier)
     days = kept_days(dossier)
     if not days:
         raise Stopped(READ_FAULT, f"no day has been made in {dossier}: make one with next_day, and call again.")
