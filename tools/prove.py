@@ -15,6 +15,7 @@ import sys
 import textwrap
 import threading
 import time
+import traceback
 
 sys.dont_write_bytecode = True
 if set(sys.argv[1:]) & {"--help", "-h", "help"}:
@@ -22,10 +23,23 @@ if set(sys.argv[1:]) & {"--help", "-h", "help"}:
     signal.signal(signal.SIGPIPE, signal.SIG_DFL)
     print(textwrap.fill(" ".join(__doc__.split()), 80))
     sys.exit(0)
+NO_KIT, ENDED_BY_ERROR = 3, 4
+if sys.version_info < (3, 10):
+    print("parcours: to build it needs Python 3.10 or later, and this is %d.%d" % sys.version_info[:2], file=sys.stderr)
+    sys.exit(ENDED_BY_ERROR)
 if len(sys.argv) != 2:
     sys.exit("usage: prove.py CRATE; prove.py --help says more")
-sys.path.insert(0, os.path.dirname(os.path.realpath(shutil.which("rt") or "/opt/rattle/bin/rt")))
-import rtlib  # noqa: E402 (the kit's own library, beside its command rt)
+RT = shutil.which("rt") or "/opt/rattle/bin/rt"
+# What this uses of the kit's own library, which lies beside its command rt. Other programs are called rt too.
+USED = ("Crate", "KIT", "crates_below", "files_of", "guarded", "help_of", "lock", "text_of")
+sys.path.insert(0, os.path.dirname(os.path.realpath(RT)))
+try:
+    import rtlib
+    if not all(hasattr(rtlib, it) for it in USED):
+        raise ImportError("another kit")
+except ImportError:
+    print(f"parcours: {RT} is not of a kit that this knows; docs/AUDIT.md names two that it does", file=sys.stderr)
+    sys.exit(NO_KIT)
 
 A_CHECK = 3_000_000_000  # bytes that a check may take
 A_LOAD = 150  # what it costs to load what a crate stands on, in lines of code
@@ -180,4 +194,8 @@ def main(folder):
 
 
 if __name__ == "__main__":
-    sys.exit(main(sys.argv[1]))
+    try:
+        sys.exit(main(sys.argv[1]))
+    except Exception:
+        traceback.print_exc()
+        sys.exit(ENDED_BY_ERROR)

@@ -335,6 +335,14 @@ def check_changed_sources(tally: Tally, script: Path) -> None:
     (script.parent / "tools/prove.py").write_text("raise SystemExit(1)\n")
     ended = call(script)
     tally.check("a crate that is not proved", ended.status == 125 and "not proved" in ended.complaint, ended)
+    (script.parent / "tools/prove.py").write_text((TOOLS / "prove.py").read_text())
+    for text, name in ((None, "another program that is called rt"), ("KIT = '/x'\n", "another kit")):
+        if text is not None:
+            (script.parent / "bin/rtlib.py").write_text(text)
+        ended = call(script, *WORDS)
+        is_told = "is not of a kit that this knows" in ended.complaint and "another one, or no kit" in ended.complaint
+        tally.check(name, ended.status == 125 and is_told and "Traceback" not in ended.complaint, ended)
+    (script.parent / "bin/rtlib.py").unlink()
     (script.parent / "tools/prove.py").write_text("import os\nos.kill(os.getpid(), 15)\n")
     ended = call(script)
     tally.check("a build that is stopped", ended.status == 125 and "was stopped" in ended.complaint, ended)
