@@ -79,11 +79,18 @@ HEADERS = (
      "group,scholar_pct,resident_pct\n1,20,30\n"),
     ("groups.csv", "N° du groupe;Taux de boursiers;Taux du secteur;Libellé", "1;20 %;30 %;MPSI",
      "group,scholar_pct,resident_pct\n1,20,30\n"),
+    ("groups.csv", "Groupe;Taux boursiers (%);Taux secteur (en %)", "1;20;30",
+     "group,scholar_pct,resident_pct\n1,20,30\n"),
     ("programmes.csv", "Code formation;Code groupe;Nb places;Intitulé;Ville", "7;1;2;MPSI;Lyon",
      "programme,group,seats\n7,1,2\n"),
     ("schools.csv", "N° internat;Nb lits;Plafond", "5;2;9", "school,beds,ceiling\n5,2,9\n"),
     ("rankings.csv", "Code groupe;N° candidat;Nom;Prénom;Rang;Boursier(e);Candidat du secteur", "1;4;A;B;1;OUI;NON",
      "group,candidate,rank,scholar,resident\n1,4,1,1,0\n"),
+    ("rankings.csv", "Groupe;Candidat;Rang;Boursier (O/N);Secteur ?", "1;4;1;O;N",
+     "group,candidate,rank,scholar,resident\n1,4,1,1,0\n"),
+    ("rankings.csv", "Groupe;Candidat;Rang;Bourse CROUS;Secteur géo", "1;4;1;O;N", '--column "TITRE=scholar"'),
+    ("rankings.csv", "Groupe;INE;Rang;Boursier;Secteur", "1;4;1;O;N", '--column "INE=candidate"'),
+    ("rankings.csv", "Groupe;INE;Nom;Rang;Boursier;Secteur", "1;4;A;1;O;N", '--column "TITRE=candidate"'),
     ("boarding.csv", "Internat;Numéro de candidat;Rang internat", "5;4;1", "school,candidate,rank\n5,4,1\n"),
     ("wishes.csv", "N° vœu;N° candidat;Nom;Code formation;Internat;Ordre de préférence", "3;4;A;7;5;0",
      "wish,candidate,programme,school,preference\n3,4,7,5,0\n"),
@@ -98,7 +105,7 @@ def check_headers(tally: Tally) -> None:
     """Titles as people write them, with names and towns beside them."""
     tally.begin("prepare, titles")
     whole = {name: f"{titles}\n{row}\n".encode() for name, titles, row, expected in HEADERS
-             if "columns" not in expected}
+             if expected.endswith("\n")}
     for name, titles, row, expected in HEADERS:
         found, complaint = Sheets({**whole, name: f"{titles}\n{row}\n".encode()}).prepared(name)
         told = expected in complaint.replace("2 colonnes", "2 columns")
@@ -107,6 +114,10 @@ def check_headers(tally: Tally) -> None:
     found, complaint = Sheets(odd).prepared("boarding.csv")
     needed = "--leave-out" not in complaint and "--column" in complaint
     tally.check("no advice to leave out what is needed", found == "" and needed, complaint)
+    flags = {**whole, "rankings.csv": "Groupe;Candidat;Rang;Bourse CROUS;Secteur géo\n1;4;1;O;N\n".encode()}
+    _, complaint = Sheets(flags, ("--column", "Bourse CROUS=scholar")).prepared("rankings.csv")
+    is_told = '--column "Secteur géo=resident"' in complaint
+    tally.check("the last of two flags, which has no title yet", is_told, complaint)
     words = ("--column", "eleve n=candidate", "--column", "Place au classement=rank")
     found, complaint = Sheets(odd, words).prepared("boarding.csv")
     tally.equal("columns as the user says", found, "school,candidate,rank\n5,4,1\n")

@@ -1,5 +1,6 @@
 """How the first row of a sheet names the columns of a slot."""
 
+import re
 import unicodedata
 from collections.abc import Mapping, Sequence
 from dataclasses import dataclass
@@ -8,14 +9,17 @@ from functools import lru_cache
 
 from .decoding import Unreadable
 from .faults import shown
-from .messages import (BEGIN_WITH_NAMES, EMPTY_FILE, EXPORT_WITH_NAMES, MISSING_COLUMN, NAME_COLUMN, NAME_COLUMNS,
-                       MAY_BE, NAME_OR_LEAVE, NAMED_TWICE, NEAREST, NO_SLOT)
-from .slots import Column, Slot
+from .messages import (BEGIN_WITH_NAMES, EMPTY_FILE, EXPORT_WITH_NAMES, MAY_BE, MISSING_COLUMN, NAME_COLUMN,
+                       NAME_COLUMNS, NAME_OR_LEAVE, NAMED_TWICE, NEAREST, NO_SLOT, SAY_TITLE)
+from .slots import Column, Content, Slot
 from .texts import Filled, Language, said
 
 # Words of a title that tell nothing of which column it is.
 FILLERS = frozenset(("n", "no", "num", "numero", "number", "code", "id", "identifiant", "nb", "nbre", "nombre", "of",
                      "the", "de", "du", "des", "d", "la", "le", "les", "l", "a", "au", "total"))
+# What a folded title says of how its cells are written, as `boursier o/n`, `taux boursiers en %`, `secteur ?`.
+NOTES = {Content.FLAG: re.compile(r" (?:o/n|oui/non|y/n|yes/no|0/1|1/0|vrai/faux|true/false)$|[ :]*\?$"),
+         Content.PERCENTAGE: re.compile(r" (?:en |in )?%$")}
 ALIKE = 0.8
 PARTS = str.maketrans({letter: " " for letter in "_-.,/:°()[]'’"})
 
@@ -70,7 +74,9 @@ class Header:
 def is_name_of(title: str, column: Column) -> bool:
     """Whether a folded title names a column, by a name of it or by the words of one that tell."""
     names = (column.own_name, *column.french, *column.english)
-    return title in names or bool(rest := core(title)) and rest in map(core, names)
+    note = NOTES.get(column.content)
+    plain = note.sub("", title) if note and title not in names else title
+    return plain in names or bool(rest := core(plain)) and rest in map(core, names)
 
 
 def candidates_for(column: Column, titles: Sequence[str], chosen: Mapping[str, str]) -> list[int]:
@@ -79,11 +85,15 @@ def candidates_for(column: Column, titles: Sequence[str], chosen: Mapping[str, s
     return own or [place for place, title in enumerate(titles) if title not in chosen and is_name_of(title, column)]
 
 
-def likely_for(column: Column, slot: Slot, titles: Sequence[str], chosen: Mapping[str, str]) -> list[str]:
-    """The titles that no column of the slot has, and that may be meant for this one."""
+def unknown_titles(slot: Slot, titles: Sequence[str], chosen: Mapping[str, str]) -> list[str]:
+    """The titles that no column of the slot has, and that the user has not said what they name."""
+    return [title for title in titles if (word := fold(title)) and word not in chosen and not is_known(word, slot)]
+
+
+def likely_for(column: Column, titles: Sequence[str]) -> list[str]:
+    """Of these titles those that are nearly a name of the column."""
     names = [core(name) for name in (column.own_name, *column.french, *column.english, *column.doubtful)]
-    unknown = [title for title in titles if (word := fold(title)) and word not in chosen and not is_known(word, slot)]
-    return [title for title in unknown if get_close_matches(core(fold(title)), names, cutoff=ALIKE)]
+    return [title for title in titles if get_close_matches(core(fold(title)), names, cutoff=ALIKE)]
 
 
 def matched(slot: Slot, titles: Sequence[str], chosen: Mapping[str, str]) -> Header | None:
@@ -92,7 +102,9 @@ def matched(slot: Slot, titles: Sequence[str], chosen: Mapping[str, str]) -> Hea
     places: dict[str, int] = {}
     for column in slot.columns:
         found = candidates_for(column, folded, chosen)
-        if len(found) > 1 or not found and (not column.is_optional or likely_for(column, slot, titles, chosen)):
+        if len(found) > 1:
+            return None
+        if not found and (not column.is_optional or likely_for(column, unknown_titles(slot, titles, chosen))):
             return None
         if found:
             places[column.name] = found[0]
@@ -126,28 +138,46 @@ class Parts:
 
 
 def differing(slots: Sequence[Slot], titles: Sequence[str], chosen: Mapping[str, str]) -> Unreadable:
-    """Says how a first row differs from that of the slot that it is nearest to."""
+    """Says how a first row differs from that of the slot that it is nearest to, and what to do about the first of
+    the columns that are not there as they should be."""
     if not any(title.strip() for title in titles):
         return Unreadable(EMPTY_FILE.of(), EXPORT_WITH_NAMES.of())
     slot = max(slots, key=lambda slot: (score_of(slot, titles, chosen), -len(slot.columns)))
     if score_of(slot, titles, chosen) == 0:
         return Unreadable(NO_SLOT.of(names=shown(" | ".join(titles))), BEGIN_WITH_NAMES.of())
+    found = [difference for column in slot.columns if (difference := difference_of(column, slot, titles, chosen))]
+    parts = Parts(tuple(part for part, _ in found))
+    return Unreadable(NEAREST.of(slot=slot.name, parts=parts), found[0][1] if found else NAME_COLUMNS.of())
+
+
+def difference_of(column: Column, slot: Slot, titles: Sequence[str],
+                  chosen: Mapping[str, str]) -> tuple[Filled, Filled] | None:
+    """What is wrong with a column, and what to do."""
+    found = candidates_for(column, [fold(title) for title in titles], chosen)
+    if len(found) > 1:
+        named = [shown(titles[place]) for place in found]
+        return (NAMED_TWICE.of(count=len(found), column=column.name, names=", ".join(named)),
+                NAME_COLUMN.of(name=named[0], column=column.name))
+    if not found and not column.is_optional:
+        return MISSING_COLUMN.of(column=column.name), how_to_name(column, slot, titles, chosen)
+    if not found and (likely := likely_for(column, unknown_titles(slot, titles, chosen))):
+        return (MAY_BE.of(title=shown(likely[0]), column=column.name),
+                NAME_OR_LEAVE.of(name=shown(likely[0]), column=column.name))
+    return None
+
+
+def how_to_name(column: Column, slot: Slot, titles: Sequence[str], chosen: Mapping[str, str]) -> Filled:
+    """How to say which title a missing column has. One is named only if it is nearly a name of it, or if one title and
+    one column are left: what two exchanged columns of flags say is told by nothing."""
     folded = [fold(title) for title in titles]
-    parts: list[Filled] = []
-    for column in slot.columns:
-        found = candidates_for(column, folded, chosen)
-        if len(found) > 1:
-            names = ", ".join(shown(titles[place]) for place in found)
-            parts.append(NAMED_TWICE.of(count=len(found), column=column.name, names=names))
-            to_do = NAME_COLUMN.of(name=shown(titles[found[0]]), column=column.name)
-        elif not found and not column.is_optional:
-            parts.append(MISSING_COLUMN.of(column=column.name))
-            unknown = [title for title, word in zip(titles, folded) if word and not is_known(word, slot)]
-            to_do = NAME_COLUMN.of(name=shown(unknown[0]), column=column.name) if unknown else NAME_COLUMNS.of()
-        elif not found and (likely := likely_for(column, slot, titles, chosen)):
-            parts.append(MAY_BE.of(title=shown(likely[0]), column=column.name))
-            to_do = NAME_OR_LEAVE.of(name=shown(likely[0]), column=column.name)
-    return Unreadable(NEAREST.of(slot=slot.name, parts=Parts(tuple(parts))), to_do if parts else NAME_COLUMNS.of())
+    missing = [other for other in slot.columns if not (other.is_optional or candidates_for(other, folded, chosen))]
+    unknown = unknown_titles(slot, titles, chosen)
+    likely = likely_for(column, unknown)
+    if not unknown:
+        return NAME_COLUMNS.of()
+    if len(likely) == 1 or len(unknown) == 1 and missing == [column]:
+        return NAME_COLUMN.of(name=shown((likely or unknown)[0]), column=column.name)
+    return SAY_TITLE.of(column=column.name)
 
 
 def is_known(title: str, slot: Slot) -> bool:

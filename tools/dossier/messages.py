@@ -35,6 +35,9 @@ NAME_OR_LEAVE = Text('say --column "{name}={column}" if it is, and --leave-out "
 NAME_COLUMN = Text('name each column as in examples/blank, or say which one it is, as --column "{name}={column}".',
                    'donnez à chaque colonne un titre de examples/blank, ou dites laquelle c\'est, comme '
                    '--column "{name}={column}".')
+SAY_TITLE = Text('name each column as in examples/blank, or say which title it has, as --column "TITLE={column}".',
+                 'donnez à chaque colonne un titre de examples/blank, ou dites quel titre elle a, comme '
+                 '--column "TITRE={column}".')
 NAME_COLUMNS = Text("name the columns as in examples/blank, each once.",
                     "donnez aux colonnes les titres de examples/blank, chacun une fois.")
 NO_NAMES = Text("{file} has no sheet with ids of candidates, programmes or schools beside their names.",
