@@ -69,4 +69,4 @@ def check_twice(tally: Tally) -> None:
         tally.equal("told to stop", (ended.status, ended.complaint), (143, "stopped\n"))
         tally.equal("told to stop: what is left", list(temporary.iterdir()), [])
         shutil.rmtree(script.parent / ".git")
-        ends("no checkout", NOT_BUILT, "is no checkout")
+        ends("no checkout", NOT_BUILT, "is no checkout that git reads (fatal: not a git repository")

@@ -40,9 +40,10 @@ def call(words: tuple[str | Path, ...], folder: Path) -> int:
 
 def last_commit(top: Path) -> str:
     found = subprocess.run(["git", "-C", top, "rev-parse", "HEAD"], stdout=subprocess.PIPE,
-                           stderr=subprocess.DEVNULL, check=False)
+                           stderr=subprocess.PIPE, check=False)
     if found.returncode != 0:
-        raise NotBuilt(f"{top} is no checkout")
+        said = found.stderr.decode(errors="replace").partition("\n")[0]
+        raise NotBuilt(f"{top} is no checkout that git reads ({said})")
     return found.stdout.decode().strip()
 
 
