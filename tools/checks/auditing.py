@@ -187,8 +187,8 @@ def check_words(tally: Tally, campaign: Path, place: Path) -> None:
     says("no folder", 3, "no such record", place / "missing", "1")
     says("a program that is not there", 0, "chain      not tested: ", campaign, "1", program=str(place / "none"))
     says("a program that is none", 1, "chain      WRONG", campaign, "1", program="/bin/false")
-    closed = subprocess.run(["/bin/sh", "-c", '{ "$0" "$1" 1; echo $? >&2; } | head -n 1', AUDIT, campaign], check=False,
-                            capture_output=True, text=True)
+    closed = subprocess.run(["/bin/sh", "-c", '{ "$0" "$1" 1; echo $? >&2; } | head -n 1', AUDIT, campaign],
+                            check=False, capture_output=True, text=True)
     tally.equal("a reader that has gone", (closed.stdout.splitlines()[0].split(" of ")[0], closed.stderr),
                 ("day 1", "141\n"))
     says("a folder to keep", 0, "ok", campaign, "2", "--keep", place / "kept")

@@ -79,7 +79,8 @@ IN_ENGLISH = {
 IN_FRENCH = {
     "waiting": "en attente", "offered": "proposition", "accepted": "accepté", "refused": "refusé",
     "withdrawn": "retiré", "quit": "démission", "auto_refused": "refusé automatiquement",
-    "auto_withdrawn": "retiré automatiquement", "lapsed": "caduc", "accept": "accepter", "refuse": "refuser", "withdraw": "retirer",
+    "auto_withdrawn": "retiré automatiquement", "lapsed": "caduc",
+    "accept": "accepter", "refuse": "refuser", "withdraw": "retirer",
 }
 DOUBTFUL = ("renonce", "renoncer", "renoncement", "renonciation")
 

@@ -79,11 +79,6 @@ class SeatlessWish:
     left: int
     call_limit: CallLimit | None
 
-    @property
-    def wanting(self) -> int:
-        """How many more seats, or fewer candidates ahead, an offer needs."""
-        return self.ahead - self.left + 1
-
 
 @dataclass(frozen=True)
 class UnknownWish:

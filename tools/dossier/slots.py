@@ -19,10 +19,6 @@ class Thing(Enum):
 
     __hash__ = object.__hash__
 
-    @property
-    def plural(self) -> str:
-        return "wishes" if self is Thing.WISH else f"{self.value}s"
-
 
 class Content(Enum):
     """What the cells of a column hold. A target is a candidate's id where somebody quits, else a wish's; a day is a
