@@ -231,6 +231,13 @@ def check_said(tally: Tally, program: str) -> None:
         says("a folder that next_day keeps", 1, "see audit_day", EXAMPLES / "kept", days / "replay.txt")
         says("the stored report", 0, "as the rules say: 2 days, 38 lines", days, days / "replay.txt")
         says("the stored chain", 0, "as the rules say: 2 days, 7 lines", days, days / "chain.txt")
+        right = (days / "replay.txt").read_bytes()
+        for name, text, sentence in (("line ends of another system", right.replace(b"\n", b"\r\n"), "104\\x0d\n"),
+                                     ("a blank at an end", right.replace(b"offer 7\n", b"offer 7 \n"), "7\\x20\n"),
+                                     ("a mark", b"\xef\xbb\xbf" + right, "\\xef\\xbb\\xbforder 1"),
+                                     ("no line feed at the end", right[:-1], "waiting (no line feed ends it)\n")):
+            report.write_bytes(text)
+            says(f"what cannot be seen: {name}", 1, sentence, days, report)
         for text in (b"\0", b"\xff\n", b"order\n", b"day\n", b"fall 1 2 3 4\n", b"refused\n", b"market -1\n",
                      b"final\n", b"day 1\npass 1\nfall " + b"9" * 5000 + b" 1 1 1\n", 100 * b"order "):
             report.write_bytes(text)
