@@ -185,6 +185,10 @@ def check_pipes(tally: Tally) -> None:
                 path.unlink()
                 if kept.exists():
                     kept.rename(path)
+        os.mkfifo(place / "sheet.csv")
+        for words in (("take_in", "dossier", "sheet.csv"), ("tables", "dossier", "tables", "--names", "sheet.csv")):
+            ended = run(TOOLS / words[0], *words[1:], folder=place)
+            tally.check(f"{words[0]}: a sheet", ended.status == 3 and "sheet.csv is no file" in ended.complaint, ended)
 
 
 def check_lines(tally: Tally) -> None:

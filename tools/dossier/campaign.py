@@ -67,14 +67,18 @@ def read_files(folder: Path) -> Files:
         raise unread(error) from None
 
 
+def test_file(path: Path) -> None:
+    """What should be a file must not be a device or a named pipe: it would be waited for, and cannot be read twice."""
+    with suppress(OSError):  # it is told where it is read
+        mode = os.stat(path).st_mode
+        if not (stat.S_ISREG(mode) or stat.S_ISDIR(mode)):
+            raise Stopped(program.READ_FAULT, f"{path} is no file, but a device or a named pipe; put a file in its "
+                                              "place, and call again.")
+
+
 def test_files(folder: Path) -> None:
-    """What should be a file of the folder must not be a device or a named pipe, which would be waited for."""
     for name in (*(slot.file for slot in SLOTS), IDS, CALENDAR):
-        with suppress(OSError):  # it is told where it is read
-            mode = os.stat(folder / name).st_mode
-            if not (stat.S_ISREG(mode) or stat.S_ISDIR(mode)):
-                raise Stopped(program.READ_FAULT, f"{folder / name} is no file, but a device or a named pipe; put a "
-                                                  "file in its place, and call again.")
+        test_file(folder / name)
 
 
 def unread(error: OSError) -> Stopped:

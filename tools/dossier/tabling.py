@@ -7,7 +7,7 @@ from collections.abc import Iterator
 from pathlib import Path
 
 from . import program
-from .campaign import Stopped, test_files, unread
+from .campaign import Stopped, test_file, test_files, unread
 from .decoding import Unreadable
 from .labels import Labels, read_labels
 from .naming import Names, names_in
@@ -118,6 +118,8 @@ def labels_in(paths: list[Path], names: Names) -> Labels:
 
 def tabulate(folder: Path, out: Path, paths: list[Path], dialect: Dialect, language: Language) -> int:
     test_files(folder)
+    for path in paths:
+        test_file(path)
     names = names_in(folder)
     campaign = campaign_of(folder, names, labels_in(paths, names), language)
     files = files_of(campaign, dialect)

@@ -6,7 +6,7 @@ from pathlib import Path
 
 from . import program
 from .answering import HEADER, Answer, SheetOfAnswers, answers_in, coming_day, tell_unfit
-from .campaign import Stopped, alone, test_files, unread
+from .campaign import Stopped, alone, test_file, test_files, unread
 from .cells import DateOrder
 from .dating import Calendar
 from .decoding import Unreadable
@@ -108,6 +108,7 @@ def main(arguments: list[str]) -> int:
         stop_cleanly()
         with alone(given.folder):
             test_files(given.folder)
+            test_file(given.sheet)
             calendar = coming_day(given.folder, Calendar(1, given.start, given.term))
             choices = Choices(given.dates, None, dict(given.column))
             return take_in(given.folder, given.sheet, choices, calendar, given.replace, given.lang)
