@@ -54,7 +54,8 @@ def check_lycee(tally: Tally) -> None:
 def check_refusals(tally: Tally, folder: Path) -> None:
     for words, status, sentence in (
         (("V99",), 1, "there is no wish V99"), (("--candidate", "E99"), 1, "no wish is of a candidate E99"),
-        (("E01",), 1, "there is no wish E01"), ((), 2, "name a wish"), (("fr",), 2, "name a wish"),
+        (("E01",), 1, "there is no wish E01 in the dossier; it has a candidate of that id"), ((), 2, "name a wish"),
+        (("--candidate", "V08"), 1, "leave --candidate out"), (("fr",), 2, "name a wish"),
         (("V01", "--days", "2"), 2, "--days"),
     ):
         ended = why(folder, *words)

@@ -30,19 +30,26 @@ SAID, NOT_THERE = 0, 1
 def asked_wishes(given: list[str], candidates: list[str], wishes: list[Wish], names: Names) -> list[Wish]:
     """The wishes that the words name, and those of the candidates; raises LookupError with what is not there."""
     by_number = {wish.wish: wish for wish in wishes}
+    by_candidate: dict[int, list[Wish]] = {}
+    for wish in wishes:
+        by_candidate.setdefault(wish.candidate, []).append(wish)
     found = []
     for word in given:
         number = names.number(Thing.WISH, word)
         if number not in by_number:
-            raise LookupError(f"there is no wish {shown(word)} in the dossier; give the id of its sheet, or its "
-                              "number.")
+            is_candidate = names.number(Thing.CANDIDATE, word) in by_candidate
+            raise LookupError(f"there is no wish {shown(word)} in the dossier; " + (
+                "it has a candidate of that id: name them behind --candidate." if is_candidate else
+                "give the id of its sheet, or its number."))
         found.append(by_number[number])
     for word in candidates:
         number = names.number(Thing.CANDIDATE, word)
-        theirs = [wish for wish in wishes if wish.candidate == number]
-        if not theirs:
-            raise LookupError(f"no wish is of a candidate {shown(word)}; give the id of the sheets, or the number.")
-        found += theirs
+        if number not in by_candidate:
+            is_wish = names.number(Thing.WISH, word) in by_number
+            raise LookupError(f"no wish is of a candidate {shown(word)}; " + (
+                "there is a wish of that id: leave --candidate out." if is_wish else
+                "give the id of the sheets, or the number."))
+        found += by_candidate[number]
     return list(dict.fromkeys(found))
 
 
