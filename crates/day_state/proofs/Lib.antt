@@ -1,5 +1,5 @@
 -- Reading order. Each file says in its first line what it shows.
--- One mark: Counting, Places, KeptCounts, Lost, Freeing, Change, SameMarks, Flagged (who waits).
+-- One mark: Counting, Places, KeptCounts, Lost, Freeing, Change, SameMarks, Paired (statuses and stamps).
 -- The order by candidate: Ordering, Keys, Runs. A candidate's wishes: Along, Changing, Best, Taking.
 -- Bundles, from bottom to top: Numbering (their first wishes), Laters (the others), Sharing (which
 -- have a count), Ascending, Numbered (how they get their numbers),
@@ -27,7 +27,7 @@ pub mod Taking
 pub mod OneAccepted
 pub mod Answering
 pub mod Filled
-pub mod Flagged
+pub mod Paired
 pub mod Bundled
 pub mod Telling
 pub mod Independence

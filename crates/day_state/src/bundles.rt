@@ -7,7 +7,7 @@ ghost use Rattle.day_state.specs.Kept.{mark_in, one_if, recount_some};
 
 use crate::bundle_numbers::{Later, bare_numbers, number_firsts, number_laters, shared_firsts};
 use crate::counts::{copy_counts, recount_some, zeros};
-use crate::flagged_marks::FlaggedMarks;
+use crate::marks::Marks;
 use crate::numbers::{Number, Numbers};
 use admit_core::{OutOfMemory, Wish};
 use std::alloc::Global;
@@ -83,7 +83,7 @@ impl Bundles {
 
     /// Whether one of a wish's bundle is live. These are the marks; that of the wish is read where
     /// it is alone.
-    pub fn is_live(&self, wish: u32, marks: &FlaggedMarks) -> bool
+    pub fn is_live(&self, wish: u32, marks: &Marks) -> bool
         requires place { wish < length self.now.numbers.value }
         requires mark { wish < length marks.now }
         requires number { ForSome (count_at self.now.numbers.value wish)
@@ -120,14 +120,14 @@ impl Bundles {
 }
 
 /// Whether a bundle has a live wish. Where a wish is alone in it, the mark of that wish tells it.
-fn has_live_by(live: &Vec<u32>, number: Number, marks: &FlaggedMarks, wish: u32) -> bool
+fn has_live_by(live: &Vec<u32>, number: Number, marks: &Marks, wish: u32) -> bool
     requires mark { wish < length marks.now }
     requires number { ForSome (count_of number) (λ n. n < length live.now.items) }
     ensures { result ≡ has_live live.now.items number (is_live (mark_in marks.now wish)) }
 {
     match number {
         Number::NoSite => false,
-        Number::Alone => marks.get(wish).is_live(),
+        Number::Alone => marks.is_live(wish),
         Number::Shared(_) => has_live(live, number, false),
     }
 }

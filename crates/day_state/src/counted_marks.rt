@@ -13,11 +13,11 @@ ghost use Rattle.day_state.specs.Kept.{mark_in, lives_at, has_seat_there, has_be
 use crate::bundle_numbers::laters_of;
 use crate::bundles::{Bundles, Sites};
 use crate::counts::{copy_counts, recount, recount_some, zeros};
-use crate::flagged_marks::FlaggedMarks;
 use crate::mark::{
     OwnChange, better, changed_by, is_same_mark, live_preference, lives_in_programme,
     lives_in_school, lost, wish_at,
 };
+use crate::marks::Marks;
 use admit_core::{Dossier, Freed, Mark, OutOfMemory, Stamp, Wish};
 use std::alloc::Global;
 use std::marker::Model;
@@ -28,7 +28,7 @@ use std::marker::Model;
 #[derive(Drop)]
 pub struct CountedMarks<'d> {
     dossier: &'d Dossier,
-    marks: FlaggedMarks,
+    marks: Marks,
     seats: Vec<u32>,
     beds: Vec<u32>,
     in_programmes: Bundles,
@@ -62,7 +62,7 @@ impl<'d> CountedMarks<'d> {
         let wishes = dossier.wishes.as_slice();
         let programmes = dossier.programmes.len();
         let schools = dossier.schools.len();
-        let marks = FlaggedMarks::all_waiting(alloc, wishes.len())?;
+        let marks = Marks::all_waiting(alloc, wishes.len())?;
         let seats = zeros(alloc, programmes)?;
         let beds = zeros(alloc, schools)?;
         let laters = laters_of(alloc, wishes, order, programmes, schools)?;
@@ -107,10 +107,10 @@ impl<'d> CountedMarks<'d> {
     }
 
     /// The marks of all wishes, by place.
-    pub fn marks(&self) -> &[Mark]
+    pub fn marks(&self) -> &Marks
         ensures { result.now ≡ self.now.marks }
     {
-        self.marks.marks()
+        &self.marks
     }
 
     /// Whether each wish waits, by place.
@@ -157,12 +157,7 @@ impl<'d> CountedMarks<'d> {
         ensures { result ≡ holds_seat self.now candidate programme }
     {
         let dossier = self.dossier;
-        any_in_programme(
-            dossier.wishes.as_slice(),
-            self.marks.marks(),
-            own,
-            programme,
-        )
+        any_in_programme(dossier.wishes.as_slice(), &self.marks, own, programme)
     }
 
     /// Whether a candidate is live in a school; `own` has the places of their wishes.
@@ -171,7 +166,7 @@ impl<'d> CountedMarks<'d> {
         ensures { result ≡ holds_bed self.now candidate school }
     {
         let dossier = self.dossier;
-        any_in_school(dossier.wishes.as_slice(), self.marks.marks(), own, school)
+        any_in_school(dossier.wishes.as_slice(), &self.marks, own, school)
     }
 
     /// Whether a wish's candidate is live in its programme.
@@ -197,7 +192,7 @@ impl<'d> CountedMarks<'d> {
         ensures { result ≡ option_map (λ x. x.0.preference) (best_live self.now candidate) }
     {
         let dossier = self.dossier;
-        best_among(dossier.wishes.as_slice(), self.marks.marks(), own)
+        best_among(dossier.wishes.as_slice(), &self.marks, own)
     }
 
     /// Changes all wishes of a candidate, and counts what that frees; `own` has their places.
@@ -256,7 +251,7 @@ impl<'d> CountedMarks<'d> {
     {
         let dossier = self.dossier;
         let named = wish_at(dossier.wishes.as_slice(), wish);
-        let was_live = self.marks.get(wish).is_live();
+        let was_live = self.marks.is_live(wish);
         let lives = mark.is_live();
         let seat = self.in_programmes.turn(wish, was_live, lives);
         let bed = self.in_schools.turn(wish, was_live, lives);
@@ -286,7 +281,7 @@ pub fn freed_in_all(first: Freed, then: Freed) -> Freed
 }
 
 /// The preference number of the best of a candidate's live wishes that are ranked.
-fn best_among(wishes: &[Wish], marks: &[Mark], own: &[u32]) -> Option<u32>
+fn best_among(wishes: &[Wish], marks: &Marks, own: &[u32]) -> Option<u32>
     requires wishes { All (λ k. k < length wishes.now) own.now }
     requires marks { length marks.now ≡ length wishes.now }
     ensures { result ≡ best_among wishes.now marks.now own.now }
@@ -297,7 +292,7 @@ fn best_among(wishes: &[Wish], marks: &[Mark], own: &[u32]) -> Option<u32>
 }
 
 /// Whether one of a candidate's own wishes is live in a programme.
-fn any_in_programme(wishes: &[Wish], marks: &[Mark], own: &[u32], programme: u32) -> bool
+fn any_in_programme(wishes: &[Wish], marks: &Marks, own: &[u32], programme: u32) -> bool
     requires wishes { All (λ k. k < length wishes.now) own.now }
     requires marks { length marks.now ≡ length wishes.now }
     ensures { result ≡ list_any (lives_at wishes.now marks.now (λ w. w.programme == programme))
@@ -307,7 +302,7 @@ fn any_in_programme(wishes: &[Wish], marks: &[Mark], own: &[u32], programme: u32
 }
 
 /// Whether one of a candidate's own wishes is live in a school.
-fn any_in_school(wishes: &[Wish], marks: &[Mark], own: &[u32], school: u32) -> bool
+fn any_in_school(wishes: &[Wish], marks: &Marks, own: &[u32], school: u32) -> bool
     requires wishes { All (λ k. k < length wishes.now) own.now }
     requires marks { length marks.now ≡ length wishes.now }
     ensures { result ≡ list_any (lives_at wishes.now marks.now (λ w. has_school w school)) own.now }

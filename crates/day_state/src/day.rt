@@ -18,8 +18,9 @@ ghost use Rattle.day_state.specs.Applied.{answered, after_fitting, after_fitting
 
 use crate::counted_marks::CountedMarks;
 use crate::index::{CandidateIndex, candidate_at};
-use crate::mark::{OwnChange, changed_to, first_mark, lapses};
-use admit_core::{Answer, AnswerKind, Dossier, Freed, Mark, OutOfMemory, Stamp, Status, Terms};
+use crate::mark::{OwnChange, changed_to, first_mark, kind_fits, lapses};
+use crate::marks::Marks;
+use admit_core::{Answer, AnswerKind, Dossier, Freed, OutOfMemory, Stamp, Status, Terms};
 use std::alloc::Global;
 use std::marker::Model;
 use std::rc::Rc;
@@ -102,7 +103,7 @@ impl<'d> DayState<'d> {
     }
 
     /// The marks of all wishes, by place.
-    pub fn marks(&self) -> &[Mark]
+    pub fn marks(&self) -> &Marks
         ensures marks { result.now ≡ self.now.marks }
         ensures one_each { length result.now ≡ length self.now.dossier.wishes }
     {
@@ -128,7 +129,7 @@ impl<'d> DayState<'d> {
         requires { wish < length self.now.dossier.wishes }
         ensures { result ≡ status_at self.now wish }
     {
-        self.live.mark(wish).status
+        self.live.marks().status(wish)
     }
 
     /// The stamp of a wish.
@@ -136,7 +137,7 @@ impl<'d> DayState<'d> {
         requires { wish < length self.now.dossier.wishes }
         ensures { result ≡ (mark_at self.now wish).stamp }
     {
-        self.live.mark(wish).stamp
+        self.live.marks().stamp(wish)
     }
 
     /// The number of candidates who are live in a programme.
@@ -276,35 +277,34 @@ impl<'d> DayState<'d> {
             .change_own(own, candidate, OwnChange::QuitOpen, stamp);
     }
 
+    /// Refuses an answer that does not fit.
+    fn test(&self, answer: Answer) -> Result<(), UnfitAnswer>
+        requires { IsTarget self.now.dossier answer.kind answer.target }
+        ensures { result ≡ answered self.now answer }
+    {
+        if answer.kind == AnswerKind::Quit {
+            return Ok(()); // its target is no wish
+        }
+        let status = self.status(answer.target);
+        if kind_fits(answer.kind, status) {
+            Ok(())
+        } else {
+            Err(UnfitAnswer { status })
+        }
+    }
+
     /// Does what an answer says, where it fits.
     pub fn apply(&mut self, answer: Answer, stamp: Stamp) -> Result<(), UnfitAnswer>
         requires { IsTarget self.old.dossier answer.kind answer.target }
         ensures result { result ≡ answered self.old answer }
         ensures state { self.new ≡ after_fitting self.old stamp answer }
     {
+        self.test(answer)?;
         let wish = answer.target;
         match answer.kind {
-            AnswerKind::Accept => {
-                let status = self.status(wish);
-                if !status.is_live() {
-                    return Err(UnfitAnswer { status });
-                }
-                self.accept(wish, stamp);
-            }
-            AnswerKind::Refuse => {
-                let status = self.status(wish);
-                if !status.is_live() {
-                    return Err(UnfitAnswer { status });
-                }
-                self.put(wish, Status::Refused, stamp);
-            }
-            AnswerKind::Withdraw => {
-                let status = self.status(wish);
-                if !status.is_waiting() {
-                    return Err(UnfitAnswer { status });
-                }
-                self.put(wish, Status::Withdrawn, stamp);
-            }
+            AnswerKind::Accept => self.accept(wish, stamp),
+            AnswerKind::Refuse => self.put(wish, Status::Refused, stamp),
+            AnswerKind::Withdraw => self.put(wish, Status::Withdrawn, stamp),
             AnswerKind::Quit => self.quit(answer.target, stamp),
         }
         Ok(())

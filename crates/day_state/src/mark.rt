@@ -1,6 +1,7 @@
 //! Tests of wishes and their marks.
 ghost use Rattle.std.specs.Prelude.{◌≡◌, ◌<◌, ◌≤◌, ◌+◌, ◌^◌, ◌&&◌, ◌==◌, length, IsTrue, not, pos, negsuc, ◌≤ℤ◌, slice_index_or, if◌then◌else◌};
 ghost use Rattle.admit_core.specs.State.{changed_to, has_school};
+ghost use Rattle.admit_core.specs.Answers.{kind_fits};
 ghost use Rattle.admit_core.specs.AutoAnswer.{auto_status};
 ghost use Rattle.admit_core.specs.Days.{first_mark};
 ghost use Rattle.admit_core.specs.Lapses.{lapses, offer_day};
@@ -8,7 +9,8 @@ ghost use Rattle.day_state.specs.Along.{changed_by};
 ghost use Rattle.day_state.specs.Best.{better, live_preference};
 ghost use Rattle.day_state.specs.Kept.{is_same_mark, mark_in, wish_in, lives_at, one_if};
 
-use admit_core::{Mark, Stamp, Status, Terms, Wish};
+use crate::marks::Marks;
+use admit_core::{AnswerKind, Mark, Stamp, Status, Terms, Wish};
 
 /// The mark of a wish that gets a status: the stamp changes only with the status.
 pub fn changed_to(mark: Mark, status: Status, stamp: Stamp) -> Mark
@@ -28,6 +30,17 @@ pub fn is_same_mark(one: Mark, other: Mark) -> bool
     one.status == other.status
         && one.stamp.day == other.stamp.day
         && one.stamp.pass == other.stamp.pass
+}
+
+/// Whether an answer of a kind fits a wish of this status.
+pub fn kind_fits(kind: AnswerKind, status: Status) -> bool
+    ensures { result ≡ kind_fits kind status }
+{
+    match kind {
+        AnswerKind::Accept | AnswerKind::Refuse => status.is_live(),
+        AnswerKind::Withdraw => status.is_waiting(),
+        AnswerKind::Quit => true,
+    }
 }
 
 /// The day of a wish's offer: its stamp's, or the one that it came in with.
@@ -118,12 +131,12 @@ pub fn better(one: Option<u32>, other: Option<u32>) -> Option<u32>
 
 /// The preference number of the wish at a place, where it is live and its candidate ranks their
 /// wishes.
-pub fn live_preference(wishes: &[Wish], marks: &[Mark], place: u32) -> Option<u32>
+pub fn live_preference(wishes: &[Wish], marks: &Marks, place: u32) -> Option<u32>
     requires wish { place < length wishes.now }
     requires mark { place < length marks.now }
     ensures { result ≡ live_preference wishes.now marks.now place }
 {
-    if !marks[place as usize].is_live() {
+    if !marks.is_live(place) {
         return None; // without a look at its row
     }
     let preference = wishes[place as usize].preference;
@@ -143,21 +156,21 @@ pub fn wish_at(wishes: &[Wish], place: u32) -> Wish
 }
 
 /// Whether the wish at a place is live in a programme.
-pub fn lives_in_programme(wishes: &[Wish], marks: &[Mark], place: u32, programme: u32) -> bool
+pub fn lives_in_programme(wishes: &[Wish], marks: &Marks, place: u32, programme: u32) -> bool
     requires wish { place < length wishes.now }
     requires mark { place < length marks.now }
     ensures { result ≡ lives_at wishes.now marks.now (λ w. w.programme == programme) place }
 {
-    marks[place as usize].is_live() && wishes[place as usize].programme == programme
+    marks.is_live(place) && wishes[place as usize].programme == programme
 }
 
 /// Whether the wish at a place is live in a school.
-pub fn lives_in_school(wishes: &[Wish], marks: &[Mark], place: u32, school: u32) -> bool
+pub fn lives_in_school(wishes: &[Wish], marks: &Marks, place: u32, school: u32) -> bool
     requires wish { place < length wishes.now }
     requires mark { place < length marks.now }
     ensures { result ≡ lives_at wishes.now marks.now (λ w. has_school w school) place }
 {
-    marks[place as usize].is_live() && wishes[place as usize].school == Some(school)
+    marks.is_live(place) && wishes[place as usize].school == Some(school)
 }
 
 /// 1 where one who was counted no longer is.

@@ -36,12 +36,13 @@ fn lapses_on(
     requires day { day ≤ 366 }
     ensures { IfOk result (λ v. v.items ≡ lapses_of terms.now day state.now) }
 {
-    let _ = state.dossier().wishes.len(); // at most 16,000,000
+    let marks = state.marks();
+    let count = state.dossier().wishes.len() as u32;
     let mut lapsed = Vec::new(alloc);
-    for (place, mark) in state.marks().iter().enumerate() {
-        let wish = place as u32;
-        if lapses(terms, day, wish, *mark) {
-            let offered = narrow(offer_day(terms, wish, *mark));
+    for wish in 0..count {
+        let mark = marks.get(wish);
+        if lapses(terms, day, wish, mark) {
+            let offered = narrow(offer_day(terms, wish, mark));
             lapsed.push(Lapse { wish, offered })?;
         }
     }

@@ -3,8 +3,8 @@ ghost use Rattle.std.specs.Prelude.{◌≡◌, [], IfOk, IfSome, IsOk, map, opti
 ghost use Rattle.next_morning.specs.Morning.{HaveDates, later_answers, later_ceilings, state_row, told_rows, with_ceiling};
 
 use crate::dates::dated_rows;
-use admit_core::{AnswerRow, CeilingRow, Mark, OutOfMemory, SchoolRow, StateRow, WishRow};
-use day_state::DayState;
+use admit_core::{AnswerRow, CeilingRow, OutOfMemory, SchoolRow, StateRow, WishRow};
+use day_state::{DayState, Marks};
 use intake::DatedTerms;
 use std::alloc::Global;
 
@@ -35,7 +35,7 @@ pub(crate) fn school_rows(
 fn state_rows(
     alloc: Global,
     wishes: &[WishRow],
-    marks: &[Mark],
+    marks: &Marks,
 ) -> Result<Vec<StateRow>, OutOfMemory>
     ensures rows { IfOk result (λ rows. rows.items ≡ map state_row (zip wishes.now marks.now)) }
     ensures always { wishes.now ≡ [] → IsOk result }
@@ -44,10 +44,10 @@ fn state_rows(
         return Ok(Vec::new(alloc));
     }
     let mut rows = Vec::new(alloc);
-    for (wish, mark) in wishes.iter().zip(marks) {
+    for (wish, status) in wishes.iter().zip(marks.statuses()) {
         rows.push(StateRow {
             wish: wish.id,
-            status: mark.status,
+            status: *status,
             since: None,
         })?;
     }

@@ -25,7 +25,7 @@ pub fn mark_at(state: &DayState<'_>, place: u32) -> Mark
     requires { place < length state.now.dossier.wishes }
     ensures { result ≡ mark_in state.now.marks place }
 {
-    state.marks()[place as usize]
+    state.marks().get(place)
 }
 
 /// Whether the candidate of the wish at a place, where they have no bed in its school, ranks

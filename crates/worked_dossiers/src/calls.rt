@@ -78,8 +78,8 @@ fn day_text(alloc: Global, dossier: &Dossier, day: &DayRecord) -> Result<String,
 fn state_text(alloc: Global, state: &DayState<'_>) -> Result<String, OutOfMemory> {
     let mut text = String::new(alloc);
     let wishes = state.dossier().wishes.as_slice();
-    for (wish, mark) in wishes.iter().zip(state.marks()) {
-        write!(text, "{} {}\n", wish.id, mark.status.word())?;
+    for (wish, status) in wishes.iter().zip(state.marks().statuses()) {
+        write!(text, "{} {}\n", wish.id, status.word())?;
     }
     Ok(text)
 }

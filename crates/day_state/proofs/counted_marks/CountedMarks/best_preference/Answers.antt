@@ -20,6 +20,6 @@ returns c =
     ∙ ap (λ (d : DossierRows). d.wishes) c.dossier.view_is in
     let s = state_of c.self.inside.dossier.now c.self.inside.marks in
     c.best_among.ensures
-    ∙ rw (wishes, c.marks.ensures, c.requires, ← ap (λ (s : State). s.dossier) c.self.view_is)
+    ∙ rw (wishes, c.requires, ← ap (λ (s : State). s.dossier) c.self.view_is)
     (best_own s c.args.candidate c.self.invariant.kept.marks)
     ∙ ap (λ (s : State). option_map (λ x. x.0.preference) (best_live s c.args.candidate)) c.self.view_is

@@ -20,6 +20,6 @@ returns c =
     let s = state_of c.self.inside.dossier.now c.self.inside.marks in
     let is = c.self.view_is in
     c.any_in_school.ensures
-    ∙ rw (wishes, c.marks.ensures, c.requires, ← ap (λ (s : State). s.dossier) c.self.view_is)
+    ∙ rw (wishes, c.requires, ← ap (λ (s : State). s.dossier) c.self.view_is)
     (own_any (λ w. has_school w c.args.school) s c.args.candidate c.self.invariant.kept.marks)
     ∙ ap (λ (s : State). holds_one (λ w. has_school w c.args.school) s c.args.candidate) c.self.view_is

@@ -1,6 +1,5 @@
 use Rattle.std.proofs.Common.{◌≡◌, ◌<◌, ◌∙◌, ap, sym, subst, length}
 use Rattle.admit_core.specs.DossierRows.{DossierRows}
-use Rattle.admit_core.specs.State.{is_live}
 use Rattle.admit_core.specs.Validity.{IsValid}
 use Rattle.day_state.proofs.Change.{seat_ready, bed_ready, freed_changed}
 use Rattle.day_state.proofs.Bundled.{can_turn}
@@ -13,7 +12,7 @@ turn-seat-requires c =
     let marks = c.self.inside.marks in
     let in_range : c.args.wish < length marks = rw (sym c.self.view_is) at c.requires in
     let valid : IsValid d = subst IsValid c.dossier.view_is c.dossier.invariant in
-    let was = c.is_live-was_live.ensures ∙ ap is_live c.get.ensures in
+    let was = c.is_live-was_live.ensures in
     let can = can_turn c.self.invariant.programmes c.self.invariant.kept.marks in_range valid.size.wishes c.args.mark
     was c.is_live-lives.ensures in
     record { place = can.has.place; number = can.has.number; comes = can.comes; goes = can.goes }
@@ -24,7 +23,7 @@ turn-bed-requires c =
     let marks = c.self.inside.marks in
     let in_range : c.args.wish < length marks = rw (sym c.self.view_is) at c.requires in
     let valid : IsValid d = subst IsValid c.dossier.view_is c.dossier.invariant in
-    let was = c.is_live-was_live.ensures ∙ ap is_live c.get.ensures in
+    let was = c.is_live-was_live.ensures in
     let can = can_turn c.self.invariant.schools c.self.invariant.kept.marks in_range valid.size.wishes c.args.mark
     was c.is_live-lives.ensures in
     record { place = can.has.place; number = can.has.number; comes = can.comes; goes = can.goes }
@@ -37,7 +36,7 @@ recount-requires c =
     let valid : IsValid d = subst IsValid c.dossier.view_is c.dossier.invariant in
     let wishes : c.as_slice.result.now ≡ d.wishes =
     c.as_slice.ensures ∙ ap (λ (d : DossierRows). d.wishes) c.dossier.view_is in
-    let was = c.is_live-was_live.ensures ∙ ap is_live c.get.ensures in
+    let was = c.is_live-was_live.ensures in
     let seat = seat_turned c.self.invariant in_range c.args.mark was c.is_live-lives.ensures c.turn-seat.ensures.live
     c.turn-seat.ensures.had c.turn-seat.ensures.has in
     let ready = seat_ready valid c.self.invariant.kept in_range c.args.mark in
@@ -55,7 +54,7 @@ recount_some-requires c =
     let valid : IsValid d = subst IsValid c.dossier.view_is c.dossier.invariant in
     let wishes : c.as_slice.result.now ≡ d.wishes =
     c.as_slice.ensures ∙ ap (λ (d : DossierRows). d.wishes) c.dossier.view_is in
-    let was = c.is_live-was_live.ensures ∙ ap is_live c.get.ensures in
+    let was = c.is_live-was_live.ensures in
     let bed = bed_turned c.self.invariant in_range c.args.mark was c.is_live-lives.ensures c.turn-bed.ensures.live
     c.turn-bed.ensures.had c.turn-bed.ensures.has in
     let ready = bed_ready valid c.self.invariant.kept in_range c.args.mark in
@@ -73,7 +72,7 @@ invariant_of-self c =
     let valid : IsValid d = subst IsValid c.dossier.view_is c.dossier.invariant in
     let wishes : c.as_slice.result.now ≡ d.wishes =
     c.as_slice.ensures ∙ ap (λ (d : DossierRows). d.wishes) c.dossier.view_is in
-    let was = c.is_live-was_live.ensures ∙ ap is_live c.get.ensures in
+    let was = c.is_live-was_live.ensures in
     let seat = seat_turned c.self.invariant in_range c.args.mark was c.is_live-lives.ensures c.turn-seat.ensures.live
     c.turn-seat.ensures.had c.turn-seat.ensures.has in
     let bed = bed_turned c.self.invariant in_range c.args.mark was c.is_live-lives.ensures c.turn-bed.ensures.live
@@ -103,7 +102,7 @@ returns-clause-freed c =
     let marks = c.self.inside.marks in
     let in_range : c.args.wish < length marks = rw (sym c.self.view_is) at c.requires in
     let valid : IsValid d = subst IsValid c.dossier.view_is c.dossier.invariant in
-    let was = c.is_live-was_live.ensures ∙ ap is_live c.get.ensures in
+    let was = c.is_live-was_live.ensures in
     let seat = seat_turned c.self.invariant in_range c.args.mark was c.is_live-lives.ensures c.turn-seat.ensures.live
     c.turn-seat.ensures.had c.turn-seat.ensures.has in
     let bed = bed_turned c.self.invariant in_range c.args.mark was c.is_live-lives.ensures c.turn-bed.ensures.live

@@ -1,0 +1,17 @@
+use Rattle.std.proofs.Common.{◌≡◌, ◌∙◌, ap, sym, length, List}
+use Rattle.admit_core.specs.declared.state.Status.{Status}
+use Rattle.day_state.specs.Marks.{marks_of}
+use Rattle.day_state.proofs.Paired.{length-marks}
+use Rattle.day_state.proofs.marks.Marks.set_from.Goals as goal
+
+pub copy_from_slice-requires : goal.copy_from_slice-requires
+copy_from_slice-requires c =
+    let m = c.self.inside in
+    let n = c.other.inside in
+    let long : length (marks_of m.statuses.items m.stamps.items) ≡ length (marks_of n.statuses.items n.stamps.items) =
+    rw (sym c.self.view_is, sym c.other.view_is) at c.requires in
+    ap (λ (l : List Status). length l) c.as_mut_slice.ensures.value
+    ∙ sym (length-marks m.statuses.items m.stamps.items c.self.invariant.long)
+    ∙ long
+    ∙ length-marks n.statuses.items n.stamps.items c.other.invariant.long
+    ∙ sym (ap (λ (l : List Status). length l) c.as_slice.ensures.value)
