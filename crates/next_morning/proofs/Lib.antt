@@ -1,7 +1,7 @@
--- Reading order: RowsMore; SameDossier; Faultless and InRange (what a check asks of tables); Mornings (the
--- laws); WorkedMorning (their witnesses); DatedRows, DatedFaultless, DatedMornings and WorkedDates
--- (the same where offers have deadlines); ReadStates and WorkedReads (what final lines are read as);
--- RowsBack (what `next_rows` makes of the evening alone).
+-- Reading order: RowsMore; StatusRows; SameDossier; Faultless and InRange (what a check asks of tables);
+-- Mornings (the laws); WorkedMorning (their witnesses); DatedRows, DatedFaultless, DatedMornings and
+-- WorkedDates (the same where offers have deadlines); ReadStates and WorkedReads (what final lines are
+-- read as); RowsBack (what `next_rows` makes of the evening alone).
 pub mod DatedFaultless
 pub mod DatedMornings
 pub mod DatedRows
@@ -12,6 +12,7 @@ pub mod ReadStates
 pub mod RowsBack
 pub mod RowsMore
 pub mod SameDossier
+pub mod StatusRows
 pub mod WorkedDates
 pub mod WorkedMorning
 pub mod WorkedReads
