@@ -1,9 +1,10 @@
 //! Call orders by four queues: each call is chosen by the heads of the queues alone.
-ghost use Rattle.std.specs.Prelude.{◌≡◌, ◌+◌, ◌++◌, ◌<◌, ◌≤◌, ◌^◌, ◌&&◌, [], length, map, nat_eq, option_map, IfOk, IfErr, OnErr};
+ghost use Rattle.std.specs.Prelude.{◌≡◌, ◌+◌, ◌<◌, ◌≤◌, ◌^◌, ◌&&◌, length, map, nat_eq, IfOk, OnErr};
 ghost use Rattle.std.specs.List.{list_any, IsDistinct};
 ghost use Rattle.admit_core.specs.CallOrder.{IsCallOrder};
 ghost use Rattle.admit_core.specs.CallOrderLaws.{KeepsOrderLaws};
 ghost use Rattle.call_order.specs.Kinds.{is_of};
+ghost use Rattle.call_order.specs.QueueLists.{TakesAll, TakesNobody};
 ghost use Rattle.call_order.specs.QueuedCalls.{ranking_in, more_called, too_few, bound_by, call_by};
 
 use crate::kind::Kind;
@@ -120,11 +121,8 @@ pub fn call_order_queued<L: Ledger>(
     requires candidates { IsDistinct nat_eq (map (λ r. r.candidate) queues.old.remaining) }
     ensures order { IfOk result (IsCallOrder (ranking_in scholar_pct resident_pct queues.old)) }
     ensures laws { IfOk result (KeepsOrderLaws (ranking_in scholar_pct resident_pct queues.old)) }
-    ensures emptied { IfOk result (λ order. queues.new.remaining ≡ []) }
-    ensures taken { IfOk result (λ order. queues.new.taken ≡ queues.old.taken ++ order.list) }
-    ensures steps { IfOk result (λ order. steps.new ≡ steps.old + length queues.old.remaining) }
-    ensures unchanged { IfErr result (λ want. queues.new ≡ queues.old) }
-    ensures no_step { IfErr result (λ want. steps.new ≡ steps.old) }
+    ensures all_taken { IfOk result (TakesAll queues.old queues.new steps.old steps.new) }
+    ensures none_taken { OnErr result (TakesNobody queues.old queues.new steps.old steps.new) }
     ensures memory { OnErr result (0 < length queues.old.remaining) }
 {
     let count = queues.remaining();

@@ -101,21 +101,14 @@ returns-clause-laws g c =
     c.requires.candidates) (sym c.next_call.ensures ∙ c.in_default.is) in
     rw (c.from_vec.ensures, c.from_vec-2.ensures) end.laws
 
-pub returns-clause-emptied : goal.returns-clause-emptied
-returns-clause-emptied g c =
-    let end = queued_done c.loop-ranked.invariant.so_far
-    (ranking_from c.requires.scholar_pct c.requires.resident_pct c.remaining-count.ensures.ranks
-    c.requires.candidates) (sym c.next_call.ensures ∙ c.in_default.is) in
-    end.nobody
-
-pub returns-clause-taken : goal.returns-clause-taken
-returns-clause-taken g c =
-    rw c.from_vec.ensures c.loop-ranked.invariant.taken
-
-pub returns-clause-steps : goal.returns-clause-steps
-returns-clause-steps g c =
+pub returns-clause-all_taken : goal.returns-clause-all_taken
+returns-clause-all_taken g c =
     let end = queued_done c.loop-ranked.invariant.so_far
     (ranking_from c.requires.scholar_pct c.requires.resident_pct c.remaining-count.ensures.ranks
     c.requires.candidates) (sym c.next_call.ensures ∙ c.in_default.is) in
     let none = ap length end.nobody in
-    omega (arith, c.loop-ranked.invariant.steps, c.loop-ranked.invariant.so_far.count, none)
+    record {
+      emptied = end.nobody;
+      taken = rw c.from_vec.ensures c.loop-ranked.invariant.taken;
+      steps = omega (arith, c.loop-ranked.invariant.steps, c.loop-ranked.invariant.so_far.count, none);
+    }
