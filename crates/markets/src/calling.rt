@@ -1,5 +1,5 @@
 //! Who lists a programme, in the order in which its group calls them.
-ghost use Rattle.std.specs.Prelude.{◌≡◌, ◌<◌, ◌≤◌, [], length, filter, map, nat_eq, slice_index, true, IfOk, None, OnOk, Some};
+ghost use Rattle.std.specs.Prelude.{◌≡◌, ◌<◌, ◌≤◌, [], length, filter, map, nat_eq, slice_index, IfOk, None, OnOk, Some};
 ghost use Rattle.std.specs.List.{position_or_len, range_with_len};
 ghost use Rattle.std.specs.List.Sorted.{IsPermutation};
 ghost use Rattle.admit_core.specs.DossierRows.{group_of};

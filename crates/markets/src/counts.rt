@@ -1,6 +1,6 @@
 //! How many candidates have a place in each programme.
-ghost use Rattle.std.specs.Prelude.{ℕ, ◌≡◌, ◌<◌, ◌≤◌, ◌+◌, length, Some, IfOk, replicate, slice_index, slice_index_or};
-ghost use Rattle.markets.specs.Matchings.{place_of, holders};
+ghost use Rattle.std.specs.Prelude.{ℕ, ◌≡◌, ◌<◌, ◌≤◌, ◌+◌, length, Some, IfOk, slice_index};
+ghost use Rattle.markets.specs.Matchings.{place_of};
 ghost use Rattle.markets.specs.Rounds.{AreCounts};
 ghost use Rattle.markets.specs.Fillings.{counted_in};
 

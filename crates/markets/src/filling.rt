@@ -1,6 +1,5 @@
 //! How many candidates programmes have, with a list of those that have more than their seats.
-ghost use Rattle.std.specs.Prelude.{◌≡◌, ◌<◌, ◌≤◌, length, slice_index, slice_set, IfOk, IsOk, [], filter};
-ghost use Rattle.std.specs.List.{range_with_len};
+ghost use Rattle.std.specs.Prelude.{◌≡◌, ◌<◌, ◌≤◌, length, slice_index, slice_set, IfOk, IsOk, []};
 ghost use Rattle.markets.specs.Fillings.{overfilled, is_over};
 
 use admit_core::OutOfMemory;

@@ -1,8 +1,7 @@
 //! A market as a system of falling bars.
-ghost use Rattle.std.specs.Prelude.{ℕ, ◌≡◌, ◌<◌, ◌≤◌, length, map, filter, nat_le, slice_get, slice_index, ◌-◌, [], All, IfOk, IsOk};
-ghost use Rattle.markets.specs.Markets.{IsMarket, market_order, candidate_at};
-ghost use Rattle.markets.specs.Matchings.{IsMatching};
-ghost use Rattle.markets.specs.Bars.{demanded, market_system, place_codes, place_code};
+ghost use Rattle.std.specs.Prelude.{ℕ, ◌≡◌, ◌<◌, ◌≤◌, length, map, filter, nat_le, slice_get, slice_index, ◌-◌, [], IfOk, IsOk};
+ghost use Rattle.markets.specs.Markets.{market_order, candidate_at};
+ghost use Rattle.markets.specs.Bars.{market_system, place_codes, place_code};
 ghost use Rattle.markets.specs.Rounds.{IsRound, held_to};
 ghost use Rattle.bar_fixpoint.specs.Overfilled.{all_overfilled, rank_over};
 

@@ -1,5 +1,5 @@
 //! The stable matching that is best for every candidate.
-ghost use Rattle.std.specs.Prelude.{◌≡◌, length, IfOk, OnErr};
+ghost use Rattle.std.specs.Prelude.{◌≡◌, IfOk, OnErr};
 ghost use Rattle.admit_core.specs.Falls.{IsGreatest};
 ghost use Rattle.markets.specs.Matchings.{IsStable, IsBestForAll};
 ghost use Rattle.markets.specs.Bars.{market_system, matched_under, place_codes};

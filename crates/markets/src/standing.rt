@@ -1,10 +1,7 @@
 //! Where candidates stand in their lists, and the places that they have so.
-ghost use Rattle.std.specs.Prelude.{◌≡◌, ◌<◌, ◌≤◌, length, map, IfOk, slice_get, slice_index};
-ghost use Rattle.std.specs.List.{range_with_len};
-ghost use Rattle.markets.specs.Markets.{IsMarket, list_of};
-ghost use Rattle.markets.specs.Matchings.{is_at};
+ghost use Rattle.std.specs.Prelude.{◌≡◌, ◌<◌, ◌≤◌, length, IfOk, slice_get};
+ghost use Rattle.markets.specs.Markets.{list_of};
 ghost use Rattle.markets.specs.Bars.{matched_under};
-ghost use Rattle.markets.specs.Rounds.{AreCounts};
 ghost use Rattle.markets.specs.Standing.{AreBeyond, AreStands, IsStand};
 
 use crate::market::Market;
