@@ -164,15 +164,17 @@ module _ (sys : FallingSystem) (lawful : IsLawful sys) (choice : List ℕ → Li
       let P : FallingSystem → Type 0 = λ s. is_settled s bars ≡ true in
       let same_sum : sum after ≡ sum bars = ap sum rest.1 in
       record {
-        run = record {
+        by = record {
           falls = falls;
-          is_run = run_so_far sys lawful choice told falls bars told_now so_far (subst P same rest.0);
-          chosen = so_far.chosen;
-          bars_fell = rest.1 ∙ so_far.bars_fell;
-          told_of = rest.2 ∙ so_far.told_of;
+          run = record {
+            is_run = run_so_far sys lawful choice told falls bars told_now so_far (subst P same rest.0);
+            bars_fell = rest.1 ∙ so_far.bars_fell;
+            few = omega (arith, same_sum, so_far.few);
+            told_of = rest.2 ∙ so_far.told_of;
+            chosen = so_far.chosen;
+          };
         };
         given_all = given_all;
-        few = omega (arith, same_sum, so_far.few);
       }
 
   -- memory ran out in the next step

@@ -1,9 +1,9 @@
 -- Falls whose places a picker chose.
-use Rattle.std.specs.Prelude.{◌≡◌, ℕ, List, [], ◌∷◌, ◌++◌, ◌⊎◌, IsTrue, ⊤}
+use Rattle.std.specs.Prelude.{◌≡◌, ℕ, ◌+◌, ◌≤◌, List, length, sum, [], ◌∷◌, ◌++◌, ◌⊎◌, IsTrue, ⊤}
 use Rattle.admit_core.specs.declared.records.Fall.{Fall}
 use Rattle.admit_core.specs.Falls.{FallingSystem, is_overfilled, fall_of, fallen, bars_after, AreFalls, IsRunOfFalls}
 use Rattle.bar_fixpoint.specs.Overfilled.{all_overfilled}
-use Rattle.bar_fixpoint.specs.Runs.{schools_of}
+use Rattle.bar_fixpoint.specs.Runs.{AreAboveAllThatFit, schools_of}
 
 -- from these bars on, each place that fell was chosen from all that were overfilled
 abbrev pub AreChosen : FallingSystem → (List ℕ → List ℕ → ℕ) → List ℕ → List ℕ → List Fall → Type 0
@@ -56,12 +56,28 @@ abbrev pub TellsOfFalls : FallingSystem → (List ℕ → List ℕ → ℕ) → 
 TellsOfFalls sys choice told told_after =
     (bars : List ℕ) × EndsEarly sys choice told told_after bars
 
--- a run of falls led from the ceilings to these bars, and the picker chose each place that fell and
--- told of it
+-- these falls are a run that led from the ceilings to these bars, and the picker chose each place
+-- that fell and told of it
+pub record IsRunOf (sys : FallingSystem) (choice : List ℕ → List ℕ → ℕ)
+    (told told_after after : List ℕ) (falls : List Fall) : Type 0 where
+  -- each is that of an overfilled place, and none is overfilled after the last
+  pub is_run : IsRunOfFalls sys falls
+  pub bars_fell : after ≡ bars_after sys.ceilings falls
+  -- each takes one at least from the sum of the bars
+  pub few : length falls + sum after ≤ sum sys.ceilings
+  pub told_of : told_after ≡ told ++ schools_of falls
+  pub chosen : AreChosen sys choice told sys.ceilings falls
+
+-- there are such falls
 pub record IsRunBy (sys : FallingSystem) (choice : List ℕ → List ℕ → ℕ)
     (told told_after after : List ℕ) : Type 0 where
   pub falls : List Fall
-  pub is_run : IsRunOfFalls sys falls
-  pub chosen : AreChosen sys choice told sys.ceilings falls
-  pub bars_fell : after ≡ bars_after sys.ceilings falls
-  pub told_of : told_after ≡ told ++ schools_of falls
+  pub run : IsRunOf sys choice told told_after after falls
+
+-- memory ran out
+pub record StopsAbove (sys : FallingSystem) (choice : List ℕ → List ℕ → ℕ)
+    (told told_after after : List ℕ) : Type 0 where
+  -- no bar is too low by then
+  pub above : AreAboveAllThatFit sys after
+  -- what fell by then, and what was told
+  pub early : EndsEarly sys choice told told_after after

@@ -1,5 +1,5 @@
 -- What a step of the engine does, and all steps together.
-use Rattle.std.specs.Prelude.{◌≡◌, ℕ, ◌+◌, ◌≤◌, List, [], ◌∷◌, ◌++◌, length, sum, Option, Some, None, IsTrue}
+use Rattle.std.specs.Prelude.{◌≡◌, ℕ, List, [], ◌∷◌, ◌++◌, Option, Some, None, IsTrue}
 use Rattle.admit_core.specs.declared.records.Fall.{Fall}
 use Rattle.admit_core.specs.Falls.{FallingSystem, is_settled, fall_of}
 use Rattle.bar_fixpoint.specs.Chosen.{PickedFall, TellsAtMostOne, IsRunBy}
@@ -27,6 +27,5 @@ GetsFall given given_after fall None = (falls : List Fall) → given falls → g
 -- a run of falls that the picker chose led here, and a keeper was given them
 pub record HasFallen (sys : FallingSystem) (choice : List ℕ → List ℕ → ℕ)
     (told told_after after : List ℕ) (given : List Fall → Type 0) : Type 0 where
-  pub run : IsRunBy sys choice told told_after after
-  pub given_all : given run.falls
-  pub few : length run.falls + sum after ≤ sum sys.ceilings
+  pub by : IsRunBy sys choice told told_after after
+  pub given_all : given by.falls

@@ -1,10 +1,9 @@
 //! The engine.
-ghost use Rattle.std.specs.Prelude.{◌≡◌, ℕ, ◌+◌, ◌<◌, ◌≤◌, List, length, [], ◌∷◌, ◌++◌, Contains, IfOk, IsOk, OnOk, OnErr, IfSome, IfNone, IsTrue, sum};
+ghost use Rattle.std.specs.Prelude.{◌≡◌, List, [], ◌∷◌, ◌++◌, Contains, IfOk, IsOk, OnOk, OnErr, IfSome, IfNone, IsTrue};
 ghost use Rattle.admit_core.specs.declared.records.Fall.{Fall};
-ghost use Rattle.admit_core.specs.Falls.{IsAtMost, IsGreatest, IsRunOfFalls, is_overfilled, is_settled, fall_of, fallen, bars_after};
-ghost use Rattle.bar_fixpoint.specs.Runs.{AreAboveAllThatFit, schools_of};
+ghost use Rattle.admit_core.specs.Falls.{IsAtMost, IsGreatest, is_overfilled, is_settled, fall_of, fallen};
 ghost use Rattle.bar_fixpoint.specs.Overfilled.{all_overfilled};
-ghost use Rattle.bar_fixpoint.specs.Chosen.{AreChosen, EndsEarly, IsPicked, IsRunBy};
+ghost use Rattle.bar_fixpoint.specs.Chosen.{EndsEarly, IsPicked, IsRunBy, IsRunOf, StopsAbove};
 ghost use Rattle.bar_fixpoint.specs.Steps.{HasFallen, IsStep, IsNoStep, GetsFall};
 
 use crate::falling::Falling;
@@ -27,19 +26,10 @@ pub fn greatest<F: Falling, L: Ledger>(
     requires { F.bars system.old ≡ (F.system system.old).ceilings }
 
     ensures greatest { OnOk result (IsGreatest (F.system system.old) (F.bars system.new)) }
-    ensures run { IfOk result (λ falls. IsRunOfFalls (F.system system.old) falls.items) }
-    ensures bars { IfOk result (λ falls.
-        F.bars system.new ≡ bars_after (F.system system.old).ceilings falls.items) }
-    ensures few { IfOk result (λ falls. length falls.items + sum (F.bars system.new)
-        ≤ sum (F.system system.old).ceilings) }
+    ensures run { IfOk result (λ falls. IsRunOf (F.system system.old) (choice picker.old)
+        (told picker.old) (told picker.new) (F.bars system.new) falls.items) }
 
-    ensures told { IfOk result (λ falls.
-        told picker.new ≡ told picker.old ++ schools_of falls.items) }
-    ensures chosen { IfOk result (λ falls. AreChosen (F.system system.old) (choice picker.old)
-        (told picker.old) (F.system system.old).ceilings falls.items) }
-
-    ensures above { OnErr result (AreAboveAllThatFit (F.system system.old) (F.bars system.new)) }
-    ensures early { OnErr result (EndsEarly (F.system system.old) (choice picker.old)
+    ensures stops { OnErr result (StopsAbove (F.system system.old) (choice picker.old)
         (told picker.old) (told picker.new) (F.bars system.new)) }
     ensures always { F.lends system.old
         → all_overfilled (F.system system.old) (F.bars system.old) ≡ [] → IsOk result }
@@ -67,8 +57,7 @@ pub fn settle<F: Falling, L: Ledger>(
     ensures run { OnOk result (IsRunBy (F.system system.old) (choice picker.old)
         (told picker.old) (told picker.new) (F.bars system.new)) }
 
-    ensures above { OnErr result (AreAboveAllThatFit (F.system system.old) (F.bars system.new)) }
-    ensures early { OnErr result (EndsEarly (F.system system.old) (choice picker.old)
+    ensures stops { OnErr result (StopsAbove (F.system system.old) (choice picker.old)
         (told picker.old) (told picker.new) (F.bars system.new)) }
     ensures always { F.lends system.old
         → all_overfilled (F.system system.old) (F.bars system.old) ≡ [] → IsOk result }

@@ -11,9 +11,10 @@ use Rattle.bed_need.specs.Telling.{IsAsked, IsAskedTwice, TellsOfRun}
 pub run_of_settled : (now sys : FallingSystem) (choice : List ℕ → List ℕ → ℕ)
     (told after bars : List ℕ) → now ≡ sys → IsRunBy now choice told after bars
     → TellsOfRun sys choice told after
-run_of_settled now sys choice told after bars same run =
+run_of_settled now sys choice told after bars same by =
+    let run = by.run in
     subst (λ (s : FallingSystem). TellsOfRun s choice told after) same
-    (record { falls = run.falls; is_run = run.is_run; chosen = run.chosen; told_of = run.told_of })
+    (record { falls = by.falls; is_run = run.is_run; chosen = run.chosen; told_of = run.told_of })
 
 -- a whole run is one of falls
 pub falls_of_run : (sys : FallingSystem) (choice : List ℕ → List ℕ → ℕ) (told after : List ℕ)

@@ -8,12 +8,13 @@ use Rattle.markets.specs.Solving.{IsLedTo}
 pub led : (seen sys : FallingSystem) (choice : List ℕ → List ℕ → ℕ) (told told_after low bars : List ℕ) → seen ≡ sys
     → IsRunBy seen choice told told_after low → bars ≡ low
     → IsLedTo sys choice told told_after bars
-led seen sys choice told told_after low bars same run bars_are =
+led seen sys choice told told_after low bars same by bars_are =
+    let run = by.run in
     let P : FallingSystem → Type 0 = λ s. IsLedTo s choice told told_after bars in
     subst P same (record {
-      falls = run.falls;
+      falls = by.falls;
       is_run = run.is_run;
-      leads = (picks_fix seen run.falls run.is_run).0;
+      leads = (picks_fix seen by.falls run.is_run).0;
       chosen = run.chosen;
       told_of = run.told_of;
       bars_fell = bars_are ∙ run.bars_fell;

@@ -1,5 +1,5 @@
 -- Passes whose falls are kept or left out.
-use Rattle.std.proofs.Common.{ℕ, ◌≡◌, ◌++◌, Bool, true, false, List, [], Result, Ok, Err, IfOk, length, sym, ◌∙◌, ap}
+use Rattle.std.proofs.Common.{ℕ, ◌≡◌, Bool, true, false, List, [], Result, Ok, Err, IfOk, length, sym, ◌∙◌, ap}
 use Rattle.std.proofs.Common.{subst}
 use Rattle.std.specs.Prelude.{OnErr}
 use Rattle.std.proofs.lemmas.Result.{IfOk-weaker}
@@ -10,12 +10,11 @@ use Rattle.admit_core.specs.declared.state.Stamp.{Stamp}
 use Rattle.admit_core.specs.Boarding.{boarding}
 use Rattle.admit_core.specs.CallOrder.{AreCallOrders}
 use Rattle.admit_core.specs.Days.{IsPass, offered}
-use Rattle.admit_core.specs.Falls.{FallingSystem, IsRunOfFalls, bars_after}
+use Rattle.admit_core.specs.Falls.{FallingSystem}
 use Rattle.admit_core.specs.Proposals.{proposed}
 use Rattle.admit_core.specs.State.{State}
 use Rattle.admit_core.specs.Validity.{IsValid}
-use Rattle.bar_fixpoint.specs.Chosen.{AreChosen, IsRunBy, TellsOfFalls}
-use Rattle.bar_fixpoint.specs.Runs.{schools_of}
+use Rattle.bar_fixpoint.specs.Chosen.{IsRunBy, IsRunOf, TellsOfFalls}
 use Rattle.round.specs.KeptFalls.{AreKeptOfRun, IsKeptOf, IsPassBy, IsPassOffered, kept_falls, kept_pass}
 use Rattle.round.specs.PassLaws.{KeepsPassLaws}
 use Rattle.round.specs.Picks.{PicksFalls}
@@ -25,15 +24,11 @@ use Rattle.round.proofs.PassClauses.{laws_kept}
 module _ (keeps : Bool) (sys : FallingSystem) (choice : List ℕ → List ℕ → ℕ) (told told_after bars : List ℕ) where
   -- all are kept
   pub all_kept : {A E : Type 0} (falls_in : A → List Fall) (r : Result A E) → keeps ≡ true
-      → IfOk r (λ x. IsRunOfFalls sys (falls_in x)) → IfOk r (λ x. bars ≡ bars_after sys.ceilings (falls_in x))
-      → IfOk r (λ x. told_after ≡ told ++ schools_of (falls_in x))
-      → IfOk r (λ x. AreChosen sys choice told sys.ceilings (falls_in x))
+      → IfOk r (λ x. IsRunOf sys choice told told_after bars (falls_in x))
       → IfOk r (λ x. AreKeptOfRun keeps sys choice told told_after bars (falls_in x))
-  all_kept falls_in (Ok x) all is_run fell told_of chosen = (
-    record { falls = falls_in x; is_run = is_run; chosen = chosen; bars_fell = fell; told_of = told_of },
-    ap (λ (k : Bool). kept_falls k (falls_in x)) (sym all),
-  )
-  all_kept falls_in (Err e) all is_run fell told_of chosen = tt
+  all_kept falls_in (Ok x) all run =
+      (record { falls = falls_in x; run = run }, ap (λ (k : Bool). kept_falls k (falls_in x)) (sym all))
+  all_kept falls_in (Err e) all run = tt
 
   -- or none is
   pub none_kept : (falls : List Fall) → keeps ≡ false → falls ≡ [] → IsRunBy sys choice told told_after bars

@@ -4,7 +4,7 @@ ghost use Rattle.admit_core.specs.Boarding.{boarding};
 ghost use Rattle.admit_core.specs.CallOrder.{AreCallOrders};
 ghost use Rattle.admit_core.specs.Days.{IsPass, offered};
 ghost use Rattle.admit_core.specs.Falls.{IsGreatest};
-ghost use Rattle.bar_fixpoint.specs.Chosen.{EndsEarly, TellsOfFalls};
+ghost use Rattle.bar_fixpoint.specs.Chosen.{StopsAbove, TellsOfFalls};
 ghost use Rattle.round.specs.KeptFalls.{AreKeptOfRun, IsKeptOf, IsPassBy, IsPassOffered, are_kept, kept_pass};
 ghost use Rattle.round.specs.PassLaws.{KeepsPassLaws};
 ghost use Rattle.round.specs.Picks.{PicksFalls};
@@ -151,7 +151,7 @@ fn lower<F: Falling, L: Ledger>(
     ensures greatest { OnOk result (IsGreatest (F.system system.old) (F.bars system.new)) }
     ensures run { IfOk result (λ kept. AreKeptOfRun (are_kept falls) (F.system system.old)
         (choice picker.old) (told picker.old) (told picker.new) (F.bars system.new) kept.items) }
-    ensures early { OnErr result (EndsEarly (F.system system.old) (choice picker.old)
+    ensures stops { OnErr result (StopsAbove (F.system system.old) (choice picker.old)
         (told picker.old) (told picker.new) (F.bars system.new)) }
     ensures same { F.system system.new ≡ F.system system.old }
     ensures offers { F.offers system.new ≡ F.offers system.old }

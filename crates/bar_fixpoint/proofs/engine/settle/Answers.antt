@@ -1,4 +1,4 @@
-use Rattle.bar_fixpoint.proofs.Ending.{greatest_on, above_on}
+use Rattle.bar_fixpoint.proofs.Ending.{greatest_on, stops_on}
 use Rattle.bar_fixpoint.proofs.engine.settle.Goals as goal
 
 pub returns-clause-greatest : goal.returns-clause-greatest
@@ -7,8 +7,8 @@ returns-clause-greatest g c =
     greatest_on (f.system c.args.system.now) (g.met.F.Falling.lawful c.args.system.now) _ _ _ _ c.lower_all.result _
     c.lower_all.ensures.fallen
 
-pub returns-clause-above : goal.returns-clause-above
-returns-clause-above g c =
+pub returns-clause-stops : goal.returns-clause-stops
+returns-clause-stops g c =
     let f = g.F.Falling in
-    above_on (f.system c.args.system.now) (g.met.F.Falling.lawful c.args.system.now) _ _ _ _ c.lower_all.result
+    stops_on (f.system c.args.system.now) (g.met.F.Falling.lawful c.args.system.now) _ _ _ _ c.lower_all.result
     c.lower_all.ensures.early

@@ -19,7 +19,8 @@ returns-in_err-round-clause-early g c = on_err c.from_residual.result (none_told
 pub returns-in_err-settle-clause-early : goal.returns-in_err-settle-clause-early
 returns-in_err-settle-clause-early g c =
     on_err c.from_residual-in_err-settle.result
-    (some_told _ (market_system c.args.market.now) _ _ _ _ c.in_ok-round.ensures.system c.in_err-settle.ensures.early)
+    (some_told _ (market_system c.args.market.now) _ _ _ _ c.in_ok-round.ensures.system
+    c.in_err-settle.ensures.stops.early)
 
 pub settle-requires : goal.settle-requires
 settle-requires g c =

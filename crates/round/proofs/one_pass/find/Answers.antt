@@ -12,16 +12,17 @@ pub returns-clause-pass : goal.returns-clause-pass
 returns-clause-pass g c =
     let end = c.lower.new.system in
     let first = goal.Picker-dyn g c.args.picker.now in
-    let run = c.in_ok-falls.ensures.run.0 in
+    let by = c.in_ok-falls.ensures.run.0 in
+    let run = by.run in
     let with_falls : List Fall → PassRecord =
     λ falls. record { bars = c.from_vec.result; falls = falls; offers = c.from_vec-3.result } in (
-      with_falls run.falls,
+      with_falls by.falls,
       record {
         is_pass = record {
           greatest = greatest_kept _ _ c.in_ok-round.ensures.system _ _ (c.from_vec.ensures ∙ c.in_ok-bars.ensures.bars)
               c.in_ok-falls.ensures.greatest;
-          falls = run_kept _ _ c.in_ok-round.ensures.system run.falls _ refl run.is_run;
-          bars = bars_kept _ _ c.in_ok-round.ensures.system run.falls _ refl _ _
+          falls = run_kept _ _ c.in_ok-round.ensures.system by.falls _ refl run.is_run;
+          bars = bars_kept _ _ c.in_ok-round.ensures.system by.falls _ refl _ _
               (c.from_vec.ensures ∙ c.in_ok-bars.ensures.bars)
               run.bars_fell;
           offers =
@@ -32,7 +33,7 @@ returns-clause-pass g c =
               (c.lower.ensures.offers ∙ c.in_ok-round.ensures.offers);
         };
         told_of = run.told_of;
-        chosen = chosen_kept _ _ c.in_ok-round.ensures.system run.falls _ refl (first.choice c.args.picker.now.1)
+        chosen = chosen_kept _ _ c.in_ok-round.ensures.system by.falls _ refl (first.choice c.args.picker.now.1)
             (first.told c.args.picker.now.1) run.chosen;
       },
       ap with_falls (c.from_vec-2.ensures ∙ c.in_ok-falls.ensures.run.1),
@@ -43,14 +44,14 @@ returns-in_err-round-clause-early g c = on_err _ (none_told _ _ _)
 
 pub returns-in_err-falls-clause-early : goal.returns-in_err-falls-clause-early
 returns-in_err-falls-clause-early g c =
-    on_err _ (told_early _ _ _ _ _ _ c.in_ok-round.ensures.system c.in_err-falls.ensures.early)
+    on_err _ (told_early _ _ _ _ _ _ c.in_ok-round.ensures.system c.in_err-falls.ensures.stops.early)
 
 pub returns-in_err-bars-clause-early : goal.returns-in_err-bars-clause-early
 returns-in_err-bars-clause-early g c =
-    let run = c.in_ok-falls.ensures.run.0 in
-    on_err _ (told_of_all _ _ _ _ _ run.falls c.in_ok-round.ensures.system run.is_run run.chosen run.told_of)
+    let by = c.in_ok-falls.ensures.run.0 in
+    on_err _ (told_of_all _ _ _ _ _ by.falls c.in_ok-round.ensures.system by.run.is_run by.run.chosen by.run.told_of)
 
 pub returns-in_err-offers-clause-early : goal.returns-in_err-offers-clause-early
 returns-in_err-offers-clause-early g c =
-    let run = c.in_ok-falls.ensures.run.0 in
-    on_err _ (told_of_all _ _ _ _ _ run.falls c.in_ok-round.ensures.system run.is_run run.chosen run.told_of)
+    let by = c.in_ok-falls.ensures.run.0 in
+    on_err _ (told_of_all _ _ _ _ _ by.falls c.in_ok-round.ensures.system by.run.is_run by.run.chosen by.run.told_of)

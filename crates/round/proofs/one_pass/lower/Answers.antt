@@ -6,7 +6,6 @@ use Rattle.round.proofs.one_pass.lower.Goals as goal
 pub returns-in-Kept-clause-run : goal.returns-in-Kept-clause-run
 returns-in-Kept-clause-run g c =
     all_kept _ _ _ _ _ _ (λ kept. kept.items) c.greatest.result (ap are_kept c.in-Kept.is) c.greatest.ensures.run
-    c.greatest.ensures.bars c.greatest.ensures.told c.greatest.ensures.chosen
 
 pub returns-in_ok-settle-in-LeftOut-clause-run : goal.returns-in_ok-settle-in-LeftOut-clause-run
 returns-in_ok-settle-in-LeftOut-clause-run g c =
