@@ -37,23 +37,20 @@ returns-clause-greatest g c =
 pub returns-clause-stable : goal.returns-clause-stable
 returns-clause-stable g c =
     let m = c.args.market.now in
-    let greatest = greatest_here _ (market_system m) _ _ c.in_ok-round.ensures.system c.in_ok-settle.ensures.greatest
-    c.solved_by.ensures.bars in
     let P : List (Option ℕ) → Type 0 = IsStable m in
-    subst P (sym c.solved_by.ensures.places) (c.laws_of_markets.ensures.stable m _ c.stands.ensures.market greatest)
+    subst P (sym c.solved_by.ensures.places) (c.laws_of_markets.ensures.stable m _ c.stands.ensures.market
+    (returns-clause-greatest g c))
 
 pub returns-clause-best : goal.returns-clause-best
 returns-clause-best g c =
     let m = c.args.market.now in
-    let greatest = greatest_here _ (market_system m) _ _ c.in_ok-round.ensures.system c.in_ok-settle.ensures.greatest
-    c.solved_by.ensures.bars in
     let P : List (Option ℕ) → Type 0 = IsBestForAll m in
-    subst P (sym c.solved_by.ensures.places) (c.laws_of_markets.ensures.best m _ c.stands.ensures.market greatest)
+    subst P (sym c.solved_by.ensures.places) (c.laws_of_markets.ensures.best m _ c.stands.ensures.market
+    (returns-clause-greatest g c))
 
 pub returns-clause-placed : goal.returns-clause-placed
 returns-clause-placed g c =
     let m = c.args.market.now in
-    let greatest = greatest_here _ (market_system m) _ _ c.in_ok-round.ensures.system c.in_ok-settle.ensures.greatest
-    c.solved_by.ensures.bars in
     let P : List (Option ℕ) → Type 0 = ArePlacedInAll m in
-    subst P (sym c.solved_by.ensures.places) (c.laws_of_markets.ensures.placed m _ c.stands.ensures.market greatest)
+    subst P (sym c.solved_by.ensures.places) (c.laws_of_markets.ensures.placed m _ c.stands.ensures.market
+    (returns-clause-greatest g c))
