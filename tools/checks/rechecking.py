@@ -12,6 +12,7 @@ import re
 import sys
 import time
 from collections import Counter
+from datetime import date
 from pathlib import Path
 from random import Random
 from types import ModuleType
@@ -47,15 +48,17 @@ RECHECK = tool()
 
 def told(folder: Path, text: bytes, words: tuple[str, ...]) -> Told:
     """What `recheck` says of a text: right with its lines, wrong with the number of the line, or untested."""
-    start = RECHECK.DATES[words[words.index("--start") + 1]] if "--start" in words else None
-    term = int(words[words.index("--term") + 1]) if "--term" in words else None
+    deadlines = None
+    if "--start" in words:
+        start, term = (words[words.index(option) + 1] for option in ("--start", "--term"))
+        deadlines = RECHECK.Deadlines(date.fromisoformat(start), int(term))
     report = folder / "report"
     report.write_bytes(text)
     try:
-        return RIGHT, RECHECK.Report(str(report)).test(str(folder), start, term)[1]
-    except RECHECK.Fault as wrong:
-        return WRONG, wrong.args[0]
-    except OSError:
+        return RIGHT, RECHECK.recheck(str(folder), str(report), deadlines)[1]
+    except RECHECK.WrongLine as wrong:
+        return WRONG, wrong.number
+    except RECHECK.Untested:
         return UNTESTED, 0
 
 
@@ -199,7 +202,7 @@ def check_said(tally: Tally, program: str) -> None:
         text = (TOOLS / name).read_text()
         tally.check(f"Python 3.8 reads {name}", bool(ast.parse(text, feature_version=(3, 8))))
     lines = (TOOLS / "recheck").read_text().splitlines()
-    tally.check("recheck is read in a quarter of an hour", len(lines) <= 510, f"{len(lines)} lines")
+    tally.check("recheck is read in half an hour", len(lines) <= 1100, f"{len(lines)} lines")
     for page, sentence in (("AUDIT_A_DAY.md", "It has {} lines."), ("fr/VERIFIER_UN_JOUR.md", "Il a {} lignes.")):
         text = (TOOLS.parent / "docs" / page).read_text()
         tally.check(f"{page} counts them", sentence.format(len(lines)) in text, f"{len(lines)} lines")
@@ -238,6 +241,8 @@ def check_said(tally: Tally, program: str) -> None:
                                      ("no line feed at the end", right[:-1], "waiting (no line feed ends it)\n")):
             report.write_bytes(text)
             says(f"what cannot be seen: {name}", 1, sentence, days, report)
+        report.write_bytes((days / "chain.txt").read_bytes() + b"day 3\n")
+        says("a chain, and a line behind its end", 1, "line 8 is wrong", days, report)
         for text in (b"\0", b"\xff\n", b"order\n", b"day\n", b"fall 1 2 3 4\n", b"refused\n", b"market -1\n",
                      b"final\n", b"day 1\npass 1\nfall " + b"9" * 5000 + b" 1 1 1\n", 100 * b"order "):
             report.write_bytes(text)
