@@ -1,6 +1,6 @@
 -- Marks kept as statuses and stamps, and flags of the same marks.
-use Rattle.std.proofs.Common.{◌≡◌, ℕ, ◌<◌, zero, suc, List, [], ◌∷◌, map, replicate, length, set, get_or, refl, ap, arith}
-use Rattle.std.proofs.Common.{sym, ◌∙◌}
+use Rattle.std.proofs.Common.{◌≡◌, ℕ, ◌<◌, zero, suc, List, [], ◌∷◌, map, replicate, length, set, get_or, refl, ap}
+use Rattle.std.proofs.Common.{arith, sym, ◌∙◌}
 use Rattle.std.proofs.lemmas.List.{get_or_read}
 use Rattle.admit_core.specs.declared.state.Status.{Status}
 use Rattle.admit_core.specs.declared.state.Status.TheVariants.{Waiting}
@@ -44,7 +44,8 @@ marks-set (s ∷ ss) (t ∷ ts) (suc k) m =
 pub statuses_there : (ss : List Status) (ts : List Stamp) → length ts ≡ length ss → statuses_of (marks_of ss ts) ≡ ss
 statuses_there [] ts long = refl
 statuses_there (s ∷ ss) [] long = absurd (omega (arith, long))
-statuses_there (s ∷ ss) (t ∷ ts) long = ap (λ (rest : List Status). s ∷ rest) (statuses_there ss ts (omega (arith, long)))
+statuses_there (s ∷ ss) (t ∷ ts) long =
+    ap (λ (rest : List Status). s ∷ rest) (statuses_there ss ts (omega (arith, long)))
 
 pub status_read : (ss : List Status) (ts : List Stamp) (k : ℕ) (status : Status) → length ts ≡ length ss
     → k < length (marks_of ss ts) → status ≡ get_or ss k status → status ≡ (mark_in (marks_of ss ts) k).status
