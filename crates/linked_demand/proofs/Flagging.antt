@@ -18,11 +18,11 @@ use Rattle.day_state.specs.Kept.{has_seat_there}
 use Rattle.linked_demand.specs.Line.{LineRow}
 use Rattle.linked_demand.specs.Links.{claim_of, IsLinked}
 use Rattle.linked_demand.specs.Opens.{wants_by, line_of, seat_row, wanting_at, sure_at}
+use Rattle.linked_demand.specs.Notes.{Noted}
 use Rattle.linked_demand.specs.Seats.{IsLineup}
 use Rattle.linked_demand.specs.Wants.{wants_along, seat_rows, reach_in, IsReached}
 use Rattle.linked_demand.proofs.Closing.{claim_flagged, read_range}
-use Rattle.linked_demand.proofs.Lining.{claim_within}
-use Rattle.linked_demand.proofs.Seating.{wish_in_is}
+use Rattle.linked_demand.proofs.Lining.{claim_within, wish_in_is}
 
 -- one more value of a function of places
 pub more_of : {X : Type 0} (f : ℕ → X) (n : ℕ) (xs new : List X) (x : X) → new ≡ xs ++ x ∷ []
@@ -92,14 +92,14 @@ module _ (s : State) (orders : List CallOrder) (opens : List Bool)
       (λ c. wants_claim p c) (line_of s.dossier orders p)
 
 pub claims_each : {d : DossierRows} {orders : List CallOrder} {claims : List (List (List ℕ))}
-    {places : List ℕ} {limited : List Bool} → IsLineup d orders claims places limited
+    {notes : Noted} → IsLineup d orders claims notes
     → length claims ≡ length d.programmes
 claims_each {d} {orders} are = ap length are.claims_are
     ∙ length-map-range_with_len (λ q. map (claim_of d q) (line_of d orders q)) 0 (length d.programmes)
 
 -- the claims of a programme that are read
 pub row_right : {d : DossierRows} {orders : List CallOrder} {claims : List (List (List ℕ))}
-    {places : List ℕ} {limited : List Bool} → IsLineup d orders claims places limited
+    {notes : Noted} → IsLineup d orders claims notes
     → (p : ℕ) → p < length d.programmes → (row : List (List ℕ)) → row ≡ get_or claims p row
     → row ≡ map (claim_of d p) (line_of d orders p)
 row_right {d} {orders} {claims} are p lt row read =
@@ -117,44 +117,44 @@ row_within d orders p n row is n_is j lt =
 
 -- the links of a lineup with its lines and the flags of those who need no seat
 linked : (s : State) (orders : List CallOrder) (opens : List Bool) (lines : List LineRow)
-    (claims : List (List (List ℕ))) (places : List ℕ) (limited sure : List Bool) (n : ℕ)
+    (claims : List (List (List ℕ))) (notes : Noted) (sure : List Bool) (n : ℕ)
     → length s.marks ≡ length s.dossier.wishes → length opens ≡ length s.dossier.wishes
-    → IsLineup s.dossier orders claims places limited
+    → IsLineup s.dossier orders claims notes
     → n ≡ length s.dossier.programmes → lines ≡ map (seat_row s orders opens) (range_with_len 0 n)
-    → sure ≡ map (sure_at s limited) (range_with_len 0 (length s.dossier.wishes))
-    → IsLinked s orders opens lines claims places sure
-linked s orders opens lines claims places limited sure n marks long lineup n_is lines_are sure_are =
+    → sure ≡ map (sure_at s notes.called_by_limit) (range_with_len 0 (length s.dossier.wishes))
+    → IsLinked s orders opens lines claims notes.places sure
+linked s orders opens lines claims notes sure n marks long lineup n_is lines_are sure_are =
     let ws = s.dossier.wishes in
     record {
       marks_each = marks;
       opens_each = long;
-      places_each = lineup.places_each;
+      places_each = lineup.notes_are.one_each;
       programmes_are = lineup.programmes_are;
       lines_are = lines_are ∙ ap (λ k. map (seat_row s orders opens) (range_with_len 0 k)) n_is;
       claims_are = lineup.claims_are;
-      places_are = lineup.places_are;
-      sure_each = ap length sure_are ∙ length-map-range_with_len (sure_at s limited) 0 (length ws);
+      places_are = lineup.notes_are.places_are;
+      sure_each = ap length sure_are ∙ length-map-range_with_len (sure_at s notes.called_by_limit) 0 (length ws);
       sure_are = λ i w at.
           ap (λ (fs : List Bool). get_or fs i false) sure_are
-          ∙ get_or-map-range_with_len (sure_at s limited) 0 (length ws) i i false (slice_get_within ws i w at)
+          ∙ get_or-map-range_with_len (sure_at s notes.called_by_limit) 0 (length ws) i i false (slice_get_within ws i w at)
           (omega arith)
-          ∙ or_comm (get_or limited i false) (has_seat_there s i)
-          ∙ ap (λ (v : Wish). holds_seat s v.candidate v.programme || get_or limited i false) (wish_in_is ws i w at)
-          ∙ ap (λ b. holds_seat s w.candidate w.programme || b) (lineup.called_are i w at);
+          ∙ or_comm (get_or notes.called_by_limit i false) (has_seat_there s i)
+          ∙ ap (λ (v : Wish). holds_seat s v.candidate v.programme || get_or notes.called_by_limit i false) (wish_in_is ws i w at)
+          ∙ ap (λ b. holds_seat s w.candidate w.programme || b) (lineup.notes_are.called_are i w at);
     }
 
 -- how far the seats reach of all programmes up to one
 pub all_reached : (s : State) (orders : List CallOrder) (opens : List Bool) (reached : List ℕ)
-    (claims : List (List (List ℕ))) (places : List ℕ) (limited sure : List Bool) (n : ℕ)
+    (claims : List (List (List ℕ))) (notes : Noted) (sure : List Bool) (n : ℕ)
     → length s.marks ≡ length s.dossier.wishes → length opens ≡ length s.dossier.wishes
-    → IsLineup s.dossier orders claims places limited
+    → IsLineup s.dossier orders claims notes
     → n ≡ length s.dossier.programmes → reached ≡ map (λ p. reach_in (seat_row s orders opens p)) (range_with_len 0 n)
-    → sure ≡ map (sure_at s limited) (range_with_len 0 (length s.dossier.wishes))
-    → IsReached s orders opens reached claims places sure
-all_reached s orders opens reached claims places limited sure n marks long lineup n_is reached_are sure_are =
+    → sure ≡ map (sure_at s notes.called_by_limit) (range_with_len 0 (length s.dossier.wishes))
+    → IsReached s orders opens reached claims notes.places sure
+all_reached s orders opens reached claims notes sure n marks long lineup n_is reached_are sure_are =
     let count = length s.dossier.programmes in
     record {
-      links = linked s orders opens (seat_rows s orders opens) claims places limited sure count marks long
+      links = linked s orders opens (seat_rows s orders opens) claims notes sure count marks long
           lineup refl refl sure_are;
       reached_are =
           reached_are

@@ -1,6 +1,6 @@
 -- Reading order. Each file says in its first line what it shows.
 -- Tools: Keeping, Passing, Keyed, Dealing, Putting, PlaceOrder, Marked, Counting.
--- The lineup: CalledRows, ClaimSpans, Seating, Lining, Lined.
+-- The lineup: CalledRows, ClaimSpans, Lining, Doubled, Seating, Lined.
 -- Open wishes and flags: Opens, Falling, Closing, Flagging, Waiting, AnyOpen, MayNeedNoSeat,
 -- Boarding, Shutting.
 -- How far seats reach: Reach, Leaving; the proposed wishes: Walking, Fronting, Listing, Fronted.
@@ -21,6 +21,7 @@ pub mod Counting
 pub mod Cutting
 pub mod Dealing
 pub mod Demanded
+pub mod Doubled
 pub mod Falling
 pub mod FirstBoarders
 pub mod Flagging

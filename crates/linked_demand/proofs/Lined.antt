@@ -5,7 +5,7 @@ use Rattle.std.proofs.Common.{subst, cond}
 use Rattle.std.specs.Prelude.{All, ◌==◌}
 use Rattle.std.specs.List.{before_first, enumerate_from, flat_map, range_with_len, IsDistinct}
 use Rattle.std.proofs.Math.Seq.{drop-append_seam, get_or-append_right, take-append_seam}
-use Rattle.std.proofs.lemmas.Bool.{and_parts, cases_Bool, cases_lt, cases_order, eqb-true, eq-eqb, false≢true, lt-ltb}
+use Rattle.std.proofs.lemmas.Bool.{and_parts, cases_Bool, cases_lt, cases_order, eqb-true, eq-eqb, false≢true}
 use Rattle.std.proofs.lemmas.Bool.{ltb-true, ne_eqb, or_left}
 use Rattle.std.proofs.lemmas.List.{get_or-drop, get_or-map, get_or_append_left, length-append, length-drop, length-map}
 use Rattle.std.proofs.lemmas.List.{map-append, drop_more, flat_map_more, take-append-drop, take_all, take_more}
@@ -26,8 +26,9 @@ use Rattle.day_state.proofs.Places.{candidate_in}
 use Rattle.proposals.proofs.Front.{before_is, up_to}
 use Rattle.linked_demand.specs.Called.{before_at, called_for}
 use Rattle.linked_demand.specs.Links.{claim_of}
+use Rattle.linked_demand.specs.Notes.{IsNoted, Noted}
 use Rattle.linked_demand.specs.Opens.{applies_in, line_of}
-use Rattle.linked_demand.specs.Seats.{AreSeated, PutAt, applies_at, is_below, is_passed}
+use Rattle.linked_demand.specs.Seats.{AreSeated, applies_at, is_below, is_passed}
 use Rattle.linked_demand.proofs.CalledRows.{among_itself, flat_none, flat_same, kept_by, kept_by_both}
 use Rattle.linked_demand.proofs.Lining.{applies_claim, claim_own, place_at}
 use Rattle.linked_demand.proofs.Seating.{seated_more, seated_start}
@@ -135,17 +136,17 @@ line_some d orders p m lt =
 
 -- what has been walked of a line
 pub record IsLined (d : DossierRows) (orders : List CallOrder) (p : ℕ) (wishes : List ℕ) (from : ℕ) (spans : List Span)
-    (places : List ℕ) (limited : List Bool) : Type 0 where
+    (notes : Noted) : Type 0 where
   pub within : All (IsWithin (length wishes)) spans
   pub claims : map (part_of wishes) spans ≡ map (claim_of d p) (take (length spans) (line_of d orders p))
   pub at : from ≡ length (flat_map (claim_of d p) (take (length spans) (line_of d orders p)))
-  pub seated : AreSeated d orders (is_passed p (take (length spans) (line_of d orders p))) places limited
+  pub seated : AreSeated d orders (is_passed p (take (length spans) (line_of d orders p))) notes
 
 module _ (d : DossierRows) (orders : List CallOrder) (p : ℕ) (wishes before : List ℕ)
     (wishes_are : wishes ≡ called_for d orders p)
     (before_is : before ≡ map (before_at d orders) wishes) (once : IsDistinct nat_eq (line_of d orders p))
-    (from : ℕ) (spans : List Span) (places : List ℕ) (limited : List Bool)
-    (lined : IsLined d orders p wishes from spans places limited)
+    (from : ℕ) (spans : List Span) (notes : Noted)
+    (lined : IsLined d orders p wishes from spans notes)
     (lt : from < length wishes) where
   abbrev line : List ℕ
   line = line_of d orders p
@@ -262,46 +263,41 @@ module _ (d : DossierRows) (orders : List CallOrder) (p : ℕ) (wishes before : 
 
 -- THE WALK begins, goes on by a claim, and ends
 pub lined_none : (d : DossierRows) (orders : List CallOrder) (p : ℕ) (wishes : List ℕ) (spans : List Span)
-    (places : List ℕ)
-    (limited : List Bool) → spans ≡ [] → AreSeated d orders (is_below p) places limited
-    → IsLined d orders p wishes 0 spans places limited
-lined_none d orders p wishes spans places limited none seated =
-    let P = λ (xs : List Span). IsLined d orders p wishes 0 xs places limited in
+    (notes : Noted) → spans ≡ [] → AreSeated d orders (is_below p) notes
+    → IsLined d orders p wishes 0 spans notes
+lined_none d orders p wishes spans notes none seated =
+    let P = λ (xs : List Span). IsLined d orders p wishes 0 xs notes in
     subst P (sym none) (record {
       within = All-nil (IsWithin (length wishes));
       claims = refl;
       at = refl;
-      seated = seated_start d orders p (line_of d orders p) places limited seated;
+      seated = seated_start d orders p (line_of d orders p) notes seated;
     })
 
 pub lined_more : (d : DossierRows) (orders : List CallOrder) (p : ℕ) (wishes before : List ℕ)
     → wishes ≡ called_for d orders p
     → before ≡ map (before_at d orders) wishes → IsDistinct nat_eq (line_of d orders p)
-    → (from to : ℕ) (span : Span) (spans next : List Span) (places new_places : List ℕ)
-    (limited new_limited : List Bool)
-    (place : ℕ) (is_called : Bool) → IsLined d orders p wishes from spans places limited → from < length wishes
+    → (from to : ℕ) (span : Span) (spans next : List Span) (notes new : Noted)
+    (place : ℕ) (is_called : Bool) → IsLined d orders p wishes from spans notes → from < length wishes
     → from < to
     → to ≤ length before → HoldsOneKey (λ k. k) before from to → span.from ≡ from → span.to ≡ to
     → next ≡ spans ++ span ∷ []
     → place ≡ length spans → is_called ≡ nat_lt (get_or before from 0) (limit_of d p)
-    → PutAt ℕ 0 (part_of wishes span) place places new_places
-    → PutAt Bool false (part_of wishes span) is_called limited new_limited
-    → IsLined d orders p wishes to next new_places new_limited
-lined_more d orders p wishes before wishes_are before_is once from to span spans next places new_places limited
-    new_limited
-    place is_called
-    lined lt further within run from_is to_is next_is place_is limited_is put put_limited =
+    → IsNoted (part_of wishes span) place is_called notes new
+    → IsLined d orders p wishes to next new
+lined_more d orders p wishes before wishes_are before_is once from to span spans next notes new
+    place is_called lined lt further within run from_is to_is next_is place_is called_is noted =
     let line = line_of d orders p in
     let m = length spans in
     let x = get_or line m 0 in
     let claim = claim_of d p in
-    let in_line = next_in_line d orders p wishes before wishes_are before_is once from spans places limited lined lt in
-    let end = run_is_claim d orders p wishes before wishes_are before_is once from spans places limited lined lt to
+    let in_line = next_in_line d orders p wishes before wishes_are before_is once from spans notes lined lt in
+    let end = run_is_claim d orders p wishes before wishes_are before_is once from spans notes lined lt to
     further within run in
-    let part = part_is_claim d orders p wishes before wishes_are before_is once from spans places limited lined lt span
+    let part = part_is_claim d orders p wishes before wishes_are before_is once from spans notes lined lt span
     from_is
     (to_is ∙ end) in
-    let some = claim_is_some d orders p wishes before wishes_are before_is once from spans places limited lined lt in
+    let some = claim_is_some d orders p wishes before wishes_are before_is once from spans notes lined lt in
     let long : length next ≡ m + 1 = ap (λ (l : List Span). length l) next_is ∙ length-append spans (span ∷ []) in
     let ends : to ≤ length wishes = omega (
       arith,
@@ -311,9 +307,8 @@ lined_more d orders p wishes before wishes_are before_is once from to span spans
           (before_at d orders),
     ) in
     let front : take (m + 1) line ≡ take m line ++ x ∷ [] = take_more line m 0 in_line in
-    let P = λ (n : ℕ). AreSeated d orders (is_passed p (take n line)) new_places new_limited in
-    let Q = λ (ks : List ℕ). PutAt ℕ 0 ks place places new_places in
-    let R = λ (ks : List ℕ). PutAt Bool false ks is_called limited new_limited in
+    let P = λ (n : ℕ). AreSeated d orders (is_passed p (take n line)) new in
+    let Q = λ (ks : List ℕ). IsNoted ks place is_called notes new in
     let S = λ (xs : List Span). All (IsWithin (length wishes)) xs in
     record {
       within = subst S (sym next_is) (All-push (IsWithin (length wishes)) spans span lined.within
@@ -332,27 +327,26 @@ lined_more d orders p wishes before wishes_are before_is once from to span spans
           ∙ ap (λ n. length (flat_map claim (take n line))) (sym long);
       seated =
           subst P (sym long)
-          (seated_more d orders p line m x in_line refl places limited new_places new_limited place is_called refl once
-          (lt-ltb 0 (length (claim x)) some)
-          (limited_is ∙ ap (λ n. nat_lt n (limit_of d p))
-          (value_read d orders p wishes before wishes_are before_is once from spans places limited lined lt))
-          place_is lined.seated (subst Q part put) (subst R part put_limited));
+          (seated_more d orders p line m x in_line refl notes new place is_called refl once
+          (called_is ∙ ap (λ n. nat_lt n (limit_of d p))
+          (value_read d orders p wishes before wishes_are before_is once from spans notes lined lt))
+          place_is lined.seated (subst Q part noted));
     }
 
 -- the part that is read is a claim, and there are no more spans than wishes
 pub part_read : (d : DossierRows) (orders : List CallOrder) (p : ℕ) (wishes before : List ℕ)
     → wishes ≡ called_for d orders p
     → before ≡ map (before_at d orders) wishes → IsDistinct nat_eq (line_of d orders p)
-    → (from to : ℕ) (span : Span) (spans : List Span) (places : List ℕ) (limited : List Bool)
-    → IsLined d orders p wishes from spans places limited → from < length wishes → from < to
+    → (from to : ℕ) (span : Span) (spans : List Span) (notes : Noted)
+    → IsLined d orders p wishes from spans notes → from < length wishes → from < to
     → to ≤ length before → HoldsOneKey (λ k. k) before from to → span.from ≡ from → span.to ≡ to
     → part_of wishes span ≡ claim_of d p (get_or (line_of d orders p) (length spans) 0)
-part_read d orders p wishes before wishes_are before_is once from to span spans places limited lined lt further within
+part_read d orders p wishes before wishes_are before_is once from to span spans notes lined lt further within
     run
     from_is to_is =
-    let end = run_is_claim d orders p wishes before wishes_are before_is once from spans places limited lined lt to
+    let end = run_is_claim d orders p wishes before wishes_are before_is once from spans notes lined lt to
     further within run in
-    part_is_claim d orders p wishes before wishes_are before_is once from spans places limited lined lt span from_is
+    part_is_claim d orders p wishes before wishes_are before_is once from spans notes lined lt span from_is
     (to_is ∙ end)
 
 few_spans : (d : DossierRows) (orders : List CallOrder) (p n : ℕ) → n ≤ length (line_of d orders p)
@@ -374,21 +368,21 @@ few_spans d orders p (suc n) le =
 pub spans_fit : (d : DossierRows) (orders : List CallOrder) (p : ℕ) (wishes before : List ℕ)
     → wishes ≡ called_for d orders p
     → before ≡ map (before_at d orders) wishes → IsDistinct nat_eq (line_of d orders p)
-    → (from : ℕ) (spans : List Span) (places : List ℕ) (limited : List Bool)
-    → IsLined d orders p wishes from spans places limited → from < length wishes → length spans ≤ from
-spans_fit d orders p wishes before wishes_are before_is once from spans places limited lined lt =
-    let in_line = next_in_line d orders p wishes before wishes_are before_is once from spans places limited lined lt in
+    → (from : ℕ) (spans : List Span) (notes : Noted)
+    → IsLined d orders p wishes from spans notes → from < length wishes → length spans ≤ from
+spans_fit d orders p wishes before wishes_are before_is once from spans notes lined lt =
+    let in_line = next_in_line d orders p wishes before wishes_are before_is once from spans notes lined lt in
     omega (arith, lined.at, few_spans d orders p (length spans) (omega (arith, in_line)))
 
 pub lined_all : (d : DossierRows) (orders : List CallOrder) (p : ℕ) (wishes before : List ℕ)
     → wishes ≡ called_for d orders p
     → before ≡ map (before_at d orders) wishes → IsDistinct nat_eq (line_of d orders p)
-    → (from : ℕ) (spans : List Span) (places : List ℕ) (limited : List Bool)
-    → IsLined d orders p wishes from spans places limited
+    → (from : ℕ) (spans : List Span) (notes : Noted)
+    → IsLined d orders p wishes from spans notes
     → length wishes ≤ from
     → (map (part_of wishes) spans ≡ map (claim_of d p) (line_of d orders p))
-    × AreSeated d orders (is_passed p (line_of d orders p)) places limited
-lined_all d orders p wishes before wishes_are before_is once from spans places limited lined le =
+    × AreSeated d orders (is_passed p (line_of d orders p)) notes
+lined_all d orders p wishes before wishes_are before_is once from spans notes lined le =
     let line = line_of d orders p in
     let m = length spans in
     let claim = claim_of d p in
@@ -413,7 +407,7 @@ lined_all d orders p wishes before wishes_are before_is once from spans places l
           ))
       | inr more ↦ take_all m line more
     ] in
-    let P = λ (l : List ℕ). AreSeated d orders (is_passed p l) places limited in
+    let P = λ (l : List ℕ). AreSeated d orders (is_passed p l) notes in
     (lined.claims ∙ ap (map claim) all, subst P all lined.seated)
 
 -- how many wishes there are in a line

@@ -21,6 +21,9 @@ use Rattle.linked_demand.specs.Opens.{applies_in}
 use Rattle.linked_demand.specs.Seats.{applies_at}
 use Rattle.linked_demand.proofs.Closing.{places_below}
 
+pub wish_in_is : (ws : List Wish) (i : ℕ) (w : Wish) → slice_get ws i ≡ Some w → wish_in ws i ≡ w
+wish_in_is ws i w at = ap (λ (o : Option Wish). unwrap_or o (wish_in [] 0)) at
+
 -- the wishes by place
 pub wishes_by_place : (ws : List Wish) → ws ≡ map (wish_in ws) (range_with_len 0 (length ws))
 wishes_by_place ws = fill_by_all (wish_in ws) ws (length ws) (wish_in [] 0) refl

@@ -1,13 +1,14 @@
 -- What is known of the wishes of a dossier, programme by programme and candidate by candidate.
 use Rattle.std.proofs.Common.{ℕ, zero, suc, ◌+◌, ◌≤◌, ◌<◌, ◌≡◌, Bool, true, false, ◌&&◌, ◌||◌, List, [], ◌∷◌, ◌++◌, map}
-use Rattle.std.proofs.Common.{length, take, get_or, inl, inr, refl, sym, ◌∙◌, ap, arith, nat_eq, nat_lt, Option, Some}
-use Rattle.std.proofs.Common.{unwrap_or, subst}
+use Rattle.std.proofs.Common.{length, take, get_or, inl, inr, refl, sym, ◌∙◌, ap, arith, nat_eq, nat_lt, Some}
+use Rattle.std.proofs.Common.{subst}
 use Rattle.std.specs.Prelude.{slice_get, All, if◌then◌else◌}
 use Rattle.std.specs.List.{before_first, list_any, range_with_len, IsDistinct}
-use Rattle.std.proofs.lemmas.Bool.{cases_Bool, cases_lt, false≢true, eqb-true, eq-eqb, ltb-true, lt-ltb, or_left}
-use Rattle.std.proofs.lemmas.Bool.{or_right, or_cases, and_parts, and_from}
+use Rattle.std.proofs.lemmas.Bool.{cases_Bool, cases_order, false≢true, eqb-true, eq-eqb, le-ltb, ltb-true, lt-ltb, ne_eqb}
+use Rattle.std.proofs.lemmas.Bool.{or_left, or_right, or_cases, or_from, and_parts, and_from}
 use Rattle.std.proofs.lemmas.List.FromFn.{map-range_with_len_more}
 use Rattle.std.proofs.lemmas.Map.Steps.{length-le_from_distinct_below}
+use Rattle.std.proofs.lemmas.List.{length-replicate, get_or-replicate}
 use Rattle.std.proofs.lemmas.Option.{slice_get_within}
 use Rattle.admit_core.specs.declared.dossier.Wish.{Wish}
 use Rattle.admit_core.specs.declared.ranking.CallOrder.{CallOrder}
@@ -24,82 +25,93 @@ use Rattle.proposals.specs.Called.{AreCalled}
 use Rattle.proposals.proofs.Front.{among_more}
 use Rattle.linked_demand.specs.Called.{order_at}
 use Rattle.linked_demand.specs.Links.{IsPlaceOf, claim_of}
+use Rattle.linked_demand.specs.Notes.{IsNoted, Noted, nothing_noted}
 use Rattle.linked_demand.specs.Opens.{applies_in, line_of}
-use Rattle.linked_demand.specs.Seats.{PutAt, AreSeated, IsLineup, is_below, is_passed}
-use Rattle.linked_demand.proofs.Lining.{among_claim, among_some, applies_claim, le_next, place_at}
+use Rattle.linked_demand.specs.Seats.{AreSeated, IsLineup, is_below, is_called_by_limit, is_doubled, is_passed}
+use Rattle.linked_demand.proofs.Doubled.{doubled_claim}
+use Rattle.linked_demand.proofs.Lining.{among_claim, among_some, applies_claim, le_next, place_at, wish_in_is}
 
--- what holds of those who are done holds of fewer
-pub seated_by : (s : DossierRows) (orders : List CallOrder) (old new : ℕ → ℕ → Bool) (places : List ℕ)
-    (limited : List Bool)
-    → ((i : ℕ) (w : Wish) → slice_get s.wishes i ≡ Some w → new w.programme w.candidate ≡ true
-    → old w.programme w.candidate ≡ true)
-    → AreSeated s orders old places limited → AreSeated s orders new places limited
-seated_by s orders old new places limited fewer are = record {
-  places_each = are.places_each;
-  called_each = are.called_each;
-  place = λ i w at t. are.place i w at (fewer i w at t);
-  called = λ i w at t. are.called i w at (fewer i w at t);
+-- what holds where these are done holds where the same are
+pub seated_by : (s : DossierRows) (orders : List CallOrder) (old new : ℕ → ℕ → Bool) (notes : Noted)
+    → ((i : ℕ) (w : Wish) → slice_get s.wishes i ≡ Some w → new w.programme w.candidate
+    ≡ old w.programme w.candidate)
+    → AreSeated s orders old notes → AreSeated s orders new notes
+seated_by s orders old new notes same are = record {
+  one_each = are.one_each;
+  place = λ i w at t. are.place i w at (sym (same i w at) ∙ t);
+  called = λ i w at. are.called i w at ∙ ap (λ b. b && is_called_by_limit s orders w) (sym (same i w at));
+  doubled = λ i w at. are.doubled i w at ∙ ap (λ b. b && is_doubled s i) (sym (same i w at));
 }
 
-still_passed : (below here among one : Bool) → (below || (here && (among || one))) ≡ true
-    → (one && here) ≡ false → (below || (here && among)) ≡ true
-still_passed true here among one t differs = refl
-still_passed false true true one t differs = refl
-still_passed false true false true t differs = absurd (false≢true (sym differs))
-still_passed false true false false t differs = t
-still_passed false false among one t differs = t
+one_more : (below here among one : Bool) → (below || (here && (among || one)))
+    ≡ ((below || (here && among)) || (one && here))
+one_more true here among one = refl
+one_more false true true one = refl
+one_more false true false true = refl
+one_more false true false false = refl
+one_more false false among true = refl
+one_more false false among false = refl
+
+-- a flag that is set for one more
+flag_more : (done own test holds : Bool) → (own ≡ true → test ≡ holds)
+    → ((done && holds) || (test && own)) ≡ ((done || own) && holds)
+flag_more done true test holds is = rw (is refl) (both done holds)
+  where
+    both : (a b : Bool) → ((a && b) || (b && true)) ≡ ((a || true) && b)
+    both true true = refl
+    both true false = refl
+    both false true = refl
+    both false false = refl
+flag_more done false test holds is = neither done test holds
+  where
+    neither : (a b c : Bool) → ((a && c) || (b && false)) ≡ ((a || false) && c)
+    neither true true true = refl
+    neither true true false = refl
+    neither true false true = refl
+    neither true false false = refl
+    neither false true c = refl
+    neither false false c = refl
 
 module _ (s : DossierRows) (orders : List CallOrder) (n : ℕ) (order : List ℕ) (i x : ℕ)
     (lt : i < length order) (x_is : x ≡ get_or order i 0) where
-  -- one who is done now, and isn't this one in this programme, was done
-  was_done : (w : Wish) → is_passed n (take (i + 1) order) w.programme w.candidate ≡ true
-      → (nat_eq w.candidate x && nat_eq w.programme n) ≡ false
-      → is_passed n (take i order) w.programme w.candidate ≡ true
-  was_done w t differs =
+  -- who is done now was done, or is this one in this programme
+  done_now : (w : Wish) → is_passed n (take (i + 1) order) w.programme w.candidate
+      ≡ (is_passed n (take i order) w.programme w.candidate || (nat_eq w.candidate x && nat_eq w.programme n))
+  done_now w =
       let more : is_among w.candidate (take (i + 1) order)
       ≡ (is_among w.candidate (take i order) || nat_eq w.candidate x) =
       among_more w.candidate order i lt ∙ ap (λ y. is_among w.candidate (take i order) || nat_eq w.candidate y)
       (sym x_is) in
-      still_passed (nat_lt w.programme n) (nat_eq w.programme n) (is_among w.candidate (take i order))
+      ap (λ b. nat_lt w.programme n || (nat_eq w.programme n && b)) more
+      ∙ one_more (nat_lt w.programme n) (nat_eq w.programme n) (is_among w.candidate (take i order))
       (nat_eq w.candidate x)
-      (sym (ap (λ b. nat_lt w.programme n || (nat_eq w.programme n && b)) more) ∙ t) differs
 
   -- for one who has a claim their place is noted
-  pub seated_more : (places : List ℕ) (limited : List Bool) (new_places : List ℕ) (new_limited : List Bool)
-      (place : ℕ) (is_called : Bool)
-      → order ≡ line_of s orders n → IsDistinct nat_eq order → nat_lt 0 (length (claim_of s n x)) ≡ true
+  pub seated_more : (notes new : Noted) (place : ℕ) (is_called : Bool)
+      → order ≡ line_of s orders n → IsDistinct nat_eq order
       → is_called ≡ nat_lt (length (before_first (nat_eq x) (order_of s orders n))) (limit_of s n) → place ≡ i
-      → AreSeated s orders (is_passed n (take i order)) places limited
-      → PutAt ℕ 0 (claim_of s n x) place places new_places
-      → PutAt Bool false (claim_of s n x) is_called limited new_limited
-      → AreSeated s orders (is_passed n (take (i + 1) order)) new_places new_limited
-  seated_more places limited new_places new_limited place is_called is apart some limited_is place_is are puts
-      puts_limited =
+      → AreSeated s orders (is_passed n (take i order)) notes
+      → IsNoted (claim_of s n x) place is_called notes new
+      → AreSeated s orders (is_passed n (take (i + 1) order)) new
+  seated_more notes new place is_called is apart called_is place_is are noted =
       let claim = claim_of s n x in
-      let within : (j : ℕ) (w : Wish) → slice_get s.wishes j ≡ Some w → j < length s.wishes =
-      λ j w at. slice_get_within s.wishes j w at in
-      let put : (j : ℕ) (w : Wish) → slice_get s.wishes j ≡ Some w
-      → get_or new_places j 0 ≡ (if (nat_eq w.candidate x && nat_eq w.programme n) then place else get_or places j 0) =
-      λ j w at. puts.each j (omega (arith, within j w at, are.places_each))
-      ∙ ap (λ b. if b then place else get_or places j 0) (among_claim s n x j w at) in
-      let put_limited : (j : ℕ) (w : Wish) → slice_get s.wishes j ≡ Some w
-      → get_or new_limited j
-      false ≡ (if (nat_eq w.candidate x && nat_eq w.programme n) then is_called else get_or limited j false) =
-      λ j w at. puts_limited.each j (omega (arith, within j w at, are.called_each))
-      ∙ ap (λ b. if b then is_called else get_or limited j false) (among_claim s n x j w at) in
+      let done = is_passed n (take i order) in
+      let put : (j : ℕ) (w : Wish) → slice_get s.wishes j ≡ Some w → get_or new.places j 0
+      ≡ (if (nat_eq w.candidate x && nat_eq w.programme n) then place else get_or notes.places j 0) =
+      λ j w at. noted.places.each j (omega (arith, slice_get_within s.wishes j w at, are.one_each))
+      ∙ ap (λ b. if b then place else get_or notes.places j 0) (among_claim s n x j w at) in
       let line_place : IsPlaceOf x (line_of s orders n) place =
       let P = λ (o : List ℕ). IsPlaceOf x o place in
       let Q = λ (k : ℕ). IsPlaceOf x order k in
       let R = λ (c : ℕ). IsPlaceOf c order i in
       subst P is (subst Q (sym place_is) (subst R (sym x_is) (place_at order i apart lt))) in
       record {
-        places_each = puts.as_long ∙ are.places_each;
-        called_each = puts_limited.as_long ∙ are.called_each;
+        one_each = noted.places.as_long ∙ are.one_each;
         place = λ j w at t. elim (cases_Bool (nat_eq w.candidate x && nat_eq w.programme n)) [
           | inl own ↦
               let parts = and_parts (nat_eq w.candidate x) (nat_eq w.programme n) own in
-              let value : get_or new_places j 0 ≡ place =
-              put j w at ∙ ap (λ b. if b then place else get_or places j 0) own in
+              let value : get_or new.places j 0 ≡ place =
+              put j w at ∙ ap (λ b. if b then place else get_or notes.places j 0) own in
               let P = λ (c : ℕ). IsPlaceOf c (line_of s orders n) place in
               let Q = λ (p : ℕ). IsPlaceOf w.candidate (line_of s orders p) place in
               let R = λ (k : ℕ). IsPlaceOf w.candidate (line_of s orders w.programme) k in
@@ -107,39 +119,57 @@ module _ (s : DossierRows) (orders : List CallOrder) (n : ℕ) (order : List ℕ
               (subst Q (sym (eqb-true w.programme n parts.1))
               (subst P (sym (eqb-true w.candidate x parts.0)) line_place))
           | inr other ↦
-              let value : get_or new_places j 0 ≡ get_or places j 0 = put j w at
-              ∙ ap (λ b. if b then place else get_or places j 0) other in
+              let value : get_or new.places j 0 ≡ get_or notes.places j 0 = put j w at
+              ∙ ap (λ b. if b then place else get_or notes.places j 0) other in
               let R = λ (k : ℕ). IsPlaceOf w.candidate (line_of s orders w.programme) k in
-              subst R (sym value) (are.place j w at (was_done w t other))
+              subst R (sym value) (are.place j w at
+              (or_left_of (done w.programme w.candidate) (nat_eq w.candidate x && nat_eq w.programme n)
+              (sym (done_now w) ∙ t) other))
         ];
-        called = λ j w at t. elim (cases_Bool (nat_eq w.candidate x && nat_eq w.programme n)) [
-          | inl own ↦
-              let parts = and_parts (nat_eq w.candidate x) (nat_eq w.programme n) own in
-              let candidate : w.candidate ≡ x = eqb-true w.candidate x parts.0 in
-              let programme : w.programme ≡ n = eqb-true w.programme n parts.1 in
-              put_limited j w at ∙ ap (λ b. if b then is_called else get_or limited j false) own
-              ∙ limited_is
-              ∙ ap (λ p. nat_lt (length (before_first (nat_eq x) (order_of s orders p))) (limit_of s p)) (sym programme)
-              ∙ ap (λ c. nat_lt (length (before_first (nat_eq c) (order_of s orders w.programme)))
-              (limit_of s w.programme))
-              (sym candidate)
-              ∙ sym (le_next (length (before_first (nat_eq w.candidate) (order_of s orders w.programme)))
-              (limit_of s w.programme))
-          | inr other ↦ put_limited j w at ∙ ap (λ b. if b then is_called else get_or limited j false) other
-              ∙ are.called j w at (was_done w t other)
-        ];
+        called = λ j w at.
+            let own = nat_eq w.candidate x && nat_eq w.programme n in
+            noted.called_by_limit.each j
+            ∙ ap (λ b. get_or notes.called_by_limit j false || (is_called && b)) (among_claim s n x j w at)
+            ∙ ap (λ b. b || (is_called && own)) (are.called j w at)
+            ∙ flag_more (done w.programme w.candidate) own is_called (is_called_by_limit s orders w) (λ t.
+            let parts = and_parts (nat_eq w.candidate x) (nat_eq w.programme n) t in
+            called_is
+            ∙ ap (λ p. nat_lt (length (before_first (nat_eq x) (order_of s orders p))) (limit_of s p))
+            (sym (eqb-true w.programme n parts.1))
+            ∙ ap (λ c. nat_lt (length (before_first (nat_eq c) (order_of s orders w.programme)))
+            (limit_of s w.programme)) (sym (eqb-true w.candidate x parts.0))
+            ∙ sym (le_next (length (before_first (nat_eq w.candidate) (order_of s orders w.programme)))
+            (limit_of s w.programme)))
+            ∙ ap (λ b. b && is_called_by_limit s orders w) (sym (done_now w));
+        doubled = λ j w at.
+            let own = nat_eq w.candidate x && nat_eq w.programme n in
+            let several = nat_lt 1 (length claim) in
+            noted.doubled.each j
+            ∙ ap (λ b. get_or notes.doubled j false || (several && b)) (among_claim s n x j w at)
+            ∙ ap (λ b. b || (several && own)) (are.doubled j w at)
+            ∙ flag_more (done w.programme w.candidate) own several (is_doubled s j) (λ t.
+            let parts = and_parts (nat_eq w.candidate x) (nat_eq w.programme n) t in
+            ap (λ p. nat_lt 1 (length (claim_of s p x))) (sym (eqb-true w.programme n parts.1))
+            ∙ ap (λ c. nat_lt 1 (length (claim_of s w.programme c))) (sym (eqb-true w.candidate x parts.0))
+            ∙ sym (doubled_claim s j w at))
+            ∙ ap (λ b. b && is_doubled s j) (sym (done_now w));
       }
+    where
+      or_left_of : (a b : Bool) → (a || b) ≡ true → b ≡ false → a ≡ true
+      or_left_of true b t none = refl
+      or_left_of false b t none = absurd (false≢true (sym none ∙ t))
 
 -- at the front of a call order the programmes before it are done
-pub seated_start : (s : DossierRows) (orders : List CallOrder) (n : ℕ) (order : List ℕ) (places : List ℕ)
-    (limited : List Bool)
-    → AreSeated s orders (is_below n) places limited → AreSeated s orders (is_passed n (take 0 order)) places limited
-seated_start s orders n order places limited are =
-    seated_by s orders (is_below n) (is_passed n (take 0 order)) places limited
-    (λ i w at t. elim (or_cases (nat_lt w.programme n) (nat_eq w.programme n && false) t) [
-      | inl below ↦ below
-      | inr here ↦ absurd (false≢true (and_parts (nat_eq w.programme n) false here).1)
-    ]) are
+pub seated_start : (s : DossierRows) (orders : List CallOrder) (n : ℕ) (order : List ℕ) (notes : Noted)
+    → AreSeated s orders (is_below n) notes → AreSeated s orders (is_passed n (take 0 order)) notes
+seated_start s orders n order notes are =
+    seated_by s orders (is_below n) (is_passed n (take 0 order)) notes
+    (λ i w at. none_here (nat_lt w.programme n) (nat_eq w.programme n)) are
+  where
+    none_here : (a b : Bool) → (a || (b && false)) ≡ a
+    none_here true b = refl
+    none_here false true = refl
+    none_here false false = refl
 
 -- numbers below a bound that are apart are at most so many
 below_bound : (xs : List ℕ) (n : ℕ) → ((k : ℕ) → get_or xs k 0 < n)
@@ -157,38 +187,38 @@ few_apart xs n apart fits = length-le_from_distinct_below xs n apart (below_boun
 
 -- the programmes that are gone through
 pub record IsBuilt (s : DossierRows) (orders : List CallOrder) (n : ℕ) (claims : List (List (List ℕ)))
-    (places : List ℕ) (limited : List Bool) : Type 0 where
+    (notes : Noted) : Type 0 where
   pub claims_are : claims ≡ map (λ p. map (claim_of s p) (line_of s orders p)) (range_with_len 0 n)
-  pub seated : AreSeated s orders (is_below n) places limited
-
-pub wish_in_is : (ws : List Wish) (i : ℕ) (w : Wish) → slice_get ws i ≡ Some w → wish_in ws i ≡ w
-wish_in_is ws i w at = ap (λ (o : Option Wish). unwrap_or o (wish_in [] 0)) at
+  pub seated : AreSeated s orders (is_below n) notes
 
 -- none yet
 pub built_none : (s : DossierRows) (orders : List CallOrder) (claims : List (List (List ℕ)))
-    (places : List ℕ) (limited : List Bool) → claims ≡ []
-    → length places ≡ length s.wishes → length limited ≡ length s.wishes
-    → IsBuilt s orders 0 claims places limited
-built_none s orders claims places limited claims_are places_each called_each = record {
-  claims_are = claims_are;
-  seated = record {
-    places_each = places_each;
-    called_each = called_each;
-    place = λ i w at t. absurd (omega (arith, ltb-true w.programme 0 t));
-    called = λ i w at t. absurd (omega (arith, ltb-true w.programme 0 t));
-  };
-}
+    (notes : Noted) → claims ≡ [] → notes ≡ nothing_noted (length s.wishes)
+    → IsBuilt s orders 0 claims notes
+built_none s orders claims notes claims_are nothing =
+    let n = length s.wishes in
+    let P = λ (x : Noted). AreSeated s orders (is_below 0) x in
+    record {
+      claims_are = claims_are;
+      seated = subst P (sym nothing) (record {
+        one_each = length-replicate n 0;
+        place = λ i w at t. absurd (omega (arith, ltb-true w.programme 0 t));
+        called = λ i w at. get_or-replicate n i false false (slice_get_within s.wishes i w at)
+            ∙ sym (ap (λ b. b && is_called_by_limit s orders w) (le-ltb w.programme 0 (omega arith)));
+        doubled = λ i w at. get_or-replicate n i false false (slice_get_within s.wishes i w at)
+            ∙ sym (ap (λ b. b && is_doubled s i) (le-ltb w.programme 0 (omega arith)));
+      });
+    }
 
 -- one more
 pub built_more : (s : DossierRows) (orders : List CallOrder) (n : ℕ) (claims : List (List (List ℕ)))
-    (places : List ℕ) (limited : List Bool)
-    (own : List (List ℕ)) (new_places : List ℕ) (new_limited : List Bool)
+    (notes : Noted) (own : List (List ℕ)) (new : Noted)
     → AreCalled s orders
-    → IsBuilt s orders n claims places limited
+    → IsBuilt s orders n claims notes
     → own ≡ map (claim_of s n) (line_of s orders n)
-    → AreSeated s orders (is_passed n (line_of s orders n)) new_places new_limited
-    → IsBuilt s orders (n + 1) (claims ++ own ∷ []) new_places new_limited
-built_more s orders n claims places limited own new_places new_limited called built own_are seated =
+    → AreSeated s orders (is_passed n (line_of s orders n)) new
+    → IsBuilt s orders (n + 1) (claims ++ own ∷ []) new
+built_more s orders n claims notes own new called built own_are seated =
     record {
       claims_are =
           ap (λ (cs : List (List (List ℕ))). cs ++ own ∷ []) built.claims_are
@@ -196,8 +226,8 @@ built_more s orders n claims places limited own new_places new_limited called bu
           ++ r ∷ []) own_are
           ∙ sym (map-range_with_len_more (λ p. map (claim_of s p) (line_of s orders p)) 0 n n (omega arith));
       seated =
-          seated_by s orders (is_passed n (line_of s orders n)) (is_below (n + 1)) new_places new_limited
-          (λ i w at t.
+          seated_by s orders (is_passed n (line_of s orders n)) (is_below (n + 1)) new
+          (λ i w at.
           let is = wish_in_is s.wishes i w at in
           let among : is_among w.candidate (order_of s orders w.programme) ≡ true =
           let P = λ (v : Wish). is_among v.candidate (order_of s orders v.programme) ≡ true in
@@ -211,25 +241,37 @@ built_more s orders n claims places limited own new_places new_limited called bu
           applies_claim s w.programme w.candidate ∙ among_some i (claim_of s w.programme w.candidate) own in
           let in_line : is_among w.candidate (line_of s orders w.programme) ≡ true =
           among_filter (applies_in s w.programme) w.candidate (order_of s orders w.programme) among applies in
-          elim (cases_lt w.programme n) [
-            | inl below ↦ or_left (nat_lt w.programme n)
-                (nat_eq w.programme n && is_among w.candidate (line_of s orders n)) (lt-ltb w.programme n below)
-            | inr not_below ↦
-                let same : w.programme ≡ n = omega (arith, not_below, ltb-true w.programme (n + 1) t) in
+          elim (cases_order w.programme n) [
+            | inl same ↦
                 let Q = λ (p : ℕ). is_among w.candidate (line_of s orders p) ≡ true in
-                or_right (nat_lt w.programme n) (nat_eq w.programme n && is_among w.candidate (line_of s orders n))
+                lt-ltb w.programme (n + 1) (omega (arith, same))
+                ∙ sym (or_right (nat_lt w.programme n)
+                (nat_eq w.programme n && is_among w.candidate (line_of s orders n))
                 (and_from (nat_eq w.programme n) (is_among w.candidate (line_of s orders n))
-                (eq-eqb w.programme n same) (subst Q same in_line))
+                (eq-eqb w.programme n same) (subst Q same in_line)))
+            | inr other ↦ elim other [
+              | inl below ↦
+                  lt-ltb w.programme (n + 1) (omega (arith, below))
+                  ∙ sym (or_left (nat_lt w.programme n)
+                  (nat_eq w.programme n && is_among w.candidate (line_of s orders n)) (lt-ltb w.programme n below))
+              | inr above ↦
+                  le-ltb w.programme (n + 1) (omega (arith, above))
+                  ∙ sym (or_from (nat_lt w.programme n)
+                  (nat_eq w.programme n && is_among w.candidate (line_of s orders n))
+                  (le-ltb w.programme n (omega (arith, above)))
+                  (ap (λ b. b && is_among w.candidate (line_of s orders n))
+                  (ne_eqb w.programme n (λ e. omega (arith, e, above)))))
+            ]
           ]) seated;
     }
 
 -- and all of them
 pub built_all : (s : DossierRows) (orders : List CallOrder) (n : ℕ) (claims : List (List (List ℕ)))
-    (places : List ℕ) (limited : List Bool)
+    (notes : Noted)
     → n ≡ length s.programmes
     → ((k : ℕ) → k < length s.wishes → (wish_in s.wishes k).programme < length s.programmes)
-    → IsBuilt s orders n claims places limited → IsLineup s orders claims places limited
-built_all s orders n claims places limited n_is programmes built =
+    → IsBuilt s orders n claims notes → IsLineup s orders claims notes
+built_all s orders n claims notes n_is programmes built =
     let programme : (i : ℕ) (w : Wish) → slice_get s.wishes i ≡ Some w → w.programme < length s.programmes =
     λ i w at. let P = λ (v : Wish). v.programme < length s.programmes in
     subst P (wish_in_is s.wishes i w at) (programmes i (slice_get_within s.wishes i w at)) in
@@ -239,10 +281,13 @@ built_all s orders n claims places limited n_is programmes built =
       programmes_are = programme;
       claims_are = built.claims_are ∙ ap (λ k. map (λ p. map (claim_of s p) (line_of s orders p)) (range_with_len 0 k))
           n_is;
-      places_each = built.seated.places_each;
-      places_are = λ i w at. built.seated.place i w at (done i w at);
-      called_each = built.seated.called_each;
-      called_are = λ i w at. built.seated.called i w at (done i w at);
+      notes_are = record {
+        one_each = built.seated.one_each;
+        places_are = λ i w at. built.seated.place i w at (done i w at);
+        called_are = λ i w at. built.seated.called i w at
+            ∙ ap (λ b. b && is_called_by_limit s orders w) (done i w at);
+        doubled_are = λ i w at. built.seated.doubled i w at ∙ ap (λ b. b && is_doubled s i) (done i w at);
+      };
     }
 
 -- in the order at a place no candidate stands twice

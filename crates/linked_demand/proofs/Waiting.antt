@@ -32,8 +32,7 @@ use Rattle.linked_demand.specs.Wants.{AllNeedSeatAlone}
 use Rattle.linked_demand.proofs.Closing.{length_entries, wish_of}
 use Rattle.linked_demand.proofs.Falling.{flag_map}
 use Rattle.linked_demand.proofs.RowsRight.{entry_is, entry_there}
-use Rattle.linked_demand.proofs.Lining.{among_claim}
-use Rattle.linked_demand.proofs.Seating.{wish_in_is}
+use Rattle.linked_demand.proofs.Lining.{among_claim, wish_in_is}
 use Rattle.linked_demand.proofs.Marked.{marked_within}
 
 waiting_is_not_live : (status : Status) → is_waiting_status status ≡ true → is_live_status status ≡ false

@@ -13,6 +13,7 @@ pub mod Lineups
 pub mod Links
 pub mod Listed
 pub mod Marks
+pub mod Notes
 pub mod Opens
 pub mod Rosters
 pub mod Rounds

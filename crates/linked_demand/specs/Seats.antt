@@ -1,7 +1,6 @@
 -- What is known of the wishes of a dossier while the programmes are gone through one after another.
 use Rattle.std.specs.Prelude.{◌≡◌, ℕ, ◌<◌, Bool, true, false, not, ◌&&◌, ◌||◌, ◌==◌, List, length, map, filter, is_some}
 use Rattle.std.specs.Prelude.{nat_eq, nat_lt, nat_le, ◌+◌, Option, Some, None, slice_get, slice_index, slice_index_or}
-use Rattle.std.specs.Prelude.{if◌then◌else◌}
 use Rattle.std.specs.List.{list_any, range_with_len, before_first}
 use Rattle.day_state.specs.Kept.{wish_in}
 use Rattle.admit_core.specs.declared.dossier.Wish.{Wish}
@@ -12,6 +11,7 @@ use Rattle.admit_core.specs.OwnWishes.{own_places}
 use Rattle.admit_core.specs.Proposals.{order_of}
 use Rattle.admit_core.specs.State.{is_school}
 use Rattle.linked_demand.specs.Links.{IsSeatPlace, claim_of}
+use Rattle.linked_demand.specs.Notes.{Noted}
 use Rattle.linked_demand.specs.Opens.{line_of}
 
 -- the wish at a place is for the programme
@@ -48,12 +48,6 @@ may_share_school d k =
     && same_school (wish_in d.wishes k).school (wish_in d.wishes j).school)
     (own_places d (candidate_of d k))
 
--- some places of a list hold a value, and the others what they held
-pub record PutAt (X : Type 0) (d : X) (ks : List ℕ) (x : X) (old new : List X) : Type 0 where
-  pub as_long : length new ≡ length old
-  pub each : (k : ℕ) → k < length old
-      → slice_index_or new k d ≡ (if is_among k ks then x else slice_index_or old k d)
-
 -- the wish's candidate is called by the limit of its programme, whatever seats are left
 abbrev pub is_called_by_limit : DossierRows → List CallOrder → Wish → Bool
 is_called_by_limit d orders w = nat_le
@@ -70,19 +64,20 @@ may_need_no_seat d orders k =
 abbrev pub wishes_in_doubt : DossierRows → List CallOrder → List ℕ
 wishes_in_doubt d orders = filter (may_need_no_seat d orders) (range_with_len 0 (length d.wishes))
 
--- the wishes of the programmes and candidates that are done have their place, and whether they are
--- called by the limit
+-- the wishes of the programmes and candidates that are done have their place, and only they are
+-- noted as called by the limit or as doubled
 pub record AreSeated (d : DossierRows) (orders : List CallOrder) (is_done : ℕ → ℕ → Bool)
-    (places : List ℕ)
-    (limited : List Bool) : Type 0 where
-  pub places_each : length places ≡ length d.wishes
-  pub called_each : length limited ≡ length d.wishes
+    (notes : Noted) : Type 0 where
+  pub one_each : length notes.places ≡ length d.wishes
   pub place : (i : ℕ) (w : Wish) → slice_get d.wishes i ≡ Some w
       → is_done w.programme w.candidate ≡ true
-      → IsSeatPlace d orders w (slice_index places i)
+      → IsSeatPlace d orders w (slice_index notes.places i)
   pub called : (i : ℕ) (w : Wish) → slice_get d.wishes i ≡ Some w
-      → is_done w.programme w.candidate ≡ true
-      → slice_index_or limited i false ≡ is_called_by_limit d orders w
+      → slice_index_or notes.called_by_limit i false
+      ≡ (is_done w.programme w.candidate && is_called_by_limit d orders w)
+  pub doubled : (i : ℕ) (w : Wish) → slice_get d.wishes i ≡ Some w
+      → slice_index_or notes.doubled i false
+      ≡ (is_done w.programme w.candidate && is_doubled d i)
 
 -- the programmes below one are done
 abbrev pub is_below : ℕ → ℕ → ℕ → Bool
@@ -92,17 +87,23 @@ is_below n p c = nat_lt p n
 abbrev pub is_passed : ℕ → List ℕ → ℕ → ℕ → Bool
 is_passed n front p c = nat_lt p n || (nat_eq p n && is_among c front)
 
+-- for each wish it is known where its candidate stands in the line of its programme, whether they
+-- are called by its limit, and whether they have another one there
+pub record AreNotes (d : DossierRows) (orders : List CallOrder) (notes : Noted) : Type 0 where
+  pub one_each : length notes.places ≡ length d.wishes
+  pub places_are : (i : ℕ) (w : Wish) → slice_get d.wishes i ≡ Some w
+      → IsSeatPlace d orders w (slice_index notes.places i)
+  pub called_are : (i : ℕ) (w : Wish) → slice_get d.wishes i ≡ Some w
+      → slice_index_or notes.called_by_limit i false ≡ is_called_by_limit d orders w
+  pub doubled_are : (i : ℕ) (w : Wish) → slice_get d.wishes i ≡ Some w
+      → slice_index_or notes.doubled i false ≡ is_doubled d i
+
 -- for each programme the claims of those who wish for it, in call order; and where each wish stands
 -- in them
 pub record IsLineup (d : DossierRows) (orders : List CallOrder) (claims : List (List (List ℕ)))
-    (places : List ℕ) (limited : List Bool) : Type 0 where
+    (notes : Noted) : Type 0 where
   pub programmes_are : (i : ℕ) (w : Wish) → slice_get d.wishes i ≡ Some w
       → w.programme < length d.programmes
   pub claims_are : claims
       ≡ map (λ p. map (claim_of d p) (line_of d orders p)) (range_with_len 0 (length d.programmes))
-  pub places_each : length places ≡ length d.wishes
-  pub places_are : (i : ℕ) (w : Wish) → slice_get d.wishes i ≡ Some w
-      → IsSeatPlace d orders w (slice_index places i)
-  pub called_each : length limited ≡ length d.wishes
-  pub called_are : (i : ℕ) (w : Wish) → slice_get d.wishes i ≡ Some w
-      → slice_index_or limited i false ≡ is_called_by_limit d orders w
+  pub notes_are : AreNotes d orders notes

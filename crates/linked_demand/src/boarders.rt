@@ -5,12 +5,10 @@ ghost use Rattle.admit_core.specs.State.{is_school};
 ghost use Rattle.day_state.specs.Kept.{wish_in};
 ghost use Rattle.linked_demand.specs.Boarders.{AreBoarders, AreByPlace, AreBySchool, IsBoarder};
 ghost use Rattle.linked_demand.specs.Rows.{item_at};
-ghost use Rattle.linked_demand.specs.Seats.{IsLineup, boards_at, may_share_school};
+ghost use Rattle.linked_demand.specs.Seats.{AreNotes, boards_at, may_share_school};
 
-use crate::claims::Claims;
-use crate::may_need_no_seat::is_doubled;
+use crate::notes::Notes;
 use crate::rows::{RowWish, put_in, rows_with_room};
-use crate::seats::is_set;
 use crate::wishes::wish_count;
 use admit_core::{CallOrders, OutOfMemory};
 use day_state::DayState;
@@ -134,18 +132,10 @@ fn counts_by_school(
     Ok(counts)
 }
 
-/// What its school keeps of a wish, by the places of candidates in the lines of programmes.
-fn item_of(
-    state: &DayState<'_>,
-    orders: &CallOrders,
-    claims: &[Claims],
-    places: &[u32],
-    called_by_limit: &[bool],
-    boarder: Boarder,
-) -> RowWish
+/// What its school keeps of a wish, by what is known of it from the line of its programme.
+fn item_of(state: &DayState<'_>, orders: &CallOrders, notes: &Notes, boarder: Boarder) -> RowWish
     requires boarder { IsBoarder state.now.dossier boarder }
-    requires lineup { IsLineup state.now.dossier orders.now.orders claims.now places.now
-        called_by_limit.now }
+    requires notes { AreNotes state.now.dossier orders.now.orders notes.now }
     ensures { result ≡ item_at state.now.dossier orders.now.orders boarder.wish }
 {
     let wish = boarder.wish;
@@ -153,10 +143,10 @@ fn item_of(
         rank: boarder.rank,
         wish,
         programme: boarder.programme,
-        place: places[wish as usize],
+        place: notes.place(wish),
         shared: boarder.shared,
-        called_by_limit: is_set(called_by_limit, wish),
-        doubled: is_doubled(state, orders, claims, places, called_by_limit, wish),
+        called_by_limit: notes.is_called_by_limit(wish),
+        doubled: notes.is_doubled(wish),
     }
 }
 
@@ -165,12 +155,9 @@ pub fn boarders_by_school(
     alloc: Global,
     state: &DayState<'_>,
     orders: &CallOrders,
-    claims: &[Claims],
-    places: &[u32],
-    called_by_limit: &[bool],
+    notes: &Notes,
 ) -> Result<Vec<Vec<RowWish>>, OutOfMemory>
-    requires { IsLineup state.now.dossier orders.now.orders claims.now places.now
-        called_by_limit.now }
+    requires { AreNotes state.now.dossier orders.now.orders notes.now }
     ensures { IfOk result (λ v. AreBySchool state.now.dossier orders.now.orders v.items) }
 {
     let boarders = boarders_by_rank(alloc, state)?;
@@ -178,7 +165,7 @@ pub fn boarders_by_school(
     let counts = counts_by_school(alloc, &boarders, schools)?;
     let mut rows = rows_with_room(alloc, &counts)?;
     for boarder in boarders.as_slice() {
-        let item = item_of(state, orders, claims, places, called_by_limit, *boarder);
+        let item = item_of(state, orders, notes, *boarder);
         put_in(&mut rows, boarder.school, item)?;
     }
     Ok(rows)

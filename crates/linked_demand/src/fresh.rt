@@ -7,6 +7,7 @@ ghost use Rattle.linked_demand.specs.Opens.{all_sure};
 ghost use Rattle.linked_demand.specs.Marks.{is_fresh, MarksWishes};
 
 use crate::marks::Marks;
+use crate::notes::Notes;
 use crate::open_wishes::OpenWishes;
 use crate::seats::needs_no_seat;
 use admit_core::Steps;
@@ -19,17 +20,16 @@ fn is_fresh(
     state: &DayState<'_>,
     bars: &[u32],
     opens: &OpenWishes,
-    called_by_limit: &[bool],
+    notes: &Notes,
     wish: u32,
 ) -> bool
     requires wish { wish < length state.now.dossier.wishes }
     requires bars { length bars.now ≡ length state.now.dossier.schools }
     requires opens { length opens.now ≡ length state.now.dossier.wishes }
-    requires called_by_limit { length called_by_limit.now ≡ length state.now.dossier.wishes }
     ensures { result ≡ is_fresh state.now bars.now opens.now
-        (all_sure state.now called_by_limit.now) wish }
+        (all_sure state.now notes.now.called_by_limit) wish }
 {
-    opens.get(wish) && !needs_no_seat(state, called_by_limit, wish) && is_open(state, bars, wish)
+    opens.get(wish) && !needs_no_seat(state, notes, wish) && is_open(state, bars, wish)
 }
 
 /// Ticks once for each wish of a claim that is fresh, and marks it.
@@ -37,7 +37,7 @@ pub fn note_fresh<L: Ledger>(
     state: &DayState<'_>,
     bars: &[u32],
     opens: &OpenWishes,
-    called_by_limit: &[bool],
+    notes: &Notes,
     claim: &[u32],
     marked: &mut Marks,
     steps: &mut Steps<L>,
@@ -45,16 +45,15 @@ pub fn note_fresh<L: Ledger>(
     requires claim { All (λ v. v < length state.now.dossier.wishes) claim.now }
     requires bars { length bars.now ≡ length state.now.dossier.schools }
     requires opens { length opens.now ≡ length state.now.dossier.wishes }
-    requires called_by_limit { length called_by_limit.now ≡ length state.now.dossier.wishes }
     requires marked { length marked.old ≡ length state.now.dossier.wishes }
     ensures steps { steps.new
         ≡ steps.old + count_by (is_fresh state.now bars.now opens.now
-        (all_sure state.now called_by_limit.now)) claim.now }
+        (all_sure state.now notes.now.called_by_limit)) claim.now }
     ensures marked { MarksWishes state.now (λ x. is_among x.0 claim.now && is_fresh state.now
-        bars.now opens.now (all_sure state.now called_by_limit.now) x.0) marked.old marked.new }
+        bars.now opens.now (all_sure state.now notes.now.called_by_limit) x.0) marked.old marked.new }
 {
     for wish in claim {
-        if is_fresh(state, bars, opens, called_by_limit, *wish) {
+        if is_fresh(state, bars, opens, notes, *wish) {
             steps.tick();
             marked.set(*wish);
         }

@@ -7,42 +7,36 @@ ghost use Rattle.linked_demand.specs.Opens.{all_sure};
 ghost use Rattle.linked_demand.specs.Wants.{AreBelow};
 
 use crate::claims::Claims;
+use crate::notes::Notes;
 use crate::open_wishes::OpenWishes;
 use crate::seats::needs_no_seat;
 use admit_core::OutOfMemory;
 use day_state::DayState;
 
 /// Whether the wish at a place is open and needs no seat.
-fn is_sure_open(
-    state: &DayState<'_>,
-    opens: &OpenWishes,
-    called_by_limit: &[bool],
-    place: u32,
-) -> bool
+fn is_sure_open(state: &DayState<'_>, opens: &OpenWishes, notes: &Notes, place: u32) -> bool
     requires place { place < length state.now.dossier.wishes }
     requires opens { length opens.now ≡ length state.now.dossier.wishes }
-    requires called_by_limit { length called_by_limit.now ≡ length state.now.dossier.wishes }
-    ensures { result ≡ sure_open opens.now (all_sure state.now called_by_limit.now) place }
+    ensures { result ≡ sure_open opens.now (all_sure state.now notes.now.called_by_limit) place }
 {
-    opens.get(place) && needs_no_seat(state, called_by_limit, place)
+    opens.get(place) && needs_no_seat(state, notes, place)
 }
 
 /// Lists those of some wishes that are open and need no seat.
 pub fn list_sure(
     state: &DayState<'_>,
     opens: &OpenWishes,
-    called_by_limit: &[bool],
+    notes: &Notes,
     wishes: &[u32],
     found: &mut Vec<u32>,
 ) -> Result<(), OutOfMemory>
     requires wishes { All (λ k. k < length state.now.dossier.wishes) wishes.now }
     requires opens { length opens.now ≡ length state.now.dossier.wishes }
-    requires called_by_limit { length called_by_limit.now ≡ length state.now.dossier.wishes }
     ensures { OnOk result (ListsAlso (listed_open opens.now
-        (all_sure state.now called_by_limit.now) wishes.now) found.old.items found.new.items) }
+        (all_sure state.now notes.now.called_by_limit) wishes.now) found.old.items found.new.items) }
 {
     for wish in wishes {
-        if is_sure_open(state, opens, called_by_limit, *wish) {
+        if is_sure_open(state, opens, notes, *wish) {
             found.push(*wish)?;
         }
     }

@@ -24,7 +24,7 @@ mod line;
 mod lineup;
 mod links;
 mod marks;
-mod may_need_no_seat;
+mod notes;
 mod open_wishes;
 mod opening;
 mod over;

@@ -1,19 +1,21 @@
 //! Those who wish for each programme, in call order: this follows from the dossier and its call
 //! orders alone, so that all passes of a day share it.
-ghost use Rattle.std.specs.Prelude.{◌≡◌, ℕ, ◌<◌, ◌≤◌, ◌^◌, false, length, map, nat_eq, nat_lt, All, Bool, IfOk, OnOk};
+ghost use Rattle.std.specs.Prelude.{◌≡◌, ℕ, ◌<◌, ◌≤◌, ◌^◌, length, map, nat_eq, nat_lt, IfOk, OnOk};
 ghost use Rattle.std.specs.List.{IsDistinct};
 ghost use Rattle.admit_core.specs.CallOrder.{AreCallOrders};
 ghost use Rattle.day_state.specs.Kept.{HoldsOneKey};
 ghost use Rattle.linked_demand.specs.Called.{before_at, called_for};
 ghost use Rattle.linked_demand.specs.Links.{claim_of};
+ghost use Rattle.linked_demand.specs.Notes.{nothing_noted};
 ghost use Rattle.linked_demand.specs.Opens.{line_of};
-ghost use Rattle.linked_demand.specs.Seats.{PutAt, AreSeated, IsLineup, is_below, is_passed};
+ghost use Rattle.linked_demand.specs.Seats.{AreSeated, IsLineup, is_below, is_passed};
 
 use crate::boarders::boarders_by_school;
 use crate::calling::{called_wishes, numbers_before, wishes_called};
 use crate::claims::Claims;
-use crate::may_need_no_seat::wishes_in_doubt;
+use crate::notes::Notes;
 use crate::rows::RowWish;
+use crate::wishes::wish_count;
 use admit_core::{CallOrders, OutOfMemory};
 use day_state::{DayState, Span, part};
 use proposals::{call_everyone, limit_of, programme_count};
@@ -29,30 +31,6 @@ fn line_once(state: &DayState<'_>, orders: &CallOrders)
 {
     let dossier = state.dossier();
     let _ = &dossier.wishes; // learns the invariant
-}
-
-/// What is known of each wish, by place: the place of its candidate in the line of its programme,
-/// and whether they are called by the programme's limit.
-#[derive(Drop)]
-struct Notes {
-    places: Vec<u32>,
-    called_by_limit: Vec<bool>,
-}
-
-/// Notes for the wishes of a claim their candidate's place in the line, and whether they are called
-/// by the programme's limit.
-fn note(notes: &mut Notes, claim: &[u32], place: u32, is_called: bool)
-    requires places { All (λ k. k < length notes.old.places.items) claim.now }
-    requires called_by_limit { length notes.old.called_by_limit.items
-        ≡ length notes.old.places.items }
-    ensures places { PutAt ℕ 0 claim.now place notes.old.places.items notes.new.places.items }
-    ensures called_by_limit { PutAt Bool false claim.now is_called notes.old.called_by_limit.items
-        notes.new.called_by_limit.items }
-{
-    for wish in claim {
-        notes.places[*wish as usize] = place;
-        notes.called_by_limit[*wish as usize] = is_called;
-    }
 }
 
 /// Whether one who has so many before them is called by a limit.
@@ -95,12 +73,11 @@ fn line_up(
     requires before { before.now ≡ map (before_at state.now.dossier orders.now.orders)
         wishes.items }
     requires seated { AreSeated state.now.dossier orders.now.orders (is_below programme)
-        notes.old.places.items notes.old.called_by_limit.items }
+        notes.old }
     ensures claims { IfOk result (λ x. x ≡ map (claim_of state.now.dossier programme)
         (line_of state.now.dossier orders.now.orders programme)) }
     ensures seated { OnOk result (AreSeated state.now.dossier orders.now.orders
-        (is_passed programme (line_of state.now.dossier orders.now.orders programme))
-        notes.new.places.items notes.new.called_by_limit.items) }
+        (is_passed programme (line_of state.now.dossier orders.now.orders programme)) notes.new) }
 {
     let mut spans = Vec::with_capacity(alloc, wishes.len())?;
     let limit = limit_of(state, programme);
@@ -112,7 +89,7 @@ fn line_up(
             to: to as u32,
         };
         let is_called = is_called_by_limit(before[from], limit);
-        note(notes, part(&wishes, span), spans.len() as u32, is_called);
+        notes.note(part(&wishes, span), spans.len() as u32, is_called);
         spans.push(span)?;
         from = to;
     }
@@ -128,11 +105,8 @@ fn claims_of(
     notes: &mut Notes,
 ) -> Result<Vec<Claims>, OutOfMemory>
     requires orders { AreCallOrders state.now.dossier.groups orders.now.orders }
-    requires places { length notes.old.places.items ≡ length state.now.dossier.wishes }
-    requires called_by_limit { length notes.old.called_by_limit.items
-        ≡ length state.now.dossier.wishes }
-    ensures { IfOk result (λ v. IsLineup state.now.dossier orders.now.orders v.items
-        notes.new.places.items notes.new.called_by_limit.items) }
+    requires notes { notes.old ≡ nothing_noted (length state.now.dossier.wishes) }
+    ensures { IfOk result (λ v. IsLineup state.now.dossier orders.now.orders v.items notes.new) }
 {
     call_everyone(state, orders);
     line_once(state, orders);
@@ -149,13 +123,12 @@ fn claims_of(
     Ok(claims)
 }
 
-/// For each programme those who wish for it, in call order, with their claims; for each wish the
-/// place of its candidate among them, and whether they are called by the programme's limit; the
-/// boarders of each school by rank, and the wishes that may need no seat while they wait.
+/// For each programme those who wish for it, in call order, with their claims; what is known of
+/// each wish from them; the boarders of each school by rank, and the wishes that may need no seat
+/// while they wait.
 pub struct Lineup {
     pub(crate) claims: Vec<Claims>,
-    pub(crate) places: Vec<u32>,
-    pub(crate) called_by_limit: Vec<bool>,
+    pub(crate) notes: Notes,
     pub(crate) boarders: Vec<Vec<RowWish>>,
     pub(crate) may_need_no_seat: Vec<u32>,
 }
@@ -165,8 +138,7 @@ impl Drop for Lineup {
     fn drop(self) {
         let Lineup {
             claims: _,
-            places: _,
-            called_by_limit: _,
+            notes: _,
             boarders: _,
             may_need_no_seat: _,
         } = self;
@@ -185,38 +157,14 @@ impl Lineup {
         requires { AreCallOrders state.now.dossier.groups orders.now.orders }
         ensures { IfOk result (IsLineupOf state.now.dossier orders.now.orders) }
     {
-        let count = state.dossier().wishes.len();
-        let places = vec![in alloc; 0; count]?;
-        let called_by_limit = vec![in alloc; false; count]?;
-        let mut notes = Notes {
-            places,
-            called_by_limit,
-        };
+        let count = wish_count(state);
+        let mut notes = Notes::none(alloc, count)?;
         let claims = claims_of(alloc, state, orders, &mut notes)?;
-        let Notes {
-            places,
-            called_by_limit,
-        } = notes;
-        let boarders = boarders_by_school(
-            alloc,
-            state,
-            orders,
-            &claims,
-            &places,
-            &called_by_limit,
-        )?;
-        let may_need_no_seat = wishes_in_doubt(
-            alloc,
-            state,
-            orders,
-            &claims,
-            &places,
-            &called_by_limit,
-        )?;
+        let boarders = boarders_by_school(alloc, state, orders, &notes)?;
+        let may_need_no_seat = notes.wishes_in_doubt(alloc, count)?;
         Ok(Lineup {
             claims,
-            places,
-            called_by_limit,
+            notes,
             boarders,
             may_need_no_seat,
         })

@@ -21,6 +21,7 @@ use crate::fronts::{list_fronts, list_sure};
 use crate::line::{is_reached, last_wanting, next_wanting};
 use crate::lineup::Lineup;
 use crate::marks::Marks;
+use crate::notes::Notes;
 use crate::open_wishes::OpenWishes;
 use crate::opening::open_under;
 use crate::rows::RowWish;
@@ -35,13 +36,12 @@ use std::sync::ledger::Ledger;
 
 /// Whether an open wish has a seat: by its place, which may be reached, or by need of none, which
 /// is asked of the others alone.
-fn is_seated(state: &DayState<'_>, called_by_limit: &[bool], wish: u32, reached: bool) -> bool
+fn is_seated(state: &DayState<'_>, notes: &Notes, wish: u32, reached: bool) -> bool
     requires wish { wish < length state.now.dossier.wishes }
-    requires called_by_limit { length called_by_limit.now ≡ length state.now.dossier.wishes }
     ensures { result ≡ (reached
-        || slice_index_or (all_sure state.now called_by_limit.now) wish false) }
+        || slice_index_or (all_sure state.now notes.now.called_by_limit) wish false) }
 {
-    reached || needs_no_seat(state, called_by_limit, wish)
+    reached || needs_no_seat(state, notes, wish)
 }
 
 /// Whether the candidate of an item's wish, which waits, is live in its programme: they are not
@@ -65,19 +65,12 @@ fn is_item_seated(state: &DayState<'_>, item: RowWish, reached: bool) -> bool
 }
 
 /// The same of a wish that may be closed.
-fn is_served(
-    state: &DayState<'_>,
-    called_by_limit: &[bool],
-    wish: u32,
-    open: bool,
-    reached: bool,
-) -> bool
+fn is_served(state: &DayState<'_>, notes: &Notes, wish: u32, open: bool, reached: bool) -> bool
     requires wish { wish < length state.now.dossier.wishes }
-    requires called_by_limit { length called_by_limit.now ≡ length state.now.dossier.wishes }
     ensures { result ≡ («open»
-        && (reached || slice_index_or (all_sure state.now called_by_limit.now) wish false)) }
+        && (reached || slice_index_or (all_sure state.now notes.now.called_by_limit) wish false)) }
 {
-    open && is_seated(state, called_by_limit, wish, reached)
+    open && is_seated(state, notes, wish, reached)
 }
 
 /// How far the seats of each programme reach along its line, while wishes are closed.
@@ -205,7 +198,7 @@ impl<'a, 'd> SeatLinks<'a, 'd> {
                     self.state,
                     bars,
                     &self.opens,
-                    &lineup.called_by_limit,
+                    &lineup.notes,
                     claims.at(next),
                     marked,
                     steps,
@@ -274,7 +267,7 @@ impl<'a, 'd> SeatLinks<'a, 'd> {
         list_sure(
             self.state,
             &self.opens,
-            &lineup.called_by_limit,
+            &lineup.notes,
             &lineup.may_need_no_seat,
             &mut found,
         )?;
@@ -291,9 +284,9 @@ impl<'a, 'd> SeatLinks<'a, 'd> {
     {
         let lineup = self.lineup;
         let programme = wish_at(self.state, wish).programme as usize;
-        let place = lineup.places[wish as usize] as usize;
+        let place = lineup.notes.place(wish) as usize;
         let open = self.opens.get(wish);
         let reached = is_reached(place, self.reached[programme]);
-        is_served(self.state, &lineup.called_by_limit, wish, open, reached)
+        is_served(self.state, &lineup.notes, wish, open, reached)
     }
 }

@@ -6,37 +6,29 @@ ghost use Rattle.linked_demand.specs.Opens.{all_sure, sure_at};
 
 use crate::line::reach_of;
 use crate::lineup::Lineup;
+use crate::notes::Notes;
 use crate::open_wishes::OpenWishes;
 use admit_core::{CallOrders, OutOfMemory};
 use day_state::{DayState, seats_left};
 use proposals::programme_count;
 use std::alloc::Global;
 
-/// Whether a flag is set.
-pub fn is_set(flags: &[bool], place: u32) -> bool
-    requires { place < length flags.now }
-    ensures { result ≡ slice_index_or flags.now place false }
-{
-    flags[place as usize]
-}
-
 /// Whether the candidate of the wish at a place is called by the limit of its programme, or is live
 /// there, which is asked of the others alone.
-fn is_sure(state: &DayState<'_>, called_by_limit: &[bool], place: u32) -> bool
+fn is_sure(state: &DayState<'_>, notes: &Notes, place: u32) -> bool
     requires place { place < length state.now.dossier.wishes }
-    requires called_by_limit { length called_by_limit.now ≡ length state.now.dossier.wishes }
-    ensures { result ≡ sure_at state.now called_by_limit.now place }
+    ensures { result ≡ sure_at state.now notes.now.called_by_limit place }
 {
-    is_set(called_by_limit, place) || state.is_live_in_its_programme(place)
+    notes.is_called_by_limit(place) || state.is_live_in_its_programme(place)
 }
 
 /// Whether the candidate of the wish at a place needs no seat.
-pub fn needs_no_seat(state: &DayState<'_>, called_by_limit: &[bool], place: u32) -> bool
+pub fn needs_no_seat(state: &DayState<'_>, notes: &Notes, place: u32) -> bool
     requires place { place < length state.now.dossier.wishes }
-    requires called_by_limit { length called_by_limit.now ≡ length state.now.dossier.wishes }
-    ensures { result ≡ slice_index_or (all_sure state.now called_by_limit.now) place false }
+    ensures { result ≡ slice_index_or (all_sure state.now notes.now.called_by_limit)
+        place false }
 {
-    is_sure(state, called_by_limit, place)
+    is_sure(state, notes, place)
 }
 
 /// How many places of each programme's line are reached where these wishes are open.

@@ -16,6 +16,6 @@ impl Roster<'_, '_> {
         ensures called { result < length (line_of self.now.dossier self.now.orders
             (wish_in self.now.dossier.wishes wish).programme) }
     {
-        self.lineup.places[wish as usize]
+        self.lineup.notes.place(wish)
     }
 }

@@ -9,8 +9,8 @@ returns c =
     let d = c.args.state.now.dossier in
     let right = c.requires.boarder in
     let k = c.args.boarder.wish in
-    let called =
-    c.is_set.ensures ∙ c.requires.lineup.called_are k (wish_in d.wishes k)
-    (wish_there d.wishes k _ right.within refl) in
-    item_made d c.args.orders.now.orders c.args.places.now c.requires.lineup.places_are
-    c.args.boarder right _ refl _ _ called c.is_doubled.ensures
+    let here = wish_there d.wishes k (wish_in d.wishes k) right.within refl in
+    let notes = c.requires.notes in
+    item_made d c.args.orders.now.orders c.args.notes.now.places notes.places_are c.args.boarder right
+    _ c.place.ensures _ _ (c.is_called_by_limit.ensures ∙ notes.called_are k (wish_in d.wishes k) here)
+    (c.is_doubled.ensures ∙ notes.doubled_are k (wish_in d.wishes k) here)

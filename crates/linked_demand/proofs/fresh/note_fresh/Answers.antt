@@ -14,7 +14,7 @@ loop-wish-init g c =
       steps = omega arith;
       marked = marks_nothing c.args.state.now
           (λ x. is_among x.0 (take 0 c.args.claim.now) && is_fresh c.args.state.now c.args.bars.now
-          c.args.opens.now (all_sure c.args.state.now c.args.called_by_limit.now) x.0) c.args.marked.now
+          c.args.opens.now (all_sure c.args.state.now c.args.notes.now.called_by_limit) x.0) c.args.marked.now
           (λ k e at. refl);
     }
 
@@ -22,7 +22,7 @@ pub loop-wish-preserved : goal.loop-wish-preserved
 loop-wish-preserved g c =
     let s = c.args.state.now in
     let claim = c.args.claim.now in
-    let q = is_fresh s c.args.bars.now c.args.opens.now (all_sure c.args.state.now c.args.called_by_limit.now) in
+    let q = is_fresh s c.args.bars.now c.args.opens.now (all_sure c.args.state.now c.args.notes.now.called_by_limit) in
     let i = c.loop-wish.wish-index in
     let lt : i < length claim = c.loop-wish-test.true in
     elim c.if-is_fresh.branch [

@@ -8,8 +8,8 @@ abbrev pub invariant-loop-wish : goal.invariant-loop-wish
 invariant-loop-wish g l =
     record {
       steps : l.steps ≡ l.initial.steps + count_by
-          (is_fresh l.state l.bars l.opens (all_sure l.state l.called_by_limit)) (take l.wish-index l.claim);
+          (is_fresh l.state l.bars l.opens (all_sure l.state l.notes.called_by_limit)) (take l.wish-index l.claim);
       marked : MarksWishes l.state
           (λ x. is_among x.0 (take l.wish-index l.claim) && is_fresh l.state l.bars l.opens
-          (all_sure l.state l.called_by_limit) x.0) l.initial.marked l.marked;
+          (all_sure l.state l.notes.called_by_limit) x.0) l.initial.marked l.marked;
     }

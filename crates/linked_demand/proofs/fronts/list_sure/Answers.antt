@@ -7,13 +7,13 @@ use Rattle.linked_demand.proofs.fronts.list_sure.Goals.{then-is_sure_open+in_ok-
 
 pub loop-wish-init : goal.loop-wish-init
 loop-wish-init c =
-    lists_none (passing (sure_open c.args.opens.now (all_sure c.args.state.now c.args.called_by_limit.now))
+    lists_none (passing (sure_open c.args.opens.now (all_sure c.args.state.now c.args.notes.now.called_by_limit))
     c.args.wishes.now 0)
     c.args.found.now.items (λ k. refl)
 
 pub loop-wish-preserved : goal.loop-wish-preserved
 loop-wish-preserved c =
-    let q = sure_open c.args.opens.now (all_sure c.args.state.now c.args.called_by_limit.now) in
+    let q = sure_open c.args.opens.now (all_sure c.args.state.now c.args.notes.now.called_by_limit) in
     let ks = c.args.wishes.now in
     let i = c.loop-wish.wish-index in
     let x : ℕ = get_or ks i 0 in
@@ -32,6 +32,6 @@ loop-wish-preserved c =
 
 pub returns : goal.returns
 returns c =
-    lists_all (sure_open c.args.opens.now (all_sure c.args.state.now c.args.called_by_limit.now)) c.args.wishes.now
+    lists_all (sure_open c.args.opens.now (all_sure c.args.state.now c.args.notes.now.called_by_limit)) c.args.wishes.now
     c.loop-wish.wish-index
     c.args.found.now.items c.loop-wish.found.items c.loop-wish-test.false c.loop-wish.invariant

@@ -5,5 +5,5 @@ use Rattle.linked_demand.proofs.fronts.list_sure.Given as goal
 
 abbrev pub invariant-loop-wish : goal.invariant-loop-wish
 invariant-loop-wish l =
-    ListsAlso (passing (sure_open l.opens (all_sure l.state l.called_by_limit)) l.wishes l.wish-index)
+    ListsAlso (passing (sure_open l.opens (all_sure l.state l.notes.called_by_limit)) l.wishes l.wish-index)
     l.fn.found.items l.found.items

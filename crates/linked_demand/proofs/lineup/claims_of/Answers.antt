@@ -11,9 +11,7 @@ use Rattle.linked_demand.proofs.lineup.claims_of.Goals as goal
 pub loop-programme-init : goal.loop-programme-init
 loop-programme-init c = record {
   built = built_none c.args.state.now.dossier c.args.orders.now.orders c.in_ok-claims.claims.items
-      c.args.notes.now.places.items c.args.notes.now.called_by_limit.items c.in_ok-claims.ensures.items
-      c.requires.places
-      c.requires.called_by_limit;
+      c.args.notes.now c.in_ok-claims.ensures.items c.requires.notes;
   called = c.in_ok-called.ensures;
 }
 
@@ -75,13 +73,11 @@ loop-programme-preserved c =
     let d = c.args.state.now.dossier in
     let orders = c.args.orders.now.orders in
     let n = c.loop-programme.programme in
-    let places = c.line_up.new.notes.places.items in
-    let limited = c.line_up.new.notes.called_by_limit.items in
-    let P = λ (cs : List (List (List ℕ))). IsBuilt d orders (n + 1) cs places limited in
+    let notes = c.line_up.new.notes in
+    let P = λ (cs : List (List (List ℕ))). IsBuilt d orders (n + 1) cs notes in
     let built =
     subst P (sym c.in_ok-push.ensures.items)
-    (built_more d orders n c.loop-programme.claims.items c.loop-programme.notes.places.items
-    c.loop-programme.notes.called_by_limit.items c.in_ok-own.own places limited
+    (built_more d orders n c.loop-programme.claims.items c.loop-programme.notes c.in_ok-own.own notes
     c.call_everyone.ensures c.loop-programme.invariant.built c.in_ok-own.ensures.claims c.in_ok-own.ensures.seated) in
     record {
       built = built;
@@ -92,7 +88,7 @@ loop-programme-preserved c =
 pub returns : goal.returns
 returns c =
     built_all c.args.state.now.dossier c.args.orders.now.orders c.loop-programme.programme
-    c.loop-programme.claims.items c.loop-programme.notes.places.items c.loop-programme.notes.called_by_limit.items
+    c.loop-programme.claims.items c.loop-programme.notes
     (omega (
       arith,
       c.loop-programme-test.false,

@@ -6,8 +6,7 @@ use Rattle.linked_demand.proofs.lineup.claims_of.Given as goal
 
 abbrev pub invariant-loop-programme : goal.invariant-loop-programme
 invariant-loop-programme l = record {
-  built : IsBuilt l.state.dossier l.orders.orders l.programme l.claims.items l.notes.places.items
-      l.notes.called_by_limit.items;
+  built : IsBuilt l.state.dossier l.orders.orders l.programme l.claims.items l.notes;
   called : AreRowsFrom l.programme (length l.state.dossier.programmes)
       (callers_for l.state.dossier l.orders.orders) l.called.items;
 }

@@ -4,7 +4,7 @@ use Rattle.linked_demand.proofs.lineup.line_up.Given as goal
 
 abbrev pub invariant-loop-from : goal.invariant-loop-from
 invariant-loop-from l = IsLined l.state.dossier l.orders.orders l.programme l.wishes.items l.from l.spans.items
-    l.notes.places.items l.notes.called_by_limit.items
+    l.notes
 
 abbrev pub decreases-loop-from : goal.decreases-loop-from
 decreases-loop-from l = length l.before - l.from

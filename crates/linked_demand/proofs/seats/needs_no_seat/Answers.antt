@@ -4,4 +4,4 @@ use Rattle.linked_demand.proofs.seats.needs_no_seat.Goals as goal
 
 pub returns : goal.returns
 returns c =
-    c.is_sure.ensures ∙ sym (sure_read c.args.state.now c.args.called_by_limit.now c.args.place c.requires.place)
+    c.is_sure.ensures ∙ sym (sure_read c.args.state.now c.args.notes.now.called_by_limit c.args.place c.requires.place)

@@ -61,9 +61,9 @@ loop-programme-preserved c =
 
 pub returns : goal.returns
 returns c =
-    let limited = c.args.lineup.now.called_by_limit.items in
+    let notes = c.args.lineup.now.notes in
     all_reached c.args.state.now c.args.orders.now.orders c.args.opens.now c.loop-programme.reached.items
-    c.args.lineup.now.claims.items c.args.lineup.now.places.items limited (all_sure c.args.state.now limited)
+    c.args.lineup.now.claims.items notes (all_sure c.args.state.now notes.called_by_limit)
     c.loop-programme.programme (rw c.marks.ensures.marks at c.marks.ensures.one_each) c.requires.opens
     c.requires.lineup.lines
     (omega (

@@ -12,7 +12,6 @@ reached_of-requires-clause-waits c =
 pub invariant_of-result : goal.invariant_of-result
 invariant_of-result c = record {
   reach = c.in_ok-reached.ensures;
-  called_each = c.requires.lineup.lines.called_each;
-  called_are = c.requires.lineup.lines.called_are;
+  notes_are = c.requires.lineup.lines.notes_are;
   in_doubt_are = c.requires.lineup.may_need_no_seat;
 }

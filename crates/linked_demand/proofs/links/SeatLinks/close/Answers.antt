@@ -132,8 +132,7 @@ invariant_of-self-else-leaves g c =
       reach =
           reach_kept k r.reached.items c.self.invariant.reach.reached_are
           c.index-before.result.now c.index-before.ensures stays.reach;
-      called_each = c.self.invariant.called_each;
-      called_are = c.self.invariant.called_are;
+      notes_are = c.self.invariant.notes_are;
       in_doubt_are = c.self.invariant.in_doubt_are;
     })
 
@@ -160,8 +159,7 @@ invariant_of-self g c =
     ∙ ap (λ (fs : List Bool). last_new (wants_along s fs row) before now) c.leaves_by_closing-leaves.ensures.opens) in
     rw c.leaves_by_closing-leaves.ensures.opens (record {
       reach = reach_put k r.reached.items c.self.invariant.reach.reached_are now moved.reach;
-      called_each = c.self.invariant.called_each;
-      called_are = c.self.invariant.called_are;
+      notes_are = c.self.invariant.notes_are;
       in_doubt_are = c.self.invariant.in_doubt_are;
     })
 
@@ -188,8 +186,7 @@ invariant_of-self-in_default g c =
     ∙ ap (λ (fs : List Bool). last_new (wants_along s fs row) before now) c.leaves_by_closing-leaves.ensures.opens) in
     rw c.leaves_by_closing-leaves.ensures.opens (record {
       reach = reach_put k r.reached.items c.self.invariant.reach.reached_are now moved.reach;
-      called_each = c.self.invariant.called_each;
-      called_are = c.self.invariant.called_are;
+      notes_are = c.self.invariant.notes_are;
       in_doubt_are = c.self.invariant.in_doubt_are;
     })
 
@@ -212,7 +209,6 @@ note_fresh-requires g c =
         length-set c.self.inside.opens c.args.item.wish false,
         c.self.invariant.reach.links.opens_each,
       );
-      called_by_limit = omega (arith, c.deref.ensures.len, c.self.invariant.called_each);
       marked = c.requires.marked ∙ ap (λ (r : LinksRow). length r.state.dossier.wishes) (sym c.self.view_is);
     }
 
@@ -292,12 +288,12 @@ returns-in-Some g c =
     (arith, within, in_claims k row c.index-claims.ensures) in
     let closed = λ (l : LinksRow). record l { opens = slice_set l.opens c.args.item.wish false } in
     let told =
-    told_some s orders r.opens (all_sure s r.lineup.now.called_by_limit.items) c.args.item.wish p
+    told_some s orders r.opens (all_sure s r.lineup.now.notes.called_by_limit) c.args.item.wish p
     (get_or (line_of s.dossier orders p) c.in-Some.next 0) c.args.self.now c.self.view_is
     (newly_some k c.last_wanting.result moved.fresh c.in-Some.next c.in-Some.is lt)
     c.self.invariant.reach.links.marks_each c.args.bars.now c.at.result.now fresh_claim
-    c.leaves_by_closing-leaves.new.opens (all_sure s c.deref.result.now) c.leaves_by_closing-leaves.ensures.opens
-    (ap (all_sure s) c.deref.ensures.value) c.args.steps.now c.note_fresh.new.steps
+    c.leaves_by_closing-leaves.new.opens (all_sure s r.lineup.now.notes.called_by_limit)
+    c.leaves_by_closing-leaves.ensures.opens refl c.args.steps.now c.note_fresh.new.steps
     c.args.marked.now c.note_fresh.new.marked c.note_fresh.ensures.steps c.note_fresh.ensures.marked in
     rw c.leaves_by_closing-leaves.ensures.opens
     (record { value = ap closed c.self.view_is; steps = told.steps; marked = told.marked })

@@ -1,4 +1,4 @@
-use Rattle.std.proofs.Common.{ℕ, ◌≡◌, Bool, ◌&&◌, ◌||◌, List, false, length, get_or, arith, ap, sym, ◌∙◌}
+use Rattle.std.proofs.Common.{ℕ, ◌≡◌, Bool, ◌&&◌, ◌||◌, false, get_or, arith, ap, sym, ◌∙◌}
 use Rattle.std.proofs.Math.Bool.{or_comm}
 use Rattle.std.proofs.lemmas.List.{get_or_default}
 use Rattle.linked_demand.specs.Opens.{all_sure, seat_row}
@@ -11,8 +11,8 @@ pub wish_at-programme-requires : goal.wish_at-programme-requires
 wish_at-programme-requires c =
     starts_within c.self.invariant.reach.links c.args.self.now c.self.view_is c.args.wish c.requires
 
-pub index-requires : goal.index-requires
-index-requires c =
+pub place-place-requires : goal.place-place-requires
+place-place-requires c =
     let k = closes_read c.self.invariant.reach.links c.args.self.now c.self.view_is c.args.wish c.requires
     c.wish_at-programme.result c.wish_at-programme.ensures.wish in
     omega (arith, wish_within k, c.self.invariant.reach.links.places_each)
@@ -28,10 +28,10 @@ is_served-requires c =
     let k =
     closes_read c.self.invariant.reach.links c.args.self.now c.self.view_is c.args.wish c.requires
     c.wish_at-programme.result c.wish_at-programme.ensures.wish in
-    record { wish = wish_within k; called_by_limit = ap length c.deref.ensures.value ∙ c.self.invariant.called_each }
+    record { wish = wish_within k }
 
-pub index-requires-2 : goal.index-requires-2
-index-requires-2 c =
+pub index-requires : goal.index-requires
+index-requires c =
     let k = closes_read c.self.invariant.reach.links c.args.self.now c.self.view_is c.args.wish c.requires
     c.wish_at-programme.result c.wish_at-programme.ensures.wish in
     omega (arith, programme_within k, reached_each k c.self.inside.reached.items c.self.invariant.reach.reached_are)
@@ -46,12 +46,15 @@ returns c =
     let p : ℕ = c.wish_at-programme.result.programme in
     let k = closes_read c.self.invariant.reach.links c.args.self.now c.self.view_is c.args.wish c.requires
     c.wish_at-programme.result c.wish_at-programme.ensures.wish in
-    let at = place_right k c.index.result.now c.index.ensures in
+    let place_read = c.place-place.ensures
+    ∙ get_or_default r.lineup.now.notes.places c.args.wish 0 c.place-place.result
+    (omega (arith, wish_within k, c.self.invariant.reach.links.places_each)) in
+    let at = place_right k c.place-place.result place_read in
     let reach = reach_right k r.reached.items c.self.invariant.reach.reached_are
-    c.index-2.result.now c.index-2.ensures in
-    let reached = reached_is s orders opens p c.index.result.now c.index-2.result.now
+    c.index.result.now c.index.ensures in
+    let reached = reached_is s orders opens p c.place-place.result c.index.result.now
     c.is_reached-reached.result reach at.within c.is_reached-reached.ensures in
-    let limited = r.lineup.now.called_by_limit.items in
+    let limited = r.lineup.now.notes.called_by_limit in
     let flag : Bool = get_or (all_sure s limited) c.args.wish false in
     let sure : flag ≡ get_or (all_sure s limited) c.args.wish flag =
     get_or_default (all_sure s limited) c.args.wish false flag (omega (arith, wish_within k, sure_each k)) in
@@ -62,11 +65,10 @@ returns c =
     (omega (arith, wish_within k, c.self.invariant.reach.links.opens_each)) in
     let served : c.is_served.result ≡ (opens_now && (flag || near)) =
     c.is_served.ensures
-    ∙ ap (λ (es : List Bool). opens_now && (near || get_or (all_sure s es) c.args.wish false)) c.deref.ensures.value
     ∙ ap (λ (b : Bool). opens_now && b) (or_comm near flag) in
     proposed_goal c.self.invariant.reach.links c.args.self.now c.self.view_is c.args.wish w m waits
     c.wish_at-programme.result c.wish_at-programme.ensures.wish
-    c.index.result.now c.index.ensures (seat_row s orders opens p)
+    c.place-place.result place_read (seat_row s orders opens p)
     (row_there s orders opens p (programme_within k)) c.get-open.result
     flag near c.is_served.result opens_read sure reached served
     ∙ sym (proposed_at_is c.args.self.now c.args.wish w m waits)

@@ -1,4 +1,4 @@
-use Rattle.std.proofs.Common.{ℕ, List, [], length, ◌∙◌, ap, eqb, subst}
+use Rattle.std.proofs.Common.{ℕ, List, [], length, ◌∙◌, eqb, subst}
 use Rattle.std.proofs.lemmas.List.Filters.{dedup_is}
 use Rattle.linked_demand.specs.Demand.{is_proposed_at}
 use Rattle.linked_demand.specs.Fronts.{ListsAlso, listed_open, reached_open}
@@ -17,14 +17,13 @@ list_sure-requires c =
     let kept = c.self.invariant in
     record {
       wishes =
-          passing_within (may_need_no_seat d r.orders.now.orders) (length d.wishes) c.deref-2.result.now
-          (c.deref-2.ensures.value ∙ kept.in_doubt_are);
+          passing_within (may_need_no_seat d r.orders.now.orders) (length d.wishes) c.deref.result.now
+          (c.deref.ensures.value ∙ kept.in_doubt_are);
       opens = kept.reach.links.opens_each;
-      called_by_limit = ap length c.deref.ensures.value ∙ kept.called_each;
     }
 
 pub list_fronts-requires : goal.list_fronts-requires
-list_fronts-requires c = rw (c.deref-3.ensures.value, c.deref-4.ensures.value) (fronts c.self.invariant.reach)
+list_fronts-requires c = rw (c.deref-2.ensures.value, c.deref-3.ensures.value) (fronts c.self.invariant.reach)
 
 pub returns : goal.returns
 returns c =
@@ -32,7 +31,7 @@ returns c =
     let s = r.state.now in
     let kept = c.self.invariant in
     let right = kept.reach in
-    let limited = r.lineup.now.called_by_limit.items in
+    let limited = r.lineup.now.notes.called_by_limit in
     let listed = r.lineup.now.may_need_no_seat.items in
     let sure = all_sure s limited in
     let opens = r.opens in
@@ -43,13 +42,13 @@ returns c =
     let P = λ (none : List ℕ). ListsAlso (listed_open opens sure listed) none now in
     let first : ListsAlso (listed_open opens sure listed) [] now =
     subst P c.new-found.ensures.items
-    (rw (c.deref.ensures.value, c.deref-2.ensures.value) at c.in_ok-list_sure.ensures) in
+    (rw c.deref.ensures.value at c.in_ok-list_sure.ensures) in
     let second : ListsAlso (reached_open opens lines r.reached.items (length lines)) now found =
-    rw (c.deref-3.ensures.value, c.deref-4.ensures.value) at c.in_ok-list_fronts.ensures in
+    rw (c.deref-2.ensures.value, c.deref-3.ensures.value) at c.in_ok-list_fronts.ensures in
     in_order_once (is_proposed_at row) (length row.state.dossier.wishes) found c.sort_unstable.new.self.items
     c.dedup.new.self.items
     (found_right right row c.self.view_is c.requires listed
-    (listed_sure s right.links.marks_each r.orders.now.orders limited kept.called_are listed kept.in_doubt_are opens)
+    (listed_sure s right.links.marks_each r.orders.now.orders limited kept.notes_are.called_are listed kept.in_doubt_are opens)
     now found first second)
     c.sort_unstable.ensures.permutation c.sort_unstable.ensures.sorted
     (dedup_is eqb c.sort_unstable.new.self.items c.dedup.new.self.items c.dedup.ensures.filtered)
