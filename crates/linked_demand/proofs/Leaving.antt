@@ -1,10 +1,11 @@
 -- How far the seats of a programme reach where a wish is closed.
-use Rattle.std.proofs.Common.{ℕ, ◌+◌, ◌≤◌, ◌<◌, ◌≡◌, Bool, true, false, not, ◌&&◌, List, [], map, length, inl, inr}
-use Rattle.std.proofs.Common.{refl, sym, ◌∙◌, ap, arith, nat_lt, get_or, drop, Option, None, subst}
+use Rattle.std.proofs.Common.{ℕ, ◌+◌, ◌-◌, ◌≤◌, ◌<◌, ◌≡◌, Bool, true, false, not, ◌&&◌, List, [], map, length, inl, inr}
+use Rattle.std.proofs.Common.{refl, sym, ◌∙◌, ap, arith, nat_lt, get_or, drop, Option, None, Some, subst}
 use Rattle.std.proofs.Math.Bool.{and_comm}
 use Rattle.std.proofs.Math.ListN.{set}
 use Rattle.std.specs.List.{list_any, range_with_len}
-use Rattle.std.proofs.lemmas.Bool.{cases_Bool, and_parts, ltb-true, ltb-false, not-true}
+use Rattle.std.proofs.lemmas.Bool.{cases_Bool, and_parts, le-ltb, ltb-true, ltb-false, not-true}
+use Rattle.std.specs.Prelude.{if◌then◌else◌}
 use Rattle.std.proofs.lemmas.List.{get_or_read, set-get_or, map-set, get_or-map, length-map, length-set}
 use Rattle.std.proofs.lemmas.Simd.{map-map}
 use Rattle.std.proofs.lemmas.List.FromFn.{length-map-range_with_len, get_or-map-range_with_len}
@@ -292,6 +293,24 @@ module _ {s : State} {orders : List CallOrder} {opens : List Bool} {claims : Lis
       (wants_here k opens k.links.opens_each claim own_claim live r.live_is wanted r.wanted_is)
       (wants_here k (set opens i false) long claim own_claim live r.live_is wants r.wants_is) reach_was
       (sym leaves_last ∙ goes) (wants_there k (set opens i false) long row r.row_read) now_is answer_is
+
+  -- whether one leaves or nobody does
+  pub front_moved : (now : ℕ) (answer : Option ℕ)
+      → now ≡ (if leaves then before + next (drop before (wants_along s (set opens i false) row)) else before)
+      → answer ≡ last_new (wants_along s (set opens i false) row) before now → Moves k place r.stands now answer
+  front_moved now answer now_is answer_is =
+      let flags = wants_along s (set opens i false) row in
+      let moved : Bool → ℕ = λ b. if b then before + next (drop before flags) else before in
+      elim (cases_Bool leaves) [
+        | inl goes ↦ moves_closed goes now answer (now_is ∙ ap moved goes) answer_is
+        | inr stays ↦
+            let same : now ≡ before = now_is ∙ ap moved stays in
+            let none : answer ≡ None = answer_is ∙ ap (last_new flags before) same
+            ∙ ap (λ b. if b && get_or flags (before - 1) false then Some (before - 1) else None)
+            (le-ltb before before (omega arith)) in
+            subst (λ (a : Option ℕ). Moves k place r.stands now a) (sym none)
+            (subst (λ (n : ℕ). Moves k place r.stands n None) (sym same) (stays_closed stays))
+      ]
 
 -- whether a place is reached, by the number that is kept
 pub reached_is : (s : State) (orders : List CallOrder) (opens : List Bool) (p place : ℕ) (n : ℕ)

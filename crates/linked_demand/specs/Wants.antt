@@ -1,5 +1,5 @@
 -- Who of a line wants a seat, as the claims and the flags of open wishes tell it.
-use Rattle.std.specs.Prelude.{◌≡◌, ℕ, ◌<◌, Bool, false, not, ◌&&◌, List, [], length, map, All, slice_index_or}
+use Rattle.std.specs.Prelude.{◌≡◌, ℕ, ◌<◌, Bool, false, not, ◌&&◌, List, [], length, map, All, Option, None, Some, slice_index_or}
 use Rattle.std.specs.List.{list_any, range_with_len}
 use Rattle.admit_core.specs.declared.ranking.CallOrder.{CallOrder}
 use Rattle.admit_core.specs.State.{State}
@@ -10,6 +10,11 @@ use Rattle.linked_demand.specs.Opens.{seat_row, wanting_at}
 -- one who has a claim wants a seat by one of its wishes
 abbrev pub wants_along : State → List Bool → List (List ℕ) → List Bool
 wants_along s opens claims = map (list_any (wanting_at s opens)) claims
+
+-- the claim at a place, where there is one
+abbrev pub claim_at : List (List ℕ) → Option ℕ → List ℕ
+claim_at claims None = []
+claim_at claims (Some n) = slice_index_or claims n []
 
 -- one with this claim wants a seat, who is live in the programme or not
 abbrev pub wants_with : Bool → List Bool → List ℕ → Bool

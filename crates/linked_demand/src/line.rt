@@ -1,12 +1,12 @@
 //! The line of those who wish for a programme, of which the first ones are reached: while fewer
 //! than the seats that are left want one before them. Who wants a seat is asked as far as the seats
 //! go.
-ghost use Rattle.std.specs.Prelude.{◌≡◌, ◌+◌, ◌<◌, ◌≤◌, ◌&&◌, drop, length, not, nat_lt, All, IfSome};
+ghost use Rattle.std.specs.Prelude.{◌≡◌, ◌+◌, ◌<◌, ◌≤◌, ◌&&◌, drop, length, not, nat_lt, if◌then◌else◌, All, IfSome};
 ghost use Rattle.std.specs.List.{list_any};
 ghost use Rattle.linked_demand.specs.Line.{next, reach, last_new};
 ghost use Rattle.linked_demand.specs.Links.{NeedsSeatAlone};
 ghost use Rattle.linked_demand.specs.Opens.{wanting_at};
-ghost use Rattle.linked_demand.specs.Wants.{wants_along, AreBelow, AllNeedSeatAlone};
+ghost use Rattle.linked_demand.specs.Wants.{claim_at, wants_along, AreBelow, AllNeedSeatAlone};
 
 use crate::claims::Claims;
 use crate::open_wishes::OpenWishes;
@@ -88,8 +88,30 @@ pub fn next_wanting(state: &DayState<'_>, opens: &OpenWishes, claims: &Claims, f
     at
 }
 
+/// How many places are reached where so many were before one left their seat, or nobody did.
+pub fn reached_after(
+    state: &DayState<'_>,
+    opens: &OpenWishes,
+    claims: &Claims,
+    before: usize,
+    leaves: bool,
+) -> usize
+    requires from { before ≤ length claims.now }
+    requires claims { AreBelow (length state.now.dossier.wishes) claims.now }
+    requires opens { length opens.now ≡ length state.now.dossier.wishes }
+    requires alone { AllNeedSeatAlone state.now opens.now claims.now }
+    ensures place { result ≡ (if leaves
+        then before + next (drop before (wants_along state.now opens.now claims.now)) else before) }
+    ensures within { result ≤ length claims.now }
+{
+    if leaves {
+        return next_wanting(state, opens, claims, before);
+    }
+    before
+}
+
 /// The last place that is reached, where it was not reached before and wants a seat.
-pub fn last_wanting(
+fn last_wanting(
     state: &DayState<'_>,
     opens: &OpenWishes,
     claims: &Claims,
@@ -100,13 +122,34 @@ pub fn last_wanting(
     requires claims { AreBelow (length state.now.dossier.wishes) claims.now }
     requires opens { length opens.now ≡ length state.now.dossier.wishes }
     requires alone { AllNeedSeatAlone state.now opens.now claims.now }
-    ensures answer { result ≡ last_new (wants_along state.now opens.now claims.now) before reached }
+    ensures place { result ≡ last_new (wants_along state.now opens.now claims.now) before reached }
     ensures within { IfSome result (λ n. n < length claims.now) }
 {
     if before < reached && wants_alone(state, opens, claims.at(reached - 1)) {
         Some(reached - 1)
     } else {
         None
+    }
+}
+
+/// The claim at this place, or an empty one where there is no such place.
+pub fn fresh_claim<'a>(
+    state: &DayState<'_>,
+    opens: &OpenWishes,
+    claims: &'a Claims,
+    before: usize,
+    reached: usize,
+) -> &'a [u32]
+    requires reached { reached ≤ length claims.now }
+    requires claims { AreBelow (length state.now.dossier.wishes) claims.now }
+    requires opens { length opens.now ≡ length state.now.dossier.wishes }
+    requires alone { AllNeedSeatAlone state.now opens.now claims.now }
+    ensures { result.now ≡ claim_at claims.now
+        (last_new (wants_along state.now opens.now claims.now) before reached) }
+{
+    match last_wanting(state, opens, claims, before, reached) {
+        None => &[],
+        Some(place) => claims.at(place),
     }
 }
 

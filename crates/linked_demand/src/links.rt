@@ -18,7 +18,7 @@ use crate::closed::leaves_by_closing;
 use crate::cursors::Cursors;
 use crate::fresh::note_fresh;
 use crate::fronts::{list_fronts, list_sure};
-use crate::line::{is_reached, last_wanting, next_wanting};
+use crate::line::{fresh_claim, is_reached, reached_after};
 use crate::lineup::Lineup;
 use crate::marks::Marks;
 use crate::notes::Notes;
@@ -190,21 +190,18 @@ impl<'a, 'd> SeatLinks<'a, 'd> {
             item,
             before,
         );
-        if leaves {
-            let now = next_wanting(self.state, &self.opens, claims, before);
-            self.reached[programme] = now;
-            if let Some(next) = last_wanting(self.state, &self.opens, claims, before, now) {
-                note_fresh(
-                    self.state,
-                    bars,
-                    &self.opens,
-                    &lineup.notes,
-                    claims.at(next),
-                    marked,
-                    steps,
-                );
-            }
-        }
+        let now = reached_after(self.state, &self.opens, claims, before, leaves);
+        self.reached[programme] = now;
+        let fresh = fresh_claim(self.state, &self.opens, claims, before, now);
+        note_fresh(
+            self.state,
+            bars,
+            &self.opens,
+            &lineup.notes,
+            fresh,
+            marked,
+            steps,
+        );
     }
 
     /// The state.
