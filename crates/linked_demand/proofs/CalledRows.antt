@@ -21,8 +21,8 @@ use Rattle.day_state.proofs.Ordering.{range_more}
 use Rattle.day_state.proofs.Places.{candidate_in}
 use Rattle.proposals.proofs.Front.{front_same}
 use Rattle.linked_demand.specs.Called.{before_at, called_all, called_by, called_for, group_claim, is_of_group, order_at}
-use Rattle.linked_demand.specs.declared.calling.Caller.{Caller}
-use Rattle.linked_demand.specs.Callers.{caller_at}
+use Rattle.linked_demand.specs.declared.calling.CalledWish.{CalledWish}
+use Rattle.linked_demand.specs.CalledWishes.{called_wish_at}
 use Rattle.linked_demand.specs.Links.{claim_of}
 use Rattle.linked_demand.specs.Opens.{applies_in}
 use Rattle.linked_demand.specs.Seats.{applies_at}
@@ -122,13 +122,13 @@ row_called d orders n p lt =
     (λ c t. none_long (claim_of d p c) (sym (applies_claim d p c) ∙ t)) order
 
 -- what is kept of wishes that are called shows them, and how many stand before each
-pub shown_callers : (d : DossierRows) (orders : List CallOrder) (ks : List ℕ)
-    → map (λ (x : Caller). x.wish) (map (caller_at d orders) ks) ≡ ks
-shown_callers d orders [] = refl
-shown_callers d orders (k ∷ ks) = ap (λ (l : List ℕ). k ∷ l) (shown_callers d orders ks)
+pub shown_places : (d : DossierRows) (orders : List CallOrder) (ks : List ℕ)
+    → map (λ (x : CalledWish). x.wish) (map (called_wish_at d orders) ks) ≡ ks
+shown_places d orders [] = refl
+shown_places d orders (k ∷ ks) = ap (λ (l : List ℕ). k ∷ l) (shown_places d orders ks)
 
 pub shown_before : (d : DossierRows) (orders : List CallOrder) (ks : List ℕ)
-    → map (λ (x : Caller). x.before) (map (caller_at d orders) ks) ≡ map (before_at d orders) ks
+    → map (λ (x : CalledWish). x.before) (map (called_wish_at d orders) ks) ≡ map (before_at d orders) ks
 shown_before d orders [] = refl
 shown_before d orders (k ∷ ks) = ap (λ (l : List ℕ). before_at d orders k ∷ l) (shown_before d orders ks)
 

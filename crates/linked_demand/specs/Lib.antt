@@ -1,6 +1,6 @@
 pub mod Boarders
 pub mod Called
-pub mod Callers
+pub mod CalledWishes
 pub mod Claims
 pub mod Demand
 pub mod Filled

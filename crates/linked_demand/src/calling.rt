@@ -5,7 +5,7 @@ ghost use Rattle.std.specs.List.{IsDistinct};
 ghost use Rattle.admit_core.specs.CallOrder.{AreCallOrders};
 ghost use Rattle.day_state.specs.Spans.{IsWithin};
 ghost use Rattle.linked_demand.specs.Called.{AreRowsFrom, before_at, called_by, order_at};
-ghost use Rattle.linked_demand.specs.Callers.{caller_at, callers_for};
+ghost use Rattle.linked_demand.specs.CalledWishes.{called_wish_at, called_wishes_for};
 ghost use Rattle.linked_demand.specs.Claims.{AreApplicantsIn, application_at, wishes_of};
 ghost use Rattle.linked_demand.specs.Keyed.{ArePutIn};
 ghost use Rattle.linked_demand.specs.Seats.{applies_at};
@@ -22,7 +22,7 @@ use std::mem;
 
 /// A wish that is called, by its place, and how many its call order has before its candidate.
 #[derive(Clone, Copy)]
-pub struct Caller {
+pub struct CalledWish {
     pub wish: u32,
     pub before: u32,
 }
@@ -62,7 +62,7 @@ fn claim_of(wishes: &[Application], span: Span) -> &[Application]
 
 /// Deals the wishes of one who is called to the programmes that they are for.
 fn deal(
-    called: &mut Vec<Vec<Caller>>,
+    called: &mut Vec<Vec<CalledWish>>,
     state: &DayState<'_>,
     orders: &CallOrders,
     claim: &[Application],
@@ -73,21 +73,21 @@ fn deal(
     requires before { All (λ k. before_at state.now.dossier orders.now.orders k ≡ before)
         (wishes_of claim.now) }
     requires rows { length called.old.items ≡ length state.now.dossier.programmes }
-    ensures { OnOk result (ArePutIn (caller_at state.now.dossier orders.now.orders)
+    ensures { OnOk result (ArePutIn (called_wish_at state.now.dossier orders.now.orders)
         (applies_at state.now.dossier) (wishes_of claim.now) called.old.items called.new.items) }
 {
     let dossier = state.dossier();
     let _ = &dossier.wishes; // learns the invariant
     for application in claim {
         let wish = application.wish;
-        put_in(called, application.programme, Caller { wish, before })?;
+        put_in(called, application.programme, CalledWish { wish, before })?;
     }
     Ok(())
 }
 
 /// Goes along the call order of a group, and deals the wishes for its programmes.
 fn call_group(
-    called: &mut Vec<Vec<Caller>>,
+    called: &mut Vec<Vec<CalledWish>>,
     state: &DayState<'_>,
     orders: &CallOrders,
     group: u32,
@@ -99,7 +99,7 @@ fn call_group(
     requires applicants { AreApplicantsIn state.now.dossier group applicants.now.wishes.items
         applicants.now.candidates.items }
     requires rows { length called.old.items ≡ length state.now.dossier.programmes }
-    ensures { OnOk result (ArePutIn (caller_at state.now.dossier orders.now.orders)
+    ensures { OnOk result (ArePutIn (called_wish_at state.now.dossier orders.now.orders)
         (applies_at state.now.dossier) (called_by state.now.dossier orders.now.orders group)
         called.old.items called.new.items) }
 {
@@ -116,14 +116,14 @@ fn call_group(
 
 /// For each programme the wishes for it in call order, each with how many the order has before its
 /// candidate.
-pub fn called_wishes(
+pub fn called_by_programme(
     alloc: Global,
     state: &DayState<'_>,
     orders: &CallOrders,
-) -> Result<Vec<Vec<Caller>>, OutOfMemory>
+) -> Result<Vec<Vec<CalledWish>>, OutOfMemory>
     requires { AreCallOrders state.now.dossier.groups orders.now.orders }
     ensures { IfOk result (λ c. AreRowsFrom 0 (length state.now.dossier.programmes)
-        (callers_for state.now.dossier orders.now.orders) c.items) }
+        (called_wishes_for state.now.dossier orders.now.orders) c.items) }
 {
     let dossier = state.dossier();
     let _ = &dossier.wishes; // learns the invariant
@@ -144,23 +144,23 @@ pub fn called_wishes(
 }
 
 /// The places of wishes that are called.
-pub fn wishes_called(alloc: Global, callers: &[Caller]) -> Result<Vec<u32>, OutOfMemory>
-    ensures { IfOk result (λ v. v.items ≡ map (λ x. x.wish) callers.now) }
+pub fn wish_places(alloc: Global, called: &[CalledWish]) -> Result<Vec<u32>, OutOfMemory>
+    ensures { IfOk result (λ v. v.items ≡ map (λ x. x.wish) called.now) }
 {
-    let mut wishes = Vec::with_capacity(alloc, callers.len())?;
-    for caller in callers {
-        wishes.push(caller.wish)?;
+    let mut wishes = Vec::with_capacity(alloc, called.len())?;
+    for one in called {
+        wishes.push(one.wish)?;
     }
     Ok(wishes)
 }
 
 /// How many stand before the candidate of each wish that is called.
-pub fn numbers_before(alloc: Global, callers: &[Caller]) -> Result<Vec<u32>, OutOfMemory>
-    ensures { IfOk result (λ v. v.items ≡ map (λ x. x.before) callers.now) }
+pub fn numbers_before(alloc: Global, called: &[CalledWish]) -> Result<Vec<u32>, OutOfMemory>
+    ensures { IfOk result (λ v. v.items ≡ map (λ x. x.before) called.now) }
 {
-    let mut numbers = Vec::with_capacity(alloc, callers.len())?;
-    for caller in callers {
-        numbers.push(caller.before)?;
+    let mut numbers = Vec::with_capacity(alloc, called.len())?;
+    for one in called {
+        numbers.push(one.before)?;
     }
     Ok(numbers)
 }

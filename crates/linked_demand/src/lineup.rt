@@ -11,7 +11,7 @@ ghost use Rattle.linked_demand.specs.Opens.{line_of};
 ghost use Rattle.linked_demand.specs.Seats.{AreSeated, IsLineup, is_below, is_passed};
 
 use crate::boarders::boarders_by_school;
-use crate::calling::{called_wishes, numbers_before, wishes_called};
+use crate::calling::{called_by_programme, numbers_before, wish_places};
 use crate::claims::Claims;
 use crate::notes::Notes;
 use crate::rows::RowWish;
@@ -110,13 +110,13 @@ fn claims_of(
 {
     call_everyone(state, orders);
     line_once(state, orders);
-    let mut called = called_wishes(alloc, state, orders)?;
+    let mut called = called_by_programme(alloc, state, orders)?;
     let programmes = programme_count(state);
     let mut claims = Vec::with_capacity(alloc, programmes as usize)?;
     for programme in 0..programmes {
-        let callers = mem::replace(&mut called[programme as usize], Vec::new(alloc));
-        let wishes = wishes_called(alloc, &callers)?;
-        let before = numbers_before(alloc, &callers)?;
+        let row = mem::replace(&mut called[programme as usize], Vec::new(alloc));
+        let wishes = wish_places(alloc, &row)?;
+        let before = numbers_before(alloc, &row)?;
         let own = line_up(alloc, state, orders, programme, wishes, &before, notes)?;
         claims.push(own)?;
     }

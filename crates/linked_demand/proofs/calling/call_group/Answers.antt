@@ -7,7 +7,7 @@ use Rattle.day_state.specs.Kept.{candidate_in}
 use Rattle.day_state.specs.Spans.{IsWithin}
 use Rattle.linked_demand.specs.declared.wishing.Application.{Application}
 use Rattle.linked_demand.specs.Called.{group_claim}
-use Rattle.linked_demand.specs.Callers.{caller_at}
+use Rattle.linked_demand.specs.CalledWishes.{called_wish_at}
 use Rattle.linked_demand.specs.Claims.{wishes_of}
 use Rattle.linked_demand.specs.Keyed.{ArePutIn}
 use Rattle.linked_demand.specs.Seats.{applies_at}
@@ -90,7 +90,7 @@ loop-before-preserved c =
     c.span_of-span.ensures c.as_slice-wishes.result.now c.claim_of.result.now c.as_slice-wishes.ensures.value
     c.claim_of.ensures in
     let f = group_claim d c.args.group in
-    puts_on (caller_at d orders) (applies_at d) (flat_map f (take i order)) claim (flat_map f (take (i + 1) order))
+    puts_on (called_wish_at d orders) (applies_at d) (flat_map f (take i order)) claim (flat_map f (take (i + 1) order))
     c.args.called.now.items c.loop-before.called.items c.deal.new.called.items
     (called_more f order i claim c.loop-before-test.true claimed.is) c.loop-before.invariant c.in_ok-deal.ensures
 
@@ -104,6 +104,6 @@ returns c =
     c.requires.group c.index-as_slice-group.is
     (c.as_slice-order.ensures ∙ ap (λ (o : CallOrder). o.list) (sym c.index-as_slice-group.is)) in
     let all = take_all c.loop-before.before order c.loop-before-test.false ∙ order_is in
-    let P = λ (o : List ℕ). ArePutIn (caller_at d orders) (applies_at d) (flat_map (group_claim d c.args.group) o)
+    let P = λ (o : List ℕ). ArePutIn (called_wish_at d orders) (applies_at d) (flat_map (group_claim d c.args.group) o)
     c.args.called.now.items c.loop-before.called.items in
     subst P all c.loop-before.invariant

@@ -2,9 +2,9 @@ use Rattle.std.proofs.Common.{ℕ, get_or, nat_eq, refl, sym, ◌∙◌, ap, ari
 use Rattle.admit_core.specs.DossierRows.{DossierRows}
 use Rattle.admit_core.specs.Validity.{IsValid}
 use Rattle.day_state.specs.Kept.{wish_in}
-use Rattle.linked_demand.specs.declared.calling.Caller.{Caller}
+use Rattle.linked_demand.specs.declared.calling.CalledWish.{CalledWish}
 use Rattle.linked_demand.specs.declared.wishing.Application.{Application}
-use Rattle.linked_demand.specs.Callers.{caller_at}
+use Rattle.linked_demand.specs.CalledWishes.{called_wish_at}
 use Rattle.linked_demand.specs.Claims.{wishes_of}
 use Rattle.linked_demand.specs.Seats.{applies_at}
 use Rattle.linked_demand.proofs.ClaimSpans.{application_read}
@@ -12,8 +12,8 @@ use Rattle.linked_demand.proofs.Dealing.{puts_more}
 use Rattle.linked_demand.proofs.Keyed.{programme_at}
 use Rattle.linked_demand.proofs.calling.deal.Goals as goal
 
-abbrev caller : ℕ → ℕ → Caller
-caller wish before = record { wish = wish; before = before }
+abbrev called_wish : ℕ → ℕ → CalledWish
+called_wish wish before = record { wish = wish; before = before }
 
 pub put_in-requires : goal.put_in-requires
 put_in-requires c =
@@ -45,9 +45,9 @@ loop-application-preserved c =
     let ks = wishes_of claim in
     let k = get_or ks i 0 in
     let here = λ (h : ℕ). ap (λ (a : Application). nat_eq a.programme h) read.1 in
-    puts_more (caller_at d c.args.orders.now.orders) (applies_at d) ks i (λ h. nat_eq own.programme h)
-    (caller own.wish c.args.before) c.args.called.now.items c.loop-application.called.items
+    puts_more (called_wish_at d c.args.orders.now.orders) (applies_at d) ks i (λ h. nat_eq own.programme h)
+    (called_wish own.wish c.args.before) c.args.called.now.items c.loop-application.called.items
     c.put_in.new.rows.items read.0 here
-    (ap (λ (a : Application). caller a.wish c.args.before) read.1
-    ∙ ap (caller k) (sym (c.requires.before i 0 read.0)))
+    (ap (λ (a : Application). called_wish a.wish c.args.before) read.1
+    ∙ ap (called_wish k) (sym (c.requires.before i 0 read.0)))
     c.loop-application.invariant c.in_ok-put_in.ensures

@@ -2,9 +2,9 @@ use Rattle.std.proofs.Common.{ℕ, ◌+◌, ◌<◌, List, length, map, ap, sym,
 use Rattle.std.specs.Prelude.{◌^◌}
 use Rattle.linked_demand.proofs.Seating.{IsBuilt, built_none, built_more, built_all}
 use Rattle.linked_demand.specs.Called.{before_at, called_for}
-use Rattle.linked_demand.specs.declared.calling.Caller.{Caller}
-use Rattle.linked_demand.specs.Callers.{callers_for}
-use Rattle.linked_demand.proofs.CalledRows.{shown_before, shown_callers}
+use Rattle.linked_demand.specs.declared.calling.CalledWish.{CalledWish}
+use Rattle.linked_demand.specs.CalledWishes.{called_wishes_for}
+use Rattle.linked_demand.proofs.CalledRows.{shown_before, shown_places}
 use Rattle.linked_demand.proofs.Dealing.{row_taken, rows_later}
 use Rattle.linked_demand.proofs.lineup.claims_of.Goals as goal
 
@@ -29,11 +29,11 @@ line_up-requires-clause-wishes c =
     let orders = c.args.orders.now.orders in
     let n = c.loop-programme.programme in
     let P = λ (count : ℕ). n < count in
-    let callers = row_taken n (length d.programmes) (callers_for d orders) c.loop-programme.called.items
-    c.replace-callers.result _ (subst P c.programme_count-programmes.ensures.count c.loop-programme-test.true)
-    (c.replace-callers.ensures.value ∙ c.index_mut.ensures.value) c.loop-programme.invariant.called in
-    c.in_ok-wishes.ensures ∙ ap (map (λ (x : Caller). x.wish)) (c.deref.ensures.value ∙ callers)
-    ∙ shown_callers d orders (called_for d orders n)
+    let row = row_taken n (length d.programmes) (called_wishes_for d orders) c.loop-programme.called.items
+    c.replace-row.result _ (subst P c.programme_count-programmes.ensures.count c.loop-programme-test.true)
+    (c.replace-row.ensures.value ∙ c.index_mut.ensures.value) c.loop-programme.invariant.called in
+    c.in_ok-wishes.ensures ∙ ap (map (λ (x : CalledWish). x.wish)) (c.deref.ensures.value ∙ row)
+    ∙ shown_places d orders (called_for d orders n)
 
 pub line_up-requires-clause-few : goal.line_up-requires-clause-few
 line_up-requires-clause-few c =
@@ -42,11 +42,11 @@ line_up-requires-clause-few c =
     let n = c.loop-programme.programme in
     let P = λ (count : ℕ). n < count in
     let Q = λ (ks : List ℕ). length ks < 2 ^ 32 in
-    let callers = row_taken n (length d.programmes) (callers_for d orders) c.loop-programme.called.items
-    c.replace-callers.result _ (subst P c.programme_count-programmes.ensures.count c.loop-programme-test.true)
-    (c.replace-callers.ensures.value ∙ c.index_mut.ensures.value) c.loop-programme.invariant.called in
-    subst Q (sym (c.in_ok-wishes.ensures ∙ ap (map (λ (x : Caller). x.wish)) (c.deref.ensures.value ∙ callers)
-    ∙ shown_callers d orders (called_for d orders n)))
+    let row = row_taken n (length d.programmes) (called_wishes_for d orders) c.loop-programme.called.items
+    c.replace-row.result _ (subst P c.programme_count-programmes.ensures.count c.loop-programme-test.true)
+    (c.replace-row.ensures.value ∙ c.index_mut.ensures.value) c.loop-programme.invariant.called in
+    subst Q (sym (c.in_ok-wishes.ensures ∙ ap (map (λ (x : CalledWish). x.wish)) (c.deref.ensures.value ∙ row)
+    ∙ shown_places d orders (called_for d orders n)))
     (c.line_once.ensures.few n)
 
 pub line_up-requires-clause-before : goal.line_up-requires-clause-before
@@ -56,14 +56,14 @@ line_up-requires-clause-before c =
     let n = c.loop-programme.programme in
     let P = λ (count : ℕ). n < count in
     let called = called_for d orders n in
-    let callers = row_taken n (length d.programmes) (callers_for d orders) c.loop-programme.called.items
-    c.replace-callers.result _ (subst P c.programme_count-programmes.ensures.count c.loop-programme-test.true)
-    (c.replace-callers.ensures.value ∙ c.index_mut.ensures.value) c.loop-programme.invariant.called in
+    let row = row_taken n (length d.programmes) (called_wishes_for d orders) c.loop-programme.called.items
+    c.replace-row.result _ (subst P c.programme_count-programmes.ensures.count c.loop-programme-test.true)
+    (c.replace-row.ensures.value ∙ c.index_mut.ensures.value) c.loop-programme.invariant.called in
     c.deref-in-loop-programme-2.ensures.value ∙ c.in_ok-before.ensures
-    ∙ ap (map (λ (x : Caller). x.before)) (c.deref-in-loop-programme.ensures.value ∙ callers)
+    ∙ ap (map (λ (x : CalledWish). x.before)) (c.deref-in-loop-programme.ensures.value ∙ row)
     ∙ shown_before d orders called
     ∙ sym (ap (map (before_at d orders)) (c.in_ok-wishes.ensures
-    ∙ ap (map (λ (x : Caller). x.wish)) (c.deref.ensures.value ∙ callers) ∙ shown_callers d orders called))
+    ∙ ap (map (λ (x : CalledWish). x.wish)) (c.deref.ensures.value ∙ row) ∙ shown_places d orders called))
 
 pub line_up-requires-clause-seated : goal.line_up-requires-clause-seated
 line_up-requires-clause-seated c = c.loop-programme.invariant.built.seated
@@ -81,8 +81,8 @@ loop-programme-preserved c =
     c.call_everyone.ensures c.loop-programme.invariant.built c.in_ok-own.ensures.claims c.in_ok-own.ensures.seated) in
     record {
       built = built;
-      called = rows_later n (length d.programmes) (callers_for d orders) c.loop-programme.called.items
-          c.replace-callers.new.dest c.loop-programme.invariant.called;
+      called = rows_later n (length d.programmes) (called_wishes_for d orders) c.loop-programme.called.items
+          c.replace-row.new.dest c.loop-programme.invariant.called;
     }
 
 pub returns : goal.returns

@@ -2,13 +2,13 @@ use Rattle.std.proofs.Common.{ℕ, ◌+◌, length, ◌∙◌, ap, arith, map, s
 use Rattle.admit_core.specs.DossierRows.{DossierRows}
 use Rattle.admit_core.specs.Validity.{IsValid}
 use Rattle.linked_demand.specs.Called.{called_all, called_by}
-use Rattle.linked_demand.specs.Callers.{caller_at, callers_for}
+use Rattle.linked_demand.specs.CalledWishes.{called_wish_at, called_wishes_for}
 use Rattle.linked_demand.specs.Keyed.{AreEmpty}
 use Rattle.linked_demand.specs.Seats.{applies_at}
 use Rattle.linked_demand.proofs.CalledRows.{groups_more, group_in, row_called}
 use Rattle.linked_demand.proofs.ClaimSpans.{applicants_later, applicants_taken}
 use Rattle.linked_demand.proofs.Dealing.{puts_begun, puts_on}
-use Rattle.linked_demand.proofs.calling.called_wishes.Goals as goal
+use Rattle.linked_demand.proofs.calling.called_by_programme.Goals as goal
 
 pub call_group-requires-clause-applicants : goal.call_group-requires-clause-applicants
 call_group-requires-clause-applicants c =
@@ -26,7 +26,7 @@ loop-group-preserved c =
     let orders = c.args.orders.now.orders in
     let g = c.loop-group.group in
     record {
-      called = puts_on (caller_at d orders) (applies_at d) (called_all d orders g) (called_by d orders g)
+      called = puts_on (called_wish_at d orders) (applies_at d) (called_all d orders g) (called_by d orders g)
           (called_all d orders (g + 1)) c.in_ok-called.called.items c.loop-group.called.items
           c.call_group.new.called.items (groups_more (called_by d orders) g)
           c.loop-group.invariant.called c.in_ok-call_group.ensures;
@@ -42,9 +42,9 @@ returns c =
     let P : DossierRows → Type 0 = IsValid in
     let valid = subst P (c.dossier.view_is ∙ c.dossier-dossier.ensures) c.dossier.invariant in
     let Q = λ (count : ℕ). AreEmpty count c.in_ok-called.called.items in
-    puts_begun (caller_at d orders) (applies_at d) (called_all d orders n) (length d.programmes)
-    (callers_for d orders) c.in_ok-called.called.items c.loop-group.called.items
+    puts_begun (called_wish_at d orders) (applies_at d) (called_all d orders n) (length d.programmes)
+    (called_wishes_for d orders) c.in_ok-called.called.items c.loop-group.called.items
     (subst Q (ap length c.deref.ensures.value ∙ c.in_ok-counts.ensures) c.in_ok-called.ensures)
     c.loop-group.invariant.called
-    (λ p lt. ap (map (caller_at d orders)) (row_called d orders n p
+    (λ p lt. ap (map (called_wish_at d orders)) (row_called d orders n p
     (omega (arith, group_in d valid p lt, c.loop-group-test.false, c.group_count-group-end.ensures))))
