@@ -1,5 +1,5 @@
 //! The wishes with a school, by their rank there.
-ghost use Rattle.std.specs.Prelude.{◌≡◌, ◌<◌, ◌&&◌, length, is_some, nat_eq, not, All, IfOk, IfSome, Some};
+ghost use Rattle.std.specs.Prelude.{◌≡◌, ◌<◌, ◌≤◌, ◌&&◌, length, is_some, nat_eq, not, sum, All, IfOk, IfSome, Some};
 ghost use Rattle.std.specs.List.{list_any};
 ghost use Rattle.admit_core.specs.State.{is_school};
 ghost use Rattle.day_state.specs.Kept.{wish_in};
@@ -85,8 +85,10 @@ fn boarder_at(state: &DayState<'_>, place: u32) -> Option<Boarder>
     }
 }
 
-/// How many wishes have a school: room is made by it, so no clause speaks of the number.
-fn boarder_count(state: &DayState<'_>) -> usize {
+/// How many wishes have a school: room is made by it, so the clause alone bounds it.
+fn boarder_count(state: &DayState<'_>) -> usize
+    ensures few { result ≤ length state.now.dossier.wishes }
+{
     let dossier = state.dossier();
     let wishes = dossier.wishes.as_slice().iter();
     wishes.filter(|wish| wish.school.is_some()).count()
@@ -115,14 +117,15 @@ fn boarders_by_rank(alloc: Global, state: &DayState<'_>) -> Result<Vec<Boarder>,
     Ok(boarders)
 }
 
-/// How many of them each school has: room is made by it, so no clause speaks of the numbers.
+/// How many of them each school has: room is made by it, so the clause alone bounds them.
 fn counts_by_school(
     alloc: Global,
     boarders: &[Boarder],
     schools: usize,
 ) -> Result<Vec<u32>, OutOfMemory>
     requires { All (λ b. b.school < schools) boarders.now }
-    ensures { IfOk result (λ v. length v.items ≡ schools) }
+    ensures one_each { IfOk result (λ v. length v.items ≡ schools) }
+    ensures few { IfOk result (λ v. sum v.items ≤ length boarders.now) }
 {
     let mut counts = vec![in alloc; 0u32; schools]?;
     for boarder in boarders {

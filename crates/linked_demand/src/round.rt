@@ -1,11 +1,11 @@
 //! The boarding schools of a state, with the lines of its programmes.
-ghost use Rattle.std.specs.Prelude.{◌≡◌, ◌+◌, ◌<◌, length, slice_get, slice_index, slice_set, IfOk, IsOk};
+ghost use Rattle.std.specs.Prelude.{◌≡◌, ◌+◌, ◌<◌, [], length, slice_get, slice_index, slice_set, IfOk, IsOk};
 ghost use Rattle.admit_core.specs.State.{free_beds};
 ghost use Rattle.linked_demand.specs.Lent.{lent};
 ghost use Rattle.linked_demand.specs.Lineups.{IsLineupOf};
 ghost use Rattle.admit_core.specs.Proposals.{demanded_ranks, proposed};
 ghost use Rattle.admit_core.specs.Boarding.{boarding};
-ghost use Rattle.bar_fixpoint.specs.Overfilled.{rank_over};
+ghost use Rattle.bar_fixpoint.specs.Overfilled.{all_overfilled, rank_over};
 ghost use Rattle.linked_demand.specs.Rounds.{bar_each, is_proposed_in};
 ghost use Rattle.linked_demand.specs.Ticks.{changes_between};
 
@@ -225,9 +225,19 @@ impl Falling for LinkedRound<'_, '_> {
         Ok(self.first_over(i))
     }
 
-    fn overfilled(&self, alloc: Global) -> Result<Vec<u32>, OutOfMemory> {
+    fn overfilled(&self, alloc: Global) -> Result<Vec<u32>, OutOfMemory>
+        ensures places { IfOk result (λ places. places.items ≡ all_overfilled
+            (boarding self.now.state self.now.orders self.now.ceilings)
+            (bar_each self.now.ceilings self.now.bars)) }
+        ensures always { all_overfilled (boarding self.now.state self.now.orders self.now.ceilings)
+            (bar_each self.now.ceilings self.now.bars) ≡ [] → IsOk result }
+    {
         let _ = &self.bars; // learns the invariant
-        Ok(self.overfilled.places().to_vec(alloc)?)
+        let places = self.overfilled.places();
+        if places.is_empty() {
+            return Ok(Vec::new(alloc));
+        }
+        Ok(places.to_vec(alloc)?)
     }
 
     fn listed(&self) -> Option<&[u32]> {

@@ -1,5 +1,5 @@
 //! For each group the wishes for its programmes, with their candidates.
-ghost use Rattle.std.specs.Prelude.{◌≡◌, ◌<◌, length, IfOk};
+ghost use Rattle.std.specs.Prelude.{◌≡◌, ◌<◌, ◌≤◌, length, sum, IfOk};
 ghost use Rattle.admit_core.specs.DossierRows.{group_of};
 ghost use Rattle.linked_demand.specs.Claims.{AreApplicantsFrom};
 
@@ -10,10 +10,11 @@ use day_state::DayState;
 use proposals::{programme_count, wish_at};
 use std::alloc::Global;
 
-/// How many wishes there are for each programme: room is made by it, so no clause speaks of the
-/// numbers.
+/// How many wishes there are for each programme: room is made by it, so the clause alone bounds
+/// them.
 pub fn counts_by_programme(alloc: Global, state: &DayState<'_>) -> Result<Vec<u32>, OutOfMemory>
-    ensures { IfOk result (λ v. length v.items ≡ length state.now.dossier.programmes) }
+    ensures one_each { IfOk result (λ v. length v.items ≡ length state.now.dossier.programmes) }
+    ensures few { IfOk result (λ v. sum v.items ≤ length state.now.dossier.wishes) }
 {
     let mut counts = vec![in alloc; 0u32; programme_count(state) as usize]?;
     for place in 0..wish_count(state) {
@@ -48,7 +49,8 @@ fn counts_by_group(
     by_programme: &[u32],
 ) -> Result<Vec<u32>, OutOfMemory>
     requires { length by_programme.now ≡ length state.now.dossier.programmes }
-    ensures { IfOk result (λ v. length v.items ≡ length state.now.dossier.groups) }
+    ensures one_each { IfOk result (λ v. length v.items ≡ length state.now.dossier.groups) }
+    ensures few { IfOk result (λ v. sum v.items ≤ sum by_programme.now) }
 {
     let mut counts = vec![in alloc; 0u32; group_count(state) as usize]?;
     for programme in 0..programme_count(state) {

@@ -44,7 +44,7 @@ returns c =
     let Q = λ (count : ℕ). AreEmpty count c.in_ok-called.called.items in
     puts_begun (called_wish_at d orders) (applies_at d) (called_all d orders n) (length d.programmes)
     (called_wishes_for d orders) c.in_ok-called.called.items c.loop-group.called.items
-    (subst Q (ap length c.deref.ensures.value ∙ c.in_ok-counts.ensures) c.in_ok-called.ensures)
+    (subst Q (ap length c.deref.ensures.value ∙ c.in_ok-counts.ensures.one_each) c.in_ok-called.ensures)
     c.loop-group.invariant.called
     (λ p lt. ap (map (called_wish_at d orders)) (row_called d orders n p
     (omega (arith, group_in d valid p lt, c.loop-group-test.false, c.group_count-group-end.ensures))))

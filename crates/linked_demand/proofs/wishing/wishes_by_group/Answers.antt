@@ -26,9 +26,9 @@ loop-place-init c =
     let Q = λ (count : ℕ). AreEmpty count candidates in
     record {
       wishes = rows_none (application_at d) (is_of_group d) n wishes
-          (subst P (ap length c.deref.ensures.value ∙ c.in_ok-counts.ensures) c.in_ok-wishes.ensures);
+          (subst P (ap length c.deref.ensures.value ∙ c.in_ok-counts.ensures.one_each) c.in_ok-wishes.ensures);
       candidates = rows_none (candidate_in d.wishes) (is_of_group d) n candidates
-          (subst Q (ap length c.deref-2.ensures.value ∙ c.in_ok-counts.ensures) c.in_ok-candidates.ensures);
+          (subst Q (ap length c.deref-2.ensures.value ∙ c.in_ok-counts.ensures.one_each) c.in_ok-candidates.ensures);
     }
 
 pub loop-place-preserved : goal.loop-place-preserved
