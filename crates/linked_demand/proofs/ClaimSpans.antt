@@ -20,10 +20,10 @@ use Rattle.day_state.proofs.Ordering.{between}
 use Rattle.day_state.specs.declared.spans.Span.{Span}
 use Rattle.day_state.specs.Spans.{IsWithin, part_of}
 use Rattle.linked_demand.specs.declared.wishing.Application.{Application}
-use Rattle.linked_demand.specs.Claims.{AreApplicantsFrom, AreApplicantsIn, AreWishesIn, IsSpanOf, application_at}
-use Rattle.linked_demand.specs.Claims.{begins_at}
-use Rattle.linked_demand.specs.Claims.{lower_before, wishes_of}
+use Rattle.linked_demand.specs.Claims.{AreApplicantsIn, AreApplicationsFrom, AreApplicationsIn, AreWishesIn, IsSpanOf}
+use Rattle.linked_demand.specs.Claims.{application_at, begins_at, candidates_of, lower_before, wishes_of}
 use Rattle.linked_demand.specs.Keyed.{AreRowsOf}
+use Rattle.std.proofs.lemmas.Simd.{map-map}
 use Rattle.linked_demand.specs.Called.{group_claim, is_of_group}
 use Rattle.linked_demand.proofs.Lining.{filter_twice}
 
@@ -59,54 +59,56 @@ pub shown_wishes : (s : DossierRows) (ks : List ℕ) → wishes_of (map (applica
 shown_wishes s [] = refl
 shown_wishes s (k ∷ ks) = ap (λ (l : List ℕ). k ∷ l) (shown_wishes s ks)
 
--- the lists of a group, of an order by candidate
-pub applicants_in : (s : DossierRows) (order : List ℕ) (g : ℕ) (row : List Application) (own : List ℕ)
+-- the list of a group, of an order by candidate
+applications_in : (s : DossierRows) (order : List ℕ) (g : ℕ) (row : List Application)
     → length s.wishes < 2 ^ 32 → IsIndex s.wishes order
-    → row ≡ map (application_at s) (filter (is_of_group s g) order)
-    → own ≡ map (candidate_in s.wishes) (filter (is_of_group s g) order) → AreApplicantsIn s g row own
-applicants_in s order g row own few index row_is own_is =
+    → row ≡ map (application_at s) (filter (is_of_group s g) order) → AreApplicationsIn s g row
+applications_in s order g row few index row_is =
     let ks = filter (is_of_group s g) order in
     let shown : wishes_of row ≡ ks = ap wishes_of row_is ∙ shown_wishes s ks in
     record {
       of_group = wishes_in s order g (wishes_of row) few index shown;
-      programmes_are = row_is ∙ ap (map (application_at s)) (sym shown);
-      candidates_are = own_is ∙ ap (map (candidate_in s.wishes)) (sym shown);
+      each = row_is ∙ ap (map (application_at s)) (sym shown);
     }
 
 -- the rows by group of an order by candidate
-pub applicants_from : (s : DossierRows) (order : List ℕ) (rows : List (Vec Application Global))
-    (beside : List (Vec ℕ Global)) → length s.wishes < 2 ^ 32 → IsIndex s.wishes order
+pub applications_from : (s : DossierRows) (order : List ℕ) (rows : List (Vec Application Global))
+    → length s.wishes < 2 ^ 32 → IsIndex s.wishes order
     → AreRowsOf (application_at s) (is_of_group s) (length s.groups) order rows
-    → AreRowsOf (candidate_in s.wishes) (is_of_group s) (length s.groups) order beside
-    → AreApplicantsFrom s 0 rows beside
-applicants_from s order rows beside few index are own = record {
+    → AreApplicationsFrom s 0 rows
+applications_from s order rows few index are = record {
   one_each = are.one_each;
-  one_beside = own.one_each;
-  each = λ g row theirs le at there.
-      applicants_in s order g row.items theirs.items few index (are.each g row at) (own.each g theirs there);
+  each = λ g row le at. applications_in s order g row.items few index (are.each g row at);
 }
 
--- the lists that are taken out for a group
-pub applicants_taken : (s : DossierRows) (n : ℕ) (rows : List (Vec Application Global)) (beside : List (Vec ℕ Global))
-    (row d : Vec Application Global) (own e : Vec ℕ Global) → n < length s.groups
-    → row ≡ get_or rows n d → own ≡ get_or beside n e → AreApplicantsFrom s n rows beside
-    → AreApplicantsIn s n row.items own.items
-applicants_taken s n rows beside row d own e lt is own_is are =
-    are.each n row own (omega arith)
-    (slice_get-get_or rows n d (omega (arith, lt, are.one_each)) ∙ ap Some (sym is))
-    (slice_get-get_or beside n e (omega (arith, lt, are.one_beside)) ∙ ap Some (sym own_is))
+-- the list that is taken out for a group, and its candidates
+pub applicants_taken : (s : DossierRows) (n : ℕ) (rows : List (Vec Application Global))
+    (row d : Vec Application Global) (own : List ℕ) → n < length s.groups
+    → row ≡ get_or rows n d → own ≡ candidates_of row.items → AreApplicationsFrom s n rows
+    → AreApplicantsIn s n row.items own
+applicants_taken s n rows row d own lt is own_is are = record {
+  applications_are = are.each n row (omega arith)
+      (slice_get-get_or rows n d (omega (arith, lt, are.one_each)) ∙ ap Some (sym is));
+  candidates_are = own_is;
+}
 
--- once the lists of a group are taken out, the later ones are left
-pub applicants_later : (s : DossierRows) (n : ℕ) (rows : List (Vec Application Global)) (beside : List (Vec ℕ Global))
-    (row : Vec Application Global) (own : Vec ℕ Global) → AreApplicantsFrom s n rows beside
-    → AreApplicantsFrom s (n + 1) (set rows n row) (set beside n own)
-applicants_later s n rows beside row own are = record {
+-- once the list of a group is taken out, the later ones are left
+pub applications_later : (s : DossierRows) (n : ℕ) (rows : List (Vec Application Global))
+    (row : Vec Application Global) → AreApplicationsFrom s n rows
+    → AreApplicationsFrom s (n + 1) (set rows n row)
+applications_later s n rows row are = record {
   one_each = length-set rows n row ∙ are.one_each;
-  one_beside = length-set beside n own ∙ are.one_beside;
-  each = λ p left other le at there.
-      are.each p left other (omega arith) (get_set_other rows n p row left (λ e. omega (arith, le, e)) at)
-      (get_set_other beside n p own other (λ e. omega (arith, le, e)) there);
+  each = λ p left le at.
+      are.each p left (omega arith) (get_set_other rows n p row left (λ e. omega (arith, le, e)) at);
 }
+
+-- the candidates of wishes are those that their places tell
+pub candidates_told : {s : DossierRows} {p : ℕ} {applications : List Application} {candidates : List ℕ}
+    → AreApplicantsIn s p applications candidates
+    → candidates ≡ map (candidate_in s.wishes) (wishes_of applications)
+candidates_told {s} {p} {applications} own =
+    own.candidates_are ∙ ap candidates_of own.applications_are.each
+    ∙ map-map (λ (a : Application). a.candidate) (application_at s) (wishes_of applications)
 
 -- the candidates of a list by candidate do not fall
 pub candidates_rise : (key : ℕ → ℕ) (xs : List ℕ) → IsNonDecreasingBy key xs → IsNonDecreasingBy (λ k. k) (map key xs)
@@ -232,7 +234,8 @@ claim_there {s} {p} {applications} own c span read read_is is list claim list_is
     let ks = wishes_of applications in
     let show = λ (a : Application). a.wish in
     let part_at = λ (l : List Application). slice_range l span.from span.to in
-    let found = span_is_claim s p ks read c span own.of_group (read_is ∙ own.candidates_are) is in
+    let wishes = own.applications_are in
+    let found = span_is_claim s p ks read c span wishes.of_group (read_is ∙ candidates_told own) is in
     let part : claim ≡ part_at applications = claim_is ∙ ap part_at list_is in
     let shown : wishes_of claim ≡ part_of ks span =
     ap wishes_of part ∙ sym (part_mapped show applications span.from span.to) in
@@ -241,9 +244,9 @@ claim_there {s} {p} {applications} own c span read read_is is list claim list_is
     record {
       within = subst P (length-map applications show) found.0;
       places = subst (All Q) (sym shown)
-          (All-take Q (span.to - span.from) (drop span.from ks) (All-drop Q span.from ks own.of_group.within));
+          (All-take Q (span.to - span.from) (drop span.from ks) (All-drop Q span.from ks wishes.of_group.within));
       is = shown ∙ found.1;
-      programmes = part ∙ ap part_at own.programmes_are ∙ part_mapped (application_at s) ks span.from span.to
+      programmes = part ∙ ap part_at wishes.each ∙ part_mapped (application_at s) ks span.from span.to
           ∙ ap (map (application_at s)) (sym shown);
     }
 

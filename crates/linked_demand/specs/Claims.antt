@@ -32,26 +32,36 @@ pub record AreWishesIn (d : DossierRows) (g : ℕ) (wishes : List ℕ) : Type 0 
   pub rises : IsNonDecreasingBy (candidate_in d.wishes) wishes
   pub own : (c : ℕ) → filter (λ k. candidate_in d.wishes k == c) wishes ≡ group_claim d g c
 
--- the wish at a place, and the programme that it is for
+-- the wish at a place, with its programme and its candidate
 abbrev pub application_at : DossierRows → ℕ → Application
-application_at d k = record { wish = k; programme = (wish_in d.wishes k).programme }
+application_at d k = record {
+  wish = k;
+  programme = (wish_in d.wishes k).programme;
+  candidate = candidate_in d.wishes k;
+}
 
 -- the places of wishes
 abbrev pub wishes_of : List Application → List ℕ
 wishes_of xs = map (λ a. a.wish) xs
 
--- the wishes for the programmes of a group, each with its programme, and beside each its candidate
+-- and their candidates
+abbrev pub candidates_of : List Application → List ℕ
+candidates_of xs = map (λ a. a.candidate) xs
+
+-- the wishes for the programmes of a group, each with its programme and its candidate
+pub record AreApplicationsIn (d : DossierRows) (g : ℕ) (applications : List Application) : Type 0 where
+  pub of_group : AreWishesIn d g (wishes_of applications)
+  pub each : applications ≡ map (application_at d) (wishes_of applications)
+
+-- and beside each its candidate once more
 pub record AreApplicantsIn (d : DossierRows) (g : ℕ) (applications : List Application)
     (candidates : List ℕ) : Type 0 where
-  pub of_group : AreWishesIn d g (wishes_of applications)
-  pub programmes_are : applications ≡ map (application_at d) (wishes_of applications)
-  pub candidates_are : candidates ≡ map (candidate_in d.wishes) (wishes_of applications)
+  pub applications_are : AreApplicationsIn d g applications
+  pub candidates_are : candidates ≡ candidates_of applications
 
--- two lists for each group; from one on they are the wishes for its programmes
-pub record AreApplicantsFrom (d : DossierRows) (n : ℕ) (rows : List (Vec Application Global))
-    (beside : List (Vec ℕ Global)) : Type 0 where
+-- a list for each group; from one on they are the wishes for its programmes
+pub record AreApplicationsFrom (d : DossierRows) (n : ℕ)
+    (rows : List (Vec Application Global)) : Type 0 where
   pub one_each : length rows ≡ length d.groups
-  pub one_beside : length beside ≡ length d.groups
-  pub each : (g : ℕ) (row : Vec Application Global) (own : Vec ℕ Global) → n ≤ g
-      → slice_get rows g ≡ Some row → slice_get beside g ≡ Some own
-      → AreApplicantsIn d g row.items own.items
+  pub each : (g : ℕ) (row : Vec Application Global) → n ≤ g → slice_get rows g ≡ Some row
+      → AreApplicationsIn d g row.items

@@ -6,7 +6,7 @@ ghost use Rattle.admit_core.specs.CallOrder.{AreCallOrders};
 ghost use Rattle.day_state.specs.Spans.{IsWithin};
 ghost use Rattle.linked_demand.specs.Called.{AreRowsFrom, before_at, called_by, order_at};
 ghost use Rattle.linked_demand.specs.CalledWishes.{called_wish_at, called_wishes_for};
-ghost use Rattle.linked_demand.specs.Claims.{AreApplicantsIn, application_at, wishes_of};
+ghost use Rattle.linked_demand.specs.Claims.{AreApplicantsIn, application_at, candidates_of, wishes_of};
 ghost use Rattle.linked_demand.specs.Keyed.{ArePutIn};
 ghost use Rattle.linked_demand.specs.Seats.{applies_at};
 
@@ -41,6 +41,17 @@ impl Drop for Applicants {
             candidates: _,
         } = self;
     }
+}
+
+/// The candidates of wishes, beside them.
+fn candidates_of(alloc: Global, applications: &[Application]) -> Result<Vec<u32>, OutOfMemory>
+    ensures { IfOk result (λ v. v.items ≡ candidates_of applications.now) }
+{
+    let mut candidates = Vec::with_capacity(alloc, applications.len())?;
+    for application in applications {
+        candidates.push(application.candidate)?;
+    }
+    Ok(candidates)
 }
 
 /// No candidate stands twice in a call order. The call does nothing.
@@ -134,9 +145,8 @@ pub fn called_by_programme(
     let mut guesses = Guesses::of_wishes(alloc, state)?;
     let mut rows = wishes_by_group(alloc, state, &counts)?;
     for group in 0..group_count(state) {
-        let place = group as usize;
-        let wishes = mem::replace(&mut rows.wishes[place], Vec::new(alloc));
-        let candidates = mem::replace(&mut rows.candidates[place], Vec::new(alloc));
+        let wishes = mem::replace(&mut rows[group as usize], Vec::new(alloc));
+        let candidates = candidates_of(alloc, &wishes)?;
         let applicants = Applicants { wishes, candidates };
         call_group(&mut called, state, orders, group, &applicants, &mut guesses)?;
     }

@@ -1,7 +1,7 @@
-//! For each group the wishes for its programmes, with their candidates.
+//! For each group the wishes for its programmes.
 ghost use Rattle.std.specs.Prelude.{◌≡◌, ◌<◌, ◌≤◌, length, sum, IfOk};
 ghost use Rattle.admit_core.specs.DossierRows.{group_of};
-ghost use Rattle.linked_demand.specs.Claims.{AreApplicantsFrom};
+ghost use Rattle.linked_demand.specs.Claims.{AreApplicationsFrom};
 
 use crate::rows::{put_in, rows_with_room};
 use crate::wishes::wish_count;
@@ -60,27 +60,12 @@ fn counts_by_group(
     Ok(counts)
 }
 
-/// A wish of one who wishes for programmes of a group, by its place, and what it is for.
+/// A wish for a programme of a group, by its place, with the programme and the candidate.
 #[derive(Clone, Copy)]
 pub struct Application {
     pub wish: u32,
     pub programme: u32,
-}
-
-/// For each group the wishes for its programmes, and beside them their candidates.
-pub struct Applications {
-    pub wishes: Vec<Vec<Application>>,
-    pub candidates: Vec<Vec<u32>>,
-}
-
-// Not derived: so applications are dropped in one step where they are held, and not list by list.
-impl Drop for Applications {
-    fn drop(self) {
-        let Applications {
-            wishes: _,
-            candidates: _,
-        } = self;
-    }
+    pub candidate: u32,
 }
 
 /// The wishes for the programmes of each group, by candidate, those of one candidate ascending by
@@ -89,26 +74,24 @@ pub fn wishes_by_group(
     alloc: Global,
     state: &DayState<'_>,
     by_programme: &[u32],
-) -> Result<Applications, OutOfMemory>
+) -> Result<Vec<Vec<Application>>, OutOfMemory>
     requires { length by_programme.now ≡ length state.now.dossier.programmes }
-    ensures { IfOk result (λ v. AreApplicantsFrom state.now.dossier 0 v.wishes.items
-        v.candidates.items) }
+    ensures { IfOk result (λ v. AreApplicationsFrom state.now.dossier 0 v.items) }
 {
     let dossier = state.dossier();
     let _ = &dossier.wishes; // learns the invariant
     let counts = counts_by_group(alloc, state, by_programme)?;
     let places = state.places_by_candidate();
     let mut wishes = rows_with_room(alloc, &counts)?;
-    let mut candidates = rows_with_room(alloc, &counts)?;
     for place in places {
         let wish = wish_at(state, *place);
         let group = group_of(state, wish.programme);
         let application = Application {
             wish: *place,
             programme: wish.programme,
+            candidate: wish.candidate,
         };
         put_in(&mut wishes, group, application)?;
-        put_in(&mut candidates, group, wish.candidate)?;
     }
-    Ok(Applications { wishes, candidates })
+    Ok(wishes)
 }

@@ -12,7 +12,7 @@ use Rattle.linked_demand.specs.Claims.{wishes_of}
 use Rattle.linked_demand.specs.Keyed.{ArePutIn}
 use Rattle.linked_demand.specs.Seats.{applies_at}
 use Rattle.linked_demand.proofs.CalledRows.{before_here, called_more, order_read}
-use Rattle.linked_demand.proofs.ClaimSpans.{candidates_rise, claim_there}
+use Rattle.linked_demand.proofs.ClaimSpans.{candidates_rise, candidates_told, claim_there}
 use Rattle.linked_demand.proofs.Dealing.{puts_on}
 use Rattle.linked_demand.proofs.Seating.{few_apart}
 use Rattle.std.proofs.lemmas.List.{take_all}
@@ -23,8 +23,8 @@ span_of-span-requires-clause-rises c =
     let key = candidate_in c.args.state.now.dossier.wishes in
     let own = c.requires.applicants in
     let P = λ (ks : List ℕ). IsNonDecreasingBy (λ k. k) ks in
-    subst P (sym (c.as_slice-candidates.ensures.value ∙ own.candidates_are))
-    (candidates_rise key (wishes_of c.args.applicants.now.wishes.items) own.of_group.rises)
+    subst P (sym (c.as_slice-candidates.ensures.value ∙ candidates_told own))
+    (candidates_rise key (wishes_of c.args.applicants.now.wishes.items) own.applications_are.of_group.rises)
 
 pub claim_of-requires : goal.claim_of-requires
 claim_of-requires c =

@@ -3,21 +3,20 @@ use Rattle.admit_core.specs.DossierRows.{DossierRows}
 use Rattle.admit_core.specs.Validity.{IsValid}
 use Rattle.linked_demand.specs.Called.{called_all, called_by}
 use Rattle.linked_demand.specs.CalledWishes.{called_wish_at, called_wishes_for}
+use Rattle.linked_demand.specs.Claims.{candidates_of}
 use Rattle.linked_demand.specs.Keyed.{AreEmpty}
 use Rattle.linked_demand.specs.Seats.{applies_at}
 use Rattle.linked_demand.proofs.CalledRows.{groups_more, group_in, row_called}
-use Rattle.linked_demand.proofs.ClaimSpans.{applicants_later, applicants_taken}
+use Rattle.linked_demand.proofs.ClaimSpans.{applications_later, applicants_taken}
 use Rattle.linked_demand.proofs.Dealing.{puts_begun, puts_on}
 use Rattle.linked_demand.proofs.calling.called_by_programme.Goals as goal
 
 pub call_group-requires-clause-applicants : goal.call_group-requires-clause-applicants
 call_group-requires-clause-applicants c =
-    let rows = c.loop-group.rows in
-    applicants_taken c.args.state.now.dossier c.loop-group.group rows.wishes.items rows.candidates.items
-    c.replace-wishes.result _ c.replace-candidates.result _
-    (omega (arith, c.loop-group-test.true, c.group_count-group-end.ensures))
+    applicants_taken c.args.state.now.dossier c.loop-group.group c.loop-group.rows.items c.replace-wishes.result _
+    c.in_ok-candidates.candidates.items (omega (arith, c.loop-group-test.true, c.group_count-group-end.ensures))
     (c.replace-wishes.ensures.value ∙ c.index_mut.ensures.value)
-    (c.replace-candidates.ensures.value ∙ c.index_mut-in-loop-group.ensures.value)
+    (c.in_ok-candidates.ensures ∙ ap candidates_of c.deref-in-loop-group.ensures.value)
     c.loop-group.invariant.of_groups
 
 pub loop-group-preserved : goal.loop-group-preserved
@@ -30,8 +29,8 @@ loop-group-preserved c =
           (called_all d orders (g + 1)) c.in_ok-called.called.items c.loop-group.called.items
           c.call_group.new.called.items (groups_more (called_by d orders) g)
           c.loop-group.invariant.called c.in_ok-call_group.ensures;
-      of_groups = applicants_later d g c.loop-group.rows.wishes.items c.loop-group.rows.candidates.items
-          c.replace-wishes.new.dest c.replace-candidates.new.dest c.loop-group.invariant.of_groups;
+      of_groups = applications_later d g c.loop-group.rows.items c.replace-wishes.new.dest
+          c.loop-group.invariant.of_groups;
     }
 
 pub returns : goal.returns

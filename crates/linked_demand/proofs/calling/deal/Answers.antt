@@ -22,7 +22,7 @@ put_in-requires c =
     let valid = subst P (c.dossier.view_is ∙ c.dossier-dossier.ensures) c.dossier.invariant in
     let claim = c.args.claim.now in
     let i = c.loop-application.application-index in
-    let none : Application = record { wish = 0; programme = 0 } in
+    let none : Application = record { wish = 0; programme = 0; candidate = 0 } in
     let read = application_read d claim i none c.loop-application-test.true c.requires.programmes in
     let k = get_or (wishes_of claim) i 0 in
     let below = programme_at d valid k (c.requires.within i 0 read.0) (wish_in d.wishes k) refl in
@@ -39,7 +39,7 @@ loop-application-preserved c =
     let d = c.args.state.now.dossier in
     let claim = c.args.claim.now in
     let i = c.loop-application.application-index in
-    let none : Application = record { wish = 0; programme = 0 } in
+    let none : Application = record { wish = 0; programme = 0; candidate = 0 } in
     let own = get_or claim i none in
     let read = application_read d claim i none c.loop-application-test.true c.requires.programmes in
     let ks = wishes_of claim in

@@ -1,14 +1,10 @@
 use Rattle.std.proofs.Common.{length, take}
-use Rattle.day_state.specs.Kept.{candidate_in}
 use Rattle.linked_demand.specs.Called.{is_of_group}
 use Rattle.linked_demand.specs.Claims.{application_at}
 use Rattle.linked_demand.specs.Keyed.{AreRowsOf}
 use Rattle.linked_demand.proofs.wishing.wishes_by_group.Given as goal
 
 abbrev pub invariant-loop-place : goal.invariant-loop-place
-invariant-loop-place l = record {
-  wishes : AreRowsOf (application_at l.state.dossier) (is_of_group l.state.dossier) (length l.state.dossier.groups)
-      (take l.place-index l.places) l.wishes.items;
-  candidates : AreRowsOf (candidate_in l.state.dossier.wishes) (is_of_group l.state.dossier)
-      (length l.state.dossier.groups) (take l.place-index l.places) l.candidates.items;
-}
+invariant-loop-place l =
+    AreRowsOf (application_at l.state.dossier) (is_of_group l.state.dossier) (length l.state.dossier.groups)
+    (take l.place-index l.places) l.wishes.items
