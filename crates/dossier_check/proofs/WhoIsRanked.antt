@@ -1,8 +1,8 @@
 -- Who is ranked in a group, by the candidates of the groups.
 use Rattle.std.proofs.Common.{◌≡◌, ℕ, ◌≤◌, ◌<◌, Bool, true, false, ◌&&◌, nat_eq, List, [], ◌∷◌, length, map, get_or}
-use Rattle.std.proofs.Common.{Some, Result, Ok, Err, option_map, position, slice_get, refl, sym, ap, ◌∙◌, arith}
+use Rattle.std.proofs.Common.{Some, None, Result, Ok, Err, option_map, position, slice_get, refl, sym, ap, ◌∙◌, arith}
 use Rattle.std.proofs.Common.{true≢false, All, inl, inr, ◌⊎◌, subst}
-use Rattle.std.specs.List.{list_any}
+use Rattle.std.specs.List.{HoldsAt, list_any}
 use Rattle.std.specs.List.Sorted.{IsBinarySearchResult, IsNonDecreasing}
 use Rattle.std.specs.Ordering.{nat_cmp}
 use Rattle.std.specs.Result.{MatchResult, is_ok}
@@ -11,12 +11,19 @@ use Rattle.std.proofs.lemmas.List.{get_or_default}
 use Rattle.std.proofs.lemmas.List.Folds.{list_any_at, list_any_none}
 use Rattle.std.proofs.lemmas.List.Quantifiers.{position-Some}
 use Rattle.std.proofs.lemmas.List.Sorted.{list_any-IsPermutation, searched}
-use Rattle.std.proofs.lemmas.Option.{slice_get-map, slice_get-get_or}
+use Rattle.std.proofs.lemmas.Option.{slice_get-map, slice_get-get_or, slice_get_within}
+use Rattle.admit_core.specs.declared.tables.ProgrammeRow.{ProgrammeRow}
 use Rattle.admit_core.specs.declared.tables.RankRow.{RankRow}
+use Rattle.admit_core.specs.declared.tables.Tables.{Tables}
+use Rattle.admit_core.specs.declared.tables.WishRow.{WishRow}
 use Rattle.admit_core.specs.Lists.{is_among, sorted_by}
-use Rattle.admit_core.specs.Standing.{ranked_in}
-use Rattle.dossier_check.specs.Dealt.{HasItsGroup, candidates_in}
-use Rattle.dossier_check.proofs.Places.{nat_eq_sound, nat_eq_same}
+use Rattle.admit_core.specs.Relations.{group_ids, is_in_group, is_ranked}
+use Rattle.admit_core.specs.Standing.{place_of, ranked_in}
+use Rattle.dossier_check.specs.Dealt.{HasItsGroup, candidates_in, group_places}
+use Rattle.dossier_check.specs.WishTests.{IsRanked}
+use Rattle.dossier_check.proofs.Firsts.{length-map-here, none_passes, one_passes}
+use Rattle.dossier_check.proofs.Found.{found_at, position-within}
+use Rattle.dossier_check.proofs.Places.{nat_eq_sound, nat_eq_same, position-any}
 use Rattle.admit_core.proofs.SortedLists.{IsPermutation-sorted_by, numbers_in_order}
 
 -- the candidates of a group are those whom the rankings have in it
@@ -104,3 +111,80 @@ is_found rows group candidate ids r same answer =
 pub searched_among : (xs : List ℕ) (x : ℕ) (r : Result ℕ ℕ) → IsNonDecreasing xs
     → IsBinarySearchResult (λ y. nat_cmp y x) xs r → is_ok r ≡ list_any (nat_eq x) xs
 searched_among xs x r ascends answer = found_among xs x r (searched xs x r answer (λ i j le lt. ascends i j 0 le lt))
+
+-- what is told of the programme at a place, by the place of its group
+module _ (t : Tables) (places : List ℕ) (made : places ≡ group_places (group_ids t) t.programmes)
+    (known : All (HasItsGroup (group_ids t)) t.rankings) (id candidate place : ℕ)
+    (at : Some place ≡ position (λ p. nat_eq id p.id) t.programmes) where
+  abbrev programme : ProgrammeRow
+  programme = get_or t.programmes place (record { id = 0; group = 0; seats = 0; limit = 0 })
+
+  abbrev own : ProgrammeRow → Bool
+  own p = nat_eq id p.id
+
+  within : place < length t.programmes
+  within = position-within own t.programmes place (sym at)
+
+  there : slice_get t.programmes place ≡ Some programme
+  there = slice_get-get_or t.programmes place _ within
+
+  in_its_group : is_in_group t candidate programme.group ≡ is_ranked t id candidate
+  in_its_group = rw (found_at own t.programmes place programme (sym at) there) refl
+
+  group_place : slice_get places place ≡ Some (place_of (group_ids t) programme.group)
+  group_place =
+      ap (λ xs. slice_get xs place) made
+      ∙ slice_get-map (λ p. place_of (group_ids t) p.group) t.programmes place
+      ∙ ap (option_map (λ p. place_of (group_ids t) p.group)) there
+
+  -- each programme has a place for its group
+  pub has_place : slice_get places place ≡ None → false ≡ is_ranked t id candidate
+  has_place none = cc (sym group_place ∙ none)
+
+  module _ {V : Type 0} (items : V → List ℕ) (lists : List V)
+      (same : map items lists ≡ map (candidates_in t.rankings) (group_ids t)) (group : ℕ)
+      (here : slice_get places place ≡ Some group) where
+    is_group : place_of (group_ids t) programme.group ≡ group
+    is_group = cc (sym group_place ∙ here)
+
+    as_many : length lists ≡ length (group_ids t)
+    as_many = sym (length-map-here items lists) ∙ ap length same
+        ∙ length-map-here (candidates_in t.rankings) (group_ids t)
+
+    pub no_list : slice_get lists group ≡ None → false ≡ is_ranked t id candidate
+    no_list none = by (list_any (nat_eq programme.group) (group_ids t)) refl
+      where
+        by : (b : Bool) → list_any (nat_eq programme.group) (group_ids t) ≡ b → false ≡ is_ranked t id candidate
+        by true any =
+            let lt : group < length lists =
+            rw (as_many, ← is_group) (one_passes (nat_eq programme.group) (group_ids t) any) in
+            let read = slice_get-map items lists group ∙ ap (option_map items) none in
+            cc (sym (slice_get-get_or (map items lists) group []
+            (rw (length-map-here items lists) lt)) ∙ read)
+        by false unknown = none_in_group t.rankings (group_ids t) programme.group candidate known unknown ∙ in_its_group
+
+    pub list_tells : (list : V) → slice_get lists group ≡ Some list → (numbers : List ℕ) → numbers ≡ items list
+        → (r : Bool) → (IsNonDecreasing numbers → r ≡ list_any (nat_eq candidate) numbers)
+        → r ≡ is_ranked t id candidate
+    list_tells list got numbers are r answer =
+        let lt : group < length (group_ids t) = rw (← as_many) (slice_get_within lists group list got) in
+        let any : list_any (nat_eq programme.group) (group_ids t) ≡ true =
+        not_none (list_any (nat_eq programme.group) (group_ids t)) refl lt in
+        let position_is : position (nat_eq programme.group) (group_ids t) ≡ Some group =
+        position-any (nat_eq programme.group) (group_ids t) any ∙ ap Some is_group in
+        is_found t.rankings programme.group candidate numbers r
+        (are ∙ list_at items t.rankings lists (group_ids t) programme.group group list same position_is got) answer
+        ∙ in_its_group
+      where
+        not_none : (b : Bool) → list_any (nat_eq programme.group) (group_ids t) ≡ b → group < length (group_ids t)
+            → list_any (nat_eq programme.group) (group_ids t) ≡ true
+        not_none true e lt = e
+        not_none false e lt =
+            let past : group ≡ length (group_ids t) =
+            sym is_group ∙ none_passes (nat_eq programme.group) (group_ids t) e in
+            absurd (omega (arith, past, lt))
+
+-- what is known of a row that is read holds at its place
+pub read_ranked : (t : Tables) (rows : List WishRow) (i : ℕ) (e : WishRow) → i < length rows
+    → IsRanked t (get_or rows i e) → HoldsAt (IsRanked t) rows i
+read_ranked t rows i e lt ranked d = subst (IsRanked t) (get_or_default rows i e d lt) ranked

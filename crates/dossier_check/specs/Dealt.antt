@@ -1,6 +1,7 @@
 -- Rankings dealt out by group.
 use Rattle.std.specs.Prelude.{◌≡◌, ℕ, true, List, map, All}
 use Rattle.admit_core.specs.declared.tables.GroupRow.{GroupRow}
+use Rattle.admit_core.specs.declared.tables.ProgrammeRow.{ProgrammeRow}
 use Rattle.admit_core.specs.declared.tables.RankRow.{RankRow}
 use Rattle.admit_core.specs.declared.tables.Tables.{Tables}
 use Rattle.admit_core.specs.declared.ranking.Ranked.{Ranked}
@@ -32,6 +33,10 @@ built g list =
 abbrev pub places_in : List ℕ → List RankRow → List ℕ
 places_in groups rows = map (λ r. place_of groups r.group) rows
 
+-- the same of programmes
+abbrev pub group_places : List ℕ → List ProgrammeRow → List ℕ
+group_places groups rows = map (λ p. place_of groups p.group) rows
+
 -- the group of a row is there
 abbrev pub HasItsGroup : List ℕ → RankRow → Type 0
 HasItsGroup groups row = is_among row.group groups ≡ true
@@ -44,7 +49,7 @@ pub record AreDealt (t : Tables) (dealt : Dealt) : Type 0 where
 
 -- no one is ranked in any group but these
 pub record SaysWhoIsRanked (t : Tables) (ranked : WhoIsRanked) : Type 0 where
-  pub groups : ranked.groups.now.keys ≡ group_ids t
+  pub places : ranked.places.now ≡ group_places (group_ids t) t.programmes
   pub candidates : map (λ l. l.items) ranked.candidates.now
       ≡ map (candidates_in t.rankings) (group_ids t)
   pub known : All (HasItsGroup (group_ids t)) t.rankings

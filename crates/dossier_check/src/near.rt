@@ -3,27 +3,9 @@
 use admit_core::OutOfMemory;
 use std::alloc::Global;
 
-/// Where the tests of wishes look first.
-#[derive(Drop)]
-pub(crate) struct Near {
-    /// The place of each programme's group, by the programmes' places.
-    pub(crate) groups: Vec<usize>,
-    /// For each group the place after the candidate found last, by the groups' places.
-    pub(crate) candidates: Vec<usize>,
-}
-
-impl Near {
-    /// The first places, for each of a number of programmes and of groups.
-    pub(crate) fn new(
-        alloc: Global,
-        programmes: usize,
-        groups: usize,
-    ) -> Result<Near, OutOfMemory> {
-        Ok(Near {
-            groups: vec![in alloc; 0; programmes]?,
-            candidates: vec![in alloc; 0; groups]?,
-        })
-    }
+/// The first place of each group, by the groups' places.
+pub(crate) fn first_places(alloc: Global, groups: usize) -> Result<Vec<u32>, OutOfMemory> {
+    Ok(vec![in alloc; 0; groups]?)
 }
 
 /// Where the tests found what a wish names. It is looked for there first once more.
@@ -44,7 +26,7 @@ const FIRST: NamedPlaces = NamedPlaces {
 };
 
 /// A place as a number of 32 bits, and 0 for what is none.
-fn small(place: usize) -> u32 {
+pub(crate) fn small(place: usize) -> u32 {
     u32::try_from(place).unwrap_or(0)
 }
 

@@ -15,7 +15,7 @@ use crate::row_ids::RowIds;
 use crate::rules::{ItsCandidate, OwnId};
 use crate::scan::scanned;
 use crate::slots::check_ids;
-use crate::wishes::{Kept, WishKeys, kept_in, other_tests};
+use crate::wishes::{Kept, WishKeys, kept_in, other_tests, ranked_in};
 use admit_core::{InFault, OutOfMemory, Slot, Tables, WishRow};
 use keyed_hash::Keyed;
 use std::alloc::Global;
@@ -63,7 +63,8 @@ fn kept_in_order<'a>(
     let ordered = by_key(alloc, &ItsCandidate, tables.wishes.as_slice())?;
     let rows = ordered.rows.as_slice();
     let apart = shown_apart(alloc, rows)?;
-    let tests = other_tests(alloc, apart, tables, known)?;
+    let ranked = ranked_in(alloc, known, rows)?;
+    let tests = other_tests(alloc, apart, ranked, tables, known)?;
     let Some(tests) = unless_refused(scanned(Slot::Wishes, tests, rows))? else {
         return Ok(None);
     };

@@ -1,10 +1,10 @@
 //! The places of what rows name, each found once.
 ghost use Rattle.std.specs.Prelude.{◌≡◌, ◌<◌, ◌^◌, All, IfOk, length, true};
 ghost use Rattle.admit_core.specs.Standing.{place_of};
-ghost use Rattle.dossier_check.specs.Dealt.{places_in};
+ghost use Rattle.dossier_check.specs.Dealt.{group_places, places_in};
 
 use crate::row_ids::RowIds;
-use admit_core::{OutOfMemory, RankRow};
+use admit_core::{OutOfMemory, ProgrammeRow, RankRow};
 use std::alloc::Global;
 
 /// The place of an id, and the number of ids where it is none of them. It's looked for first where
@@ -24,6 +24,23 @@ pub(crate) fn places_in(
 ) -> Result<Vec<u32>, OutOfMemory>
     requires { length groups.now.keys < 2 ^ 32 }
     ensures { IfOk result (λ places. places.items ≡ places_in groups.now.keys rows.now) }
+{
+    let mut places = Vec::with_capacity(alloc, rows.len())?;
+    let mut near = 0;
+    for row in rows {
+        places.push(place_near(groups, row.group, &mut near))?;
+    }
+    Ok(places)
+}
+
+/// The places of the groups of programmes, by the programmes' places.
+pub(crate) fn group_places(
+    alloc: Global,
+    rows: &[ProgrammeRow],
+    groups: &RowIds,
+) -> Result<Vec<u32>, OutOfMemory>
+    requires { length groups.now.keys < 2 ^ 32 }
+    ensures { IfOk result (λ places. places.items ≡ group_places groups.now.keys rows.now) }
 {
     let mut places = Vec::with_capacity(alloc, rows.len())?;
     let mut near = 0;

@@ -20,6 +20,7 @@ use crate::hashing::hashing_of;
 use crate::index::Index;
 use crate::items::{Keys, answers_of, ceilings_of, programmes_of, schools_of, wishes_of};
 use crate::known::Known;
+use crate::placed::group_places;
 use crate::ranks::{Dealt, check_ranks};
 use crate::row_ids::RowIds;
 use crate::rules::OwnId;
@@ -207,8 +208,9 @@ fn check_slots(alloc: Global, tables: &Tables) -> Result<(Keys, Vec<RankGroup>),
     let keyed = hashing_of(tables);
     let named = check_named(alloc, keyed, tables)?;
     let ranks = check_both_ranks(alloc, keyed, tables, &named)?;
+    let places = group_places(alloc, tables.programmes.as_slice(), &named.groups)?;
     let ranked = WhoIsRanked {
-        groups: &named.groups,
+        places: places.as_slice(),
         candidates: ranks.dealt.candidates.as_slice(),
     };
     let known = Known {

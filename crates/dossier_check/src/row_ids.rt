@@ -200,6 +200,28 @@ impl RowIds {
         }
     }
 
+    /// The place of an id among rising ones without gaps.
+    #[inline(always)]
+    fn at_distance(&self, id: u32) -> Option<usize>
+        ensures { IfSome result (λ place. position (nat_eq id) self.now.keys ≡ Some place) }
+    {
+        match &self.way {
+            Way::Rising(ids) => at_distance(ids.as_slice(), id),
+            Way::Hashed(_) => None,
+        }
+    }
+
+    /// The place of an id, as `get_index_of` has it. Where ids have no gaps, it calls nothing.
+    #[inline(always)]
+    pub(crate) fn index_at_once(&self, id: u32) -> Option<usize>
+        ensures { result ≡ position (nat_eq id) self.now.keys }
+    {
+        match self.at_distance(id) {
+            Some(place) => Some(place),
+            None => self.get_index_of(id),
+        }
+    }
+
     /// The id at a place.
     fn id_at(&self, place: usize) -> Option<u32>
         ensures { result ≡ slice_get self.now.keys place }

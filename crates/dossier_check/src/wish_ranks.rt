@@ -1,5 +1,5 @@
 //! The test of whether the candidate of a wish may wish for what it names.
-ghost use Rattle.std.specs.Prelude.{◌≡◌, Some, is_some, nat_eq, position, true};
+ghost use Rattle.std.specs.Prelude.{◌≡◌, ◌||◌, ℕ, Some, is_some, nat_eq, position, true};
 ghost use Rattle.std.specs.Option.{option_map_or};
 ghost use Rattle.admit_core.specs.declared.tables.Tables.{Tables};
 ghost use Rattle.admit_core.specs.Lists.{is_among};
@@ -8,8 +8,7 @@ ghost use Rattle.dossier_check.specs.Dealt.{SaysWhoIsRanked};
 ghost use Rattle.dossier_check.specs.Seen.{boarded_pairs};
 
 use crate::known::Known;
-use crate::near::{NamedPlaces, Near};
-use crate::noted::row_at;
+use crate::near::NamedPlaces;
 use crate::row_ids::RowIds;
 use crate::row_tests::RowTest;
 use crate::who_is_ranked::WhoIsRanked;
@@ -27,24 +26,22 @@ fn school_place(schools: &RowIds, school: Option<u32>) -> Option<usize>
     }
 }
 
-/// Whether a candidate is ranked in the group of the programme at a place. This is inlined, as the
-/// tests that ask it are.
-#[inline(always)]
+/// Whether a candidate is ranked in the group of the programme at a place, or all are known to be.
 fn is_ranked(
-    tables: &Tables,
+    all_ranked: bool,
     ranked: WhoIsRanked<'_>,
-    near: &mut Near,
-    row: &WishRow,
-    place: usize,
+    near: &mut [u32],
+    candidate: u32,
+    programme: usize,
 ) -> bool
-    ensures { SaysWhoIsRanked tables.now ranked.entry →
-        Some place ≡ position (λ p. nat_eq row.now.programme p.id) tables.now.programmes →
-        result ≡ is_ranked tables.now row.now.programme row.now.candidate }
+    ensures { (t : Tables) (id : ℕ) → SaysWhoIsRanked t ranked.entry →
+        Some programme ≡ position (λ p. nat_eq id p.id) t.programmes →
+        result ≡ (all_ranked || is_ranked t id candidate) }
 {
-    match row_at(tables.programmes.as_slice(), Some(place)) {
-        Some(programme) => ranked.has(programme.group, row.candidate, near, place),
-        None => false,
+    if all_ranked {
+        return true;
     }
+    ranked.has(candidate, near, programme)
 }
 
 /// The place of a candidate's rank in a school, or 0 without one.
@@ -66,7 +63,10 @@ fn rank_place(
 pub(crate) struct MayNotWish<'a> {
     pub(crate) tables: &'a Tables,
     pub(crate) known: Known<'a>,
-    pub(crate) near: Near,
+    /// All candidates are known to be ranked.
+    pub(crate) all_ranked: bool,
+    /// For each group the place after the candidate found last, by the groups' places.
+    pub(crate) near: Vec<u32>,
     /// Where the wishes so far have what they name.
     pub(crate) places: Vec<NamedPlaces>,
 }
@@ -77,6 +77,7 @@ impl<'a> Drop for MayNotWish<'a> {
         let MayNotWish {
             tables: _,
             known: _,
+            all_ranked: _,
             near: _,
             places: _,
         } = self;
@@ -89,6 +90,7 @@ impl<'a> MayNotWish<'a> {
         let MayNotWish {
             tables: _,
             known: _,
+            all_ranked: _,
             near: _,
             places,
         } = self;
@@ -100,7 +102,7 @@ impl<'a> RowTest<WishRow> for MayNotWish<'a> {
     ghost use Rattle.dossier_check.specs.Known.{IsKnown};
     ghost use Rattle.dossier_check.specs.WishTests.{may_not_wish};
 
-    ghost test = { λ c. may_not_wish c.tables.now };
+    ghost test = { λ c. may_not_wish c.all_ranked c.tables.now };
 
     ghost has_seen = { λ c before. IsKnown c.tables.now c.known };
 
@@ -115,7 +117,8 @@ impl<'a> RowTest<WishRow> for MayNotWish<'a> {
         let Some(school) = school_place(known.schools, row.school) else {
             return Ok(Some(Reason::Unknown(4)));
         };
-        if !is_ranked(self.tables, known.ranked, &mut self.near, row, programme) {
+        let near = self.near.as_mut_slice();
+        if !is_ranked(self.all_ranked, known.ranked, near, row.candidate, programme) {
             return Ok(Some(Reason::Unranked));
         }
         let Some(rank) = rank_place(known.boarded, row.candidate, row.school) else {

@@ -1,20 +1,21 @@
 //! The tests of wishes.
-ghost use Rattle.std.specs.Prelude.{◌≡◌, ◌<◌, ◌^◌, ◌&&◌, [], length, nat_eq, IfOk, if◌then◌else◌};
+ghost use Rattle.std.specs.Prelude.{◌≡◌, ◌<◌, ◌^◌, ◌&&◌, [], All, true, length, nat_eq, IfOk, if◌then◌else◌};
 ghost use Rattle.indexmap.specs.IndexMap.{get};
 ghost use Rattle.admit_core.specs.declared.slot.Slot.TheVariants as slots;
+ghost use Rattle.admit_core.specs.declared.tables.Tables.{Tables};
 ghost use Rattle.admit_core.specs.Faults.{first_in};
 ghost use Rattle.admit_core.specs.Relations.{wish_tests, wish_ids};
 ghost use Rattle.dossier_check.specs.Hashing.{numbers_of_wishes};
 ghost use Rattle.dossier_check.specs.Known.{IsKnown};
 ghost use Rattle.dossier_check.specs.Outcome.{AnswersFault, MayLack};
-ghost use Rattle.dossier_check.specs.WishTests.{others_unless, tests_unless};
+ghost use Rattle.dossier_check.specs.WishTests.{IsRanked, others_unless, tests_unless};
 ghost use Rattle.dossier_check.specs.Seen.{AreFirstWishes, KnowsCandidates};
 ghost use Rattle.keyed_hash.specs.Keys.{keyed_by};
 
 use crate::apart::{Apart, shown_apart};
 use crate::hashing::hashing_of_wishes;
 use crate::known::Known;
-use crate::near::{NamedPlaces, Near, in_file_order};
+use crate::near::{NamedPlaces, first_places, in_file_order};
 use crate::noted::FirstWish;
 use crate::ordered::{candidates_rise, shown_in_order};
 use crate::preferences::{PreferenceTests, firsts_in, preference_tests};
@@ -22,6 +23,7 @@ use crate::row_ids::RowIds;
 use crate::row_tests::{Repeats, RepeatsId, Shared, Then, Unless};
 use crate::rules::{OwnId, WhatIsWished};
 use crate::scan::{RowChecks, scanned};
+use crate::who_is_ranked::all_ranked;
 use crate::wish_ranks::MayNotWish;
 use admit_core::{InFault, OutOfMemory, Slot, Tables, WishRow};
 use indexmap::{IndexMap, IndexSet};
@@ -151,24 +153,36 @@ fn keys_in(tests: WishTests<'_>) -> WishKeys
     kept_in(rest).into_keys(own.ids)
 }
 
+/// Whether each of these wishes is seen to have a candidate who is ranked.
+pub(crate) fn ranked_in(
+    alloc: Global,
+    known: Known<'_>,
+    rows: &[WishRow],
+) -> Result<bool, OutOfMemory>
+    ensures { (t : Tables) → IsKnown t known.entry →
+        IfOk result (λ ranked. ranked ≡ true → All (IsRanked t) rows.now) }
+{
+    let mut near = first_places(alloc, known.ranked.candidates.len())?;
+    Ok(all_ranked(known.programmes, known.ranked, near.as_mut_slice(), rows))
+}
+
 /// The test of what wishes name, before the first row.
 fn name_test<'a>(
     alloc: Global,
+    all_ranked: bool,
     tables: &'a Tables,
     known: Known<'a>,
 ) -> Result<MayNotWish<'a>, OutOfMemory>
     requires { IsKnown tables.now known }
     ensures known { IfOk result (λ test. IsKnown test.tables.now test.known) }
     ensures tables { IfOk result (λ test. test.tables.now ≡ tables.now) }
+    ensures ranked { IfOk result (λ test. test.all_ranked ≡ all_ranked) }
 {
     Ok(MayNotWish {
         tables,
         known,
-        near: Near::new(
-            alloc,
-            tables.programmes.len(),
-            known.ranked.candidates.len(),
-        )?,
+        all_ranked,
+        near: first_places(alloc, known.ranked.candidates.len())?,
         places: Vec::with_capacity(alloc, tables.wishes.len())?,
     })
 }
@@ -177,6 +191,7 @@ fn name_test<'a>(
 pub(crate) fn other_tests<'a>(
     alloc: Global,
     apart: Apart,
+    ranked: bool,
     tables: &'a Tables,
     known: Known<'a>,
 ) -> Result<OtherTests<'a>, OutOfMemory>
@@ -185,7 +200,7 @@ pub(crate) fn other_tests<'a>(
         ⟦<OtherTests<'a> as RowChecks<WishRow>>⟧.has_seen tests []) }
     ensures tests { IfOk result (λ tests.
         ⟦<OtherTests<'a> as RowChecks<WishRow>>⟧.tests tests
-        ≡ others_unless apart.wishes apart.preferences tables.now) }
+        ≡ others_unless apart.wishes ranked apart.preferences tables.now) }
 {
     let by_wish = hashing_by(known.keyed, apart, tables.wishes.as_slice());
     Ok(Then {
@@ -198,7 +213,7 @@ pub(crate) fn other_tests<'a>(
             },
         },
         rest: Then {
-            first: name_test(alloc, tables, known)?,
+            first: name_test(alloc, ranked, tables, known)?,
             rest: preference_tests(alloc, known.keyed, by_wish, apart),
         },
     })
@@ -208,6 +223,7 @@ pub(crate) fn other_tests<'a>(
 fn fresh_tests<'a>(
     alloc: Global,
     apart: Apart,
+    ranked: bool,
     tables: &'a Tables,
     known: Known<'a>,
 ) -> Result<WishTests<'a>, OutOfMemory>
@@ -216,7 +232,7 @@ fn fresh_tests<'a>(
         ⟦<WishTests<'a> as RowChecks<WishRow>>⟧.has_seen tests []) }
     ensures tests { IfOk result (λ tests.
         ⟦<WishTests<'a> as RowChecks<WishRow>>⟧.tests tests
-        ≡ tests_unless apart.wishes apart.preferences tables.now) }
+        ≡ tests_unless apart.wishes ranked apart.preferences tables.now) }
 {
     let ids = RowIds::with_room(alloc, tables.wishes.len())?;
     Ok(Then {
@@ -226,7 +242,7 @@ fn fresh_tests<'a>(
             ids,
             rule: OwnId,
         },
-        rest: other_tests(alloc, apart, tables, known)?,
+        rest: other_tests(alloc, apart, ranked, tables, known)?,
     })
 }
 
@@ -242,7 +258,8 @@ fn check_rows<'a>(alloc: Global, tables: &'a Tables, known: Known<'a>) -> Result
 {
     let rows = tables.wishes.as_slice();
     let apart = shown_apart(alloc, rows)?;
-    let tests = fresh_tests(alloc, apart, tables, known)?;
+    let ranked = ranked_in(alloc, known, rows)?;
+    let tests = fresh_tests(alloc, apart, ranked, tables, known)?;
     Ok(keys_in(scanned(Slot::Wishes, tests, rows)?))
 }
 

@@ -27,7 +27,8 @@ returns-clause-fault c there =
     (subst (IsPermutation _) (sym c.in_ok-ordered.ensures.rows) (IsPermutation-sorted_by _ _))) in
     let ok : c.scanned.result ≡ Ok c.in-Some.tests = rw c.in-Some.is at c.in_ok-tests-2.ensures in
     no_fault_moved t t.wishes rows moved
-    (sym (found_others t rows h.apart.wishes h.apart.preferences _ h.ensures.wishes h.ensures.preferences
+    (sym (found_others t rows h.apart.wishes c.in_ok-ranked.ranked h.apart.preferences _ h.ensures.wishes
+    (c.in_ok-ranked.ensures t c.requires.known) h.ensures.preferences
     c.in_ok-tests.ensures.tests)
     ∙ (rw ok at c.scanned.ensures.fault))
 

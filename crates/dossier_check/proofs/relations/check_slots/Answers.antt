@@ -1,4 +1,5 @@
 use Rattle.std.proofs.Common.{map, ap, ◌∙◌, sym, subst}
+use Rattle.dossier_check.specs.Dealt.{group_places}
 use Rattle.dossier_check.specs.Keys.{AreKeysOf}
 use Rattle.dossier_check.specs.Outcome.{AnswersFault, first_in_named, first_in_ranks, first_from_wishes}
 use Rattle.dossier_check.proofs.KeyPlaces.{are_places}
@@ -28,8 +29,9 @@ check_wishes_on-requires-clause-known c =
       programmes = c.in_ok-named.ensures.programmes;
       schools = c.in_ok-named.ensures.schools;
       ranked = record {
-        groups = c.in_ok-named.ensures.groups;
-        candidates = ap (map (λ l. l.items)) c.as_slice.ensures.value ∙ c.in_ok-ranks.ensures.dealt.candidates;
+        places = c.as_slice-2.ensures.value ∙ c.in_ok-places.ensures
+            ∙ (λ i. group_places (c.in_ok-named.ensures.groups i) (c.as_slice.ensures i));
+        candidates = ap (map (λ l. l.items)) c.as_slice-3.ensures.value ∙ c.in_ok-ranks.ensures.dealt.candidates;
         known = c.in_ok-ranks.ensures.known;
       };
       boarded = c.in_ok-ranks.ensures.boarding;

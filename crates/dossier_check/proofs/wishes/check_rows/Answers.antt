@@ -10,13 +10,15 @@ returns-in_err-scanned-clause-fault c =
     let e = c.from_residual-in_err-scanned in
     let h = c.in_ok-apart in
     subst (AnswersFault e.result)
-    (found_same t c.as_slice-rows.result.now h.apart.wishes h.apart.preferences _ h.ensures.wishes
-    h.ensures.preferences c.as_slice-rows.ensures c.in_ok-tests.ensures.tests)
+    (found_same t c.as_slice-rows.result.now h.apart.wishes c.in_ok-ranked.ranked h.apart.preferences _
+    h.ensures.wishes (c.in_ok-ranked.ensures c.args.tables.now c.requires.known) h.ensures.preferences
+    c.as_slice-rows.ensures c.in_ok-tests.ensures.tests)
     (handed_on _ _ _ e.ensures.1 c.in_err-scanned.ensures.fault)
 
 pub returns-clause-fault : goal.returns-clause-fault
 returns-clause-fault c =
     let h = c.in_ok-apart in
-    sym (found_same c.args.tables.now c.as_slice-rows.result.now h.apart.wishes h.apart.preferences _ h.ensures.wishes
-    h.ensures.preferences c.as_slice-rows.ensures c.in_ok-tests.ensures.tests)
+    sym (found_same c.args.tables.now c.as_slice-rows.result.now h.apart.wishes c.in_ok-ranked.ranked h.apart.preferences _
+    h.ensures.wishes (c.in_ok-ranked.ensures c.args.tables.now c.requires.known) h.ensures.preferences
+    c.as_slice-rows.ensures c.in_ok-tests.ensures.tests)
     ∙ c.in_ok-scanned.ensures.fault

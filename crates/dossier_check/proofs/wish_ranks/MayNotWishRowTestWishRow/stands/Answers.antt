@@ -1,4 +1,4 @@
-use Rattle.std.proofs.Common.{◌≡◌, true, nat_eq, is_some, position, sym, ap, ◌∙◌}
+use Rattle.std.proofs.Common.{◌≡◌, ◌||◌, true, nat_eq, is_some, position, sym, ap, ◌∙◌}
 use Rattle.std.specs.List.{list_any}
 use Rattle.std.specs.Option.{option_map_or}
 use Rattle.admit_core.specs.Lists.{is_among}
@@ -9,7 +9,7 @@ use Rattle.dossier_check.proofs.wish_ranks.MayNotWishRowTestWishRow.stands.Goals
 
 pub returns-in_default-clause-reason : goal.returns-in_default-clause-reason
 returns-in_default-clause-reason c before known =
-    no_programme c.args.self.now.tables.now before c.args.row.now
+    no_programme c.args.self.now.tables.now c.args.self.now.all_ranked before c.args.row.now
     (ap (list_any (nat_eq c.args.row.now.programme)) (sym known.programmes) ∙ sym c.get_index_of.ensures.found
     ∙ ap is_some c.in_default.is)
 
@@ -25,8 +25,8 @@ returns-then-not-is_ranked-clause-reason c before known =
     ∙ ap is_some c.in-Some-school_place.is in
     let at = sym c.in-Some.is ∙ c.get_index_of.ensures.index ∙ ap (position (nat_eq row.programme)) known.programmes
     ∙ position-map (nat_eq row.programme) (λ p. p.id) t.programmes in
-    not_ranked t before row programme school
-    (sym (c.is_ranked.ensures known.ranked at) ∙ c.if-not-is_ranked.true)
+    not_ranked t c.args.self.now.all_ranked before row programme school
+    (sym (c.is_ranked.ensures t row.programme known.ranked at) ∙ c.if-not-is_ranked.true)
 
 pub returns-in_default-rank_place-clause-reason : goal.returns-in_default-rank_place-clause-reason
 returns-in_default-rank_place-clause-reason c before known =
@@ -40,9 +40,9 @@ returns-in_default-rank_place-clause-reason c before known =
     ∙ ap is_some c.in-Some-school_place.is in
     let at = sym c.in-Some.is ∙ c.get_index_of.ensures.index ∙ ap (position (nat_eq row.programme)) known.programmes
     ∙ position-map (nat_eq row.programme) (λ p. p.id) t.programmes in
-    let ranked : is_ranked t row.programme row.candidate ≡ true =
-    sym (c.is_ranked.ensures known.ranked at) ∙ c.if-not-is_ranked.false in
-    not_boarded t before row programme school ranked
+    let ranked : (c.args.self.now.all_ranked || is_ranked t row.programme row.candidate) ≡ true =
+    sym (c.is_ranked.ensures t row.programme known.ranked at) ∙ c.if-not-is_ranked.false in
+    not_boarded t c.args.self.now.all_ranked before row programme school ranked
     (sym (c.rank_place.ensures t known.boarded) ∙ ap is_some c.in_default-rank_place.is)
 
 pub returns-clause-reason : goal.returns-clause-reason
@@ -57,7 +57,7 @@ returns-clause-reason c before known =
     ∙ ap is_some c.in-Some-school_place.is in
     let at = sym c.in-Some.is ∙ c.get_index_of.ensures.index ∙ ap (position (nat_eq row.programme)) known.programmes
     ∙ position-map (nat_eq row.programme) (λ p. p.id) t.programmes in
-    let ranked : is_ranked t row.programme row.candidate ≡ true =
-    sym (c.is_ranked.ensures known.ranked at) ∙ c.if-not-is_ranked.false in
-    may_wish t before row programme school ranked
+    let ranked : (c.args.self.now.all_ranked || is_ranked t row.programme row.candidate) ≡ true =
+    sym (c.is_ranked.ensures t row.programme known.ranked at) ∙ c.if-not-is_ranked.false in
+    may_wish t c.args.self.now.all_ranked before row programme school ranked
     (sym (c.rank_place.ensures t known.boarded) ∙ ap is_some c.in-Some-rank_place.is)
