@@ -15,7 +15,7 @@ use dossier_csv::{
     read_schools, read_state, read_wishes,
 };
 use sample_gen::sample;
-use slot_io::{Shelf, SlotRefusal, read_slot};
+use slot_io::{Shelf, SlotRefusal, read_slot_in};
 use std::alloc::Global;
 
 /// What slots hold: the rows of nine, and the bytes of the chain.
@@ -28,9 +28,9 @@ pub(crate) struct Files {
 /// The most bytes of a slot.
 const MAX_BYTES: u64 = 1_073_741_824;
 
-/// The bytes of a slot that is not too large.
+/// The bytes of a slot that is not too large, in the room of a text.
 #[tactic(auto, unfolding(crate::specs::Reading::sized))]
-fn slot_bytes<S: Shelf>(alloc: Global, shelf: &mut S, slot: Slot) -> Result<Vec<u8>, Stop>
+fn slot_bytes<S: Shelf>(shelf: &mut S, slot: Slot, room: Vec<u8>) -> Result<Vec<u8>, Stop>
     ensures value { (bytes : List ℕ) → S.left shelf.old slot ≡ Some bytes
         → Gives (λ read. read.items) result (Reading.sized slot bytes) }
     ensures ends { (bytes : List ℕ) → S.left shelf.old slot ≡ Some bytes
@@ -41,7 +41,7 @@ fn slot_bytes<S: Shelf>(alloc: Global, shelf: &mut S, slot: Slot) -> Result<Vec<
     ensures fault { FaultsIn slot (S.faults shelf.old) (S.faults shelf.new) result }
     ensures size { IsSized slot (S.taken shelf.old slot) (S.taken shelf.new slot) result }
 {
-    match read_slot(alloc, shelf, slot, MAX_BYTES) {
+    match read_slot_in(shelf, slot, MAX_BYTES, room) {
         Ok(bytes) => Ok(bytes),
         Err(SlotRefusal::ReadFault) => Err(Stop::ReadFault(slot)),
         Err(SlotRefusal::TooLarge) => Err(Stop::Refused(Refusal {
@@ -128,29 +128,47 @@ fn put_rows(alloc: Global, tables: &mut Tables, slot: Slot, bytes: &[u8]) -> Res
     }
 }
 
-/// The chain's bytes once a slot has been read: the slot's own where it is the chain slot.
-fn chain_after(chain: Sequence<u8>, slot: Slot, bytes: Vec<u8>) -> Sequence<u8>
-    ensures { result ≡ Reading.chain_after chain slot bytes.items }
-{
+/// The text in whose room a slot is read: that of the slot before. The chain's bytes are kept, so
+/// they have a text of their own.
+fn room_for(alloc: Global, slot: Slot, text: Vec<u8>) -> Vec<u8> {
     match slot {
-        Slot::Chain => Sequence::from_vec(bytes),
-        _ => chain,
+        Slot::Chain => Vec::new(alloc),
+        _ => text,
     }
 }
 
-/// The files with what one slot of these bytes holds.
+/// The chain's bytes once a slot has been read: the slot's own where it is the chain slot. And the
+/// text that is not kept.
+fn chain_after(
+    alloc: Global,
+    chain: Sequence<u8>,
+    slot: Slot,
+    bytes: Vec<u8>,
+) -> (Sequence<u8>, Vec<u8>)
+    ensures { result.0 ≡ Reading.chain_after chain slot bytes.items }
+{
+    match slot {
+        Slot::Chain => (Sequence::from_vec(bytes), Vec::new(alloc)),
+        _ => (chain, bytes),
+    }
+}
+
+/// The files with what one slot of these bytes holds, and the text that is not kept.
 #[tactic(auto, unfolding(crate::specs::Reading::with_slot))]
-fn with_slot(alloc: Global, files: Files, slot: Slot, bytes: Vec<u8>) -> Result<Files, InFault>
+fn with_slot(
+    alloc: Global,
+    files: Files,
+    slot: Slot,
+    bytes: Vec<u8>,
+) -> Result<(Files, Vec<u8>), InFault>
     requires { AreTables files.tables }
-    ensures value { Answers (λ more. more) result (Reading.with_slot files slot bytes.items) }
-    ensures ranges { IfOk result (λ more. AreTables more.tables) }
+    ensures value { Answers (λ more. more.0) result (Reading.with_slot files slot bytes.items) }
+    ensures ranges { IfOk result (λ more. AreTables more.0.tables) }
 {
     let Files { mut tables, chain } = files;
     put_rows(alloc, &mut tables, slot, &bytes)?;
-    Ok(Files {
-        tables,
-        chain: chain_after(chain, slot, bytes),
-    })
+    let (chain, text) = chain_after(alloc, chain, slot, bytes);
+    Ok((Files { tables, chain }, text))
 }
 
 /// The files of these slots, each read once, then tested by its size and then by its shape, in this
@@ -172,9 +190,12 @@ pub(crate) fn read_slots<S: Shelf>(
         tables: no_rows(alloc),
         chain: Sequence::new(alloc),
     };
+    let mut text = Vec::new(alloc);
     for slot in order {
-        let bytes = slot_bytes(alloc, shelf, *slot)?;
-        files = with_slot(alloc, files, *slot, bytes)?;
+        let bytes = slot_bytes(shelf, *slot, room_for(alloc, *slot, text))?;
+        let (more, left) = with_slot(alloc, files, *slot, bytes)?;
+        files = more;
+        text = left;
     }
     Ok(files)
 }

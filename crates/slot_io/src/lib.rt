@@ -14,5 +14,5 @@ mod sink;
 pub use counts::raise;
 pub use devices::{DirShelf, Folder, Printed, StdSink, WriterSink};
 pub use refusal::{IoRefusal, SlotRefusal};
-pub use shelf::{Shelf, read_slot};
+pub use shelf::{Shelf, read_slot, read_slot_in};
 pub use sink::{Sink, write_all};

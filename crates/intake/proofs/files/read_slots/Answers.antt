@@ -27,8 +27,8 @@ loop-slot-preserved g c =
     (on_shelf g.S.Shelf.left g.S.Shelf.taken g.S.Shelf.faults c.slot_bytes.new.shelf)
     place slot c.loop-slot.files within (get_or_default order place slot Groups within) c.loop-slot.invariant
     c.in_ok-bytes.ensures.touches
-    c.in_ok-bytes.bytes.items c.in_ok-files.files c.in_ok-bytes.ensures.value c.in_ok-bytes.ensures.ends
-    c.in_ok-files.ensures.value c.in_ok-files.ensures.ranges c.in_ok-bytes.ensures.fault
+    c.in_ok-bytes.bytes.items c.in_ok-more.more c.in_ok-bytes.ensures.value c.in_ok-bytes.ensures.ends
+    c.in_ok-more.ensures.value c.in_ok-more.ensures.ranges c.in_ok-bytes.ensures.fault
     (quiet_in c.in_ok-bytes.ensures.size)
 
 pub returns-in_err-bytes-clause-value : goal.returns-in_err-bytes-clause-value
@@ -65,25 +65,25 @@ returns-in_err-bytes-clause-slots g c =
     c.in_err-bytes.ensures.touches c.in_err-bytes.field-0.0 c.in_err-bytes.ensures.fault)
     c.in_err-bytes.ensures.size
 
-pub returns-in_err-files-clause-value : goal.returns-in_err-files-clause-value
-returns-in_err-files-clause-value g c =
+pub returns-in_err-more-clause-value : goal.returns-in_err-more-clause-value
+returns-in_err-more-clause-value g c =
     λ slots tells.
     let order = c.args.order.now in
     let place = c.loop-slot.slot-index in
     let within : place < length order = omega arith in
     let slot = get_or order place Groups in
-    gives_stop (λ files. files) c.from_residual-in_err-files.result
-    (stop_of c.in_err-files.field-0.0) _ c.from_residual-in_err-files.ensures.1
+    gives_stop (λ files. files) c.from_residual-in_err-more.result
+    (stop_of c.in_err-more.field-0.0) _ c.from_residual-in_err-more.ensures.1
     (rows_stop order c.requires (on_shelf g.S.Shelf.left g.S.Shelf.taken g.S.Shelf.faults c.args.shelf.now)
     (on_shelf g.S.Shelf.left g.S.Shelf.taken g.S.Shelf.faults c.loop-slot.shelf)
     (on_shelf g.S.Shelf.left g.S.Shelf.taken g.S.Shelf.faults c.slot_bytes.new.shelf)
     place slot c.loop-slot.files within (get_or_default order place slot Groups within) c.loop-slot.invariant
     c.in_ok-bytes.ensures.touches
-    c.in_ok-bytes.bytes.items c.in_err-files.field-0.0 c.in_ok-bytes.ensures.value c.in_err-files.ensures.value slots
+    c.in_ok-bytes.bytes.items c.in_err-more.field-0.0 c.in_ok-bytes.ensures.value c.in_err-more.ensures.value slots
     tells)
 
-pub returns-in_err-files-clause-slots : goal.returns-in_err-files-clause-slots
-returns-in_err-files-clause-slots g c =
+pub returns-in_err-more-clause-slots : goal.returns-in_err-more-clause-slots
+returns-in_err-more-clause-slots g c =
     let order = c.args.order.now in
     let place = c.loop-slot.slot-index in
     let within : place < length order = omega arith in
@@ -93,8 +93,8 @@ returns-in_err-files-clause-slots g c =
     (on_shelf g.S.Shelf.left g.S.Shelf.taken g.S.Shelf.faults c.slot_bytes.new.shelf)
     place slot c.loop-slot.files within (get_or_default order place slot Groups within) c.loop-slot.invariant
     c.in_ok-bytes.ensures.touches
-    c.from_residual-in_err-files.result (stop_of c.in_err-files.field-0.0) c.from_residual-in_err-files.ensures.1
-    (refusal_has_cause _ _ _ c.in_err-files.field-0.0) (inl c.in_ok-bytes.ensures.fault)
+    c.from_residual-in_err-more.result (stop_of c.in_err-more.field-0.0) c.from_residual-in_err-more.ensures.1
+    (refusal_has_cause _ _ _ c.in_err-more.field-0.0) (inl c.in_ok-bytes.ensures.fault)
     (inl (quiet_in c.in_ok-bytes.ensures.size))
 
 pub returns-clause-value : goal.returns-clause-value

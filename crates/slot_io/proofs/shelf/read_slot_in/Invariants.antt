@@ -2,7 +2,7 @@ use Rattle.std.proofs.Common.{◌≡◌, ◌≤◌, vec_len, ◌-◌}
 use Rattle.std.specs.Io.KnownBytes.{Consumes}
 use Rattle.slot_io.specs.Bytes.{OthersKept}
 use Rattle.slot_io.specs.Faults.{Counted, NoneFell}
-use Rattle.slot_io.proofs.shelf.read_slot.Given as goal
+use Rattle.slot_io.proofs.shelf.read_slot_in.Given as goal
 
 abbrev pub invariant-reads : goal.invariant-reads
 invariant-reads g l = (vec_len l.bytes ≤ l.limit)
