@@ -2,22 +2,16 @@
 use Rattle.std.proofs.Common.{ℕ, zero, suc, ◌+◌, ◌≤◌, ◌<◌, ◌≡◌, Bool, true, false, ◌&&◌, ◌||◌, List, [], ◌∷◌, ◌++◌, map}
 use Rattle.std.proofs.Common.{length, take, get_or, inl, inr, refl, sym, ◌∙◌, ap, arith, nat_eq, filter, zip, eqb}
 use Rattle.std.specs.Prelude.{◌==◌, All}
-use Rattle.std.specs.List.{enumerate_from, range_with_len, flat_map, dedup, AllByRecursion}
-use Rattle.std.specs.List.Sorted.{IsStrictlyIncreasing, IsPermutation, IsSorted}
-use Rattle.std.specs.Cmp.{both_ways}
+use Rattle.std.specs.List.{enumerate_from, range_with_len, flat_map, dedup}
+use Rattle.std.specs.List.Sorted.{IsPermutation, IsSorted}
 use Rattle.std.specs.Ordering.{nat_cmp}
 use Rattle.std.proofs.lemmas.Bool.{cases_Bool, eqb-true, eq-eqb, false≢true}
-use Rattle.std.proofs.lemmas.Cmp.{nat_eq_equiv}
 use Rattle.std.proofs.lemmas.List.{flat_map_more, take_more, take_all}
 use Rattle.std.proofs.lemmas.List.Elements.{All-filter}
 use Rattle.std.proofs.lemmas.List.Concat.{flat_map-cons}
 use Rattle.std.proofs.lemmas.List.Folds.{list_any-append}
 use Rattle.std.proofs.lemmas.List.FromFn.{get_or-range_with_len, length-range_with_len}
-use Rattle.std.proofs.lemmas.List.Kept.{AllPairs-from_increasing, IsStrictlyIncreasing-filter, Contains-dedup_nat}
-use Rattle.std.proofs.lemmas.List.Kept.{Contains-from_dedup}
-use Rattle.std.proofs.lemmas.List.Sorted.{list_any-IsPermutation}
-use Rattle.std.proofs.lemmas.Map.Keys.{IsStrictlyIncreasing-dedup}
-use Rattle.std.proofs.lemmas.Map.Views.{any-filter_same, list_any-from_Contains, Contains-from_any}
+use Rattle.std.proofs.lemmas.Map.Views.{any-filter_same}
 use Rattle.admit_core.specs.declared.state.Mark.{Mark}
 use Rattle.admit_core.specs.declared.state.Status.{Status}
 use Rattle.admit_core.specs.declared.state.Change.{Change}
@@ -25,10 +19,9 @@ use Rattle.admit_core.specs.DossierRows.{DossierRows, candidate_of}
 use Rattle.admit_core.specs.Lists.{is_among}
 use Rattle.admit_core.specs.OwnWishes.{own_places}
 use Rattle.admit_core.specs.State.{State, status_number}
-use Rattle.admit_core.proofs.Tests.{same_members}
 use Rattle.day_state.specs.Kept.{mark_in}
-use Rattle.day_state.proofs.Ascending.{ascends_from, range_rises}
 use Rattle.auto_answer.specs.Laws.{SameOthers}
+use Rattle.linked_demand.proofs.Listing.{in_order_once}
 use Rattle.desk_day.specs.Changes.{is_answered_change, answered_changes, wishes_beside}
 use Rattle.desk_day.proofs.ChangedMarks.{change_of, is_answered}
 use Rattle.desk_day.proofs.Listed.{listed, listed_some, listed_none}
@@ -71,24 +64,8 @@ pub in_order : (d : DossierRows) (places own sorted once : List ℕ)
     → own ≡ flat_map (λ k. own_places d (candidate_of d k)) places
     → IsPermutation own sorted → IsSorted nat_cmp sorted → once ≡ dedup eqb sorted → once ≡ wishes_beside d places
 in_order d places own sorted once own_is moved rises once_is =
-    once_is
-    ∙ same_members (dedup eqb sorted) (wishes_beside d places)
-    (ascends_from (dedup eqb sorted) (IsStrictlyIncreasing-dedup sorted rises))
-    (ascends_from (wishes_beside d places)
-    (IsStrictlyIncreasing-filter (λ k. is_among (candidate_of d k) (map (candidate_of d) places))
-    (range_with_len 0 (length d.wishes))
-    (range_rises 0 (length d.wishes))))
-    (λ q. once_among q ∙ sym (list_any-IsPermutation (nat_eq q) own sorted moved) ∙ ap (is_among q) own_is
-    ∙ among_own d places q
-    ∙ sym (among_beside d places q))
-  where
-    once_among : (q : ℕ) → is_among q (dedup eqb sorted) ≡ is_among q sorted
-    once_among q =
-        both_ways (is_among q (dedup eqb sorted)) (is_among q sorted)
-        (λ t. list_any-from_Contains nat_eq_equiv q sorted (Contains-from_dedup eqb sorted q
-        (Contains-from_any eqb-true q (dedup eqb sorted) t)))
-        (λ t. list_any-from_Contains nat_eq_equiv q (dedup eqb sorted) (Contains-dedup_nat sorted q
-        (Contains-from_any eqb-true q sorted t)))
+    in_order_once (λ k. is_among (candidate_of d k) (map (candidate_of d) places)) (length d.wishes) own sorted once
+    (λ q. ap (is_among q) own_is ∙ among_own d places q ∙ sym (among_beside d places q)) moved rises once_is
 
 -- whether the wish at a place changed, and its change
 abbrev pub changed_at : List Mark → List Mark → ℕ → Bool

@@ -12,6 +12,7 @@ use Rattle.desk_day.specs.DeskStates.{DeskStates}
 use Rattle.desk_day.specs.RunDay.{Moment, IsDayDone, EndsDay, KeepsOpening, TellsNoneUnfit}
 use Rattle.desk_day.specs.Running.{IsUndone, RunningStates, moment_on}
 use Rattle.desk_day.proofs.PassesSoFar.{tells_still}
+use Rattle.desk_day.proofs.ToldPasses.{told_nothing}
 use Rattle.desk_day.specs.declared.refusal.DayRefusal.{DayRefusal}
 use Rattle.desk_day.specs.declared.refusal.DayRefusal.TheVariants as refusals
 
@@ -32,16 +33,20 @@ tells_none before after same (refusals.Unfit refusal) = same
 tells_none before after same refusals.OutOfMemory = tells_still before after same
 
 -- a day whose answers were not all done has made no pass
-pub not_begun : {T : Type 0} (terms : Option Terms) (day : ℕ) (before after : Moment) (r : Result T DayRefusal)
-    (refusal : DayRefusal) → IsErrAnd r (λ e. e ≡ refusal)
+pub not_begun : {T : Type 0} (terms : Option Terms) (orders : List CallOrder) (ceilings : List ℕ) (day : ℕ)
+    (before after : Moment) (r : Result T DayRefusal) (refusal : DayRefusal) → IsErrAnd r (λ e. e ≡ refusal)
     → IsUnfitOf before.desk.present.dossier day (unfit_on terms day before.desk.present) refusal
-    → after.desk.opening ≡ before.desk.opening → after.told ≡ before.told → IfErr r (IsUndone terms day before after)
-not_begun terms day before after (Ok x) refusal is unfit opening told = tt
-not_begun terms day before after (Err e) refusal is unfit opening told =
-    subst (λ (x : DayRefusal). IsUndone terms day before after x) (sym is) (record {
+    → after.desk.opening ≡ before.desk.opening → after.told ≡ before.told
+    → IfErr r (IsUndone terms orders ceilings day before after)
+not_begun terms orders ceilings day before after (Ok x) refusal is unfit opening told = tt
+not_begun terms orders ceilings day before after (Err e) refusal is unfit opening told =
+    let nothing = told_nothing orders ceilings day before.choice (morning terms day before.desk.present) before.told in
+    subst (λ (x : DayRefusal). IsUndone terms orders ceilings day before after x) (sym is) (record {
       unfit = unfit;
       unopened = keeps_still before.desk.opening after.desk.opening opening refusal;
       untold = tells_none before.told after.told told refusal;
+      asked = subst (λ (ts : List ℕ). TellsOfPasses orders ceilings day (morning terms day before.desk.present)
+          before.choice before.told ts) (sym told) nothing;
     })
 
 -- a day on a desk from the day that ran on its states
@@ -85,11 +90,10 @@ module _ (terms : Option Terms) (orders : List CallOrder) (ceilings : List ℕ) 
       }))
 
   pub ends_undone : (refusal : DayRefusal) → noted.present ≡ was.present → noted.opening ≡ new.opening
-      → IsUndone terms day (moment_on was was.present told choice)
+      → IsUndone terms orders ceilings day (moment_on was was.present told choice)
       (moment_on new was.present told_after choice_after) refusal
-      → TellsOfPasses orders ceilings day (morning terms day was.present) choice told told_after
       → Ends desk noted (Err refusal)
-  ends_undone refusal restored opened undone asked = subst (λ (d : DeskStates). Ends d noted (Err refusal)) is (record {
+  ends_undone refusal restored opened undone = subst (λ (d : DeskStates). Ends d noted (Err refusal)) is (record {
     done = tt;
     unfit = undone.unfit;
     restored = restored;
@@ -97,6 +101,6 @@ module _ (terms : Option Terms) (orders : List CallOrder) (ceilings : List ℕ) 
     dossier = ap (λ (s : State). s.dossier) restored;
     unopened = subst (λ (o : State). KeepsOpening was.opening o refusal) (sym opened) undone.unopened;
     untold = undone.untold;
-    asked = asked;
+    asked = undone.asked;
     choice = kept;
   })

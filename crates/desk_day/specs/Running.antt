@@ -5,10 +5,10 @@ use Rattle.admit_core.specs.declared.records.PassEnd.{PassEnd}
 use Rattle.admit_core.specs.declared.records.Terms.{Terms}
 use Rattle.admit_core.specs.declared.state.Freed.{Freed}
 use Rattle.admit_core.specs.declared.state.Stamp.{Stamp}
-use Rattle.admit_core.specs.Days.{IsPassEnd, Passes, closing, frees_nothing, unfit_on}
+use Rattle.admit_core.specs.Days.{IsPassEnd, Passes, closing, frees_nothing, morning, unfit_on}
 use Rattle.admit_core.specs.State.{State}
 use Rattle.desk_day.specs.AnswersOn.{IsUnfitOf}
-use Rattle.desk_day.specs.DayPasses.{IsAnsweredBut, last_opening, open_wishes}
+use Rattle.desk_day.specs.DayPasses.{IsAnsweredBut, TellsOfPasses, last_opening, open_wishes}
 use Rattle.desk_day.specs.DayPlaces.{AreWishesOf}
 use Rattle.desk_day.specs.RunDay.{KeepsOpening, Moment, TellsNoneUnfit}
 use Rattle.desk_day.specs.declared.refusal.DayRefusal.{DayRefusal}
@@ -18,9 +18,10 @@ pub record RunningStates : Type 0 where
   pub present : State
   pub opening : State
 
--- both are of one dossier, and so are some wishes. Where that is known, all have been answered for in
--- the present state but maybe those who have one of these wishes, or the opening is that state
-pub record IsRunning (is_answered is_alike : Bool) (beside : List ℕ) (s : RunningStates) : Type 0 where
+-- both are of one dossier, and so are some wishes. Where that is known, all have been answered for
+-- in the present state but maybe those who have one of these wishes, or the opening is that state
+pub record IsRunning (is_answered is_alike : Bool) (beside : List ℕ)
+    (s : RunningStates) : Type 0 where
   pub dossier : s.opening.dossier ≡ s.present.dossier
   pub within : AreWishesOf s.present.dossier beside
   pub answered : is_answered ≡ true → IsAnsweredBut beside s.present
@@ -58,9 +59,12 @@ moment_on running evening told choice = record {
 }
 
 -- why a day has not come about, and what its picker told and its last pass opened with by then
-pub record IsUndone (terms : Option Terms) (day : ℕ) (before after : Moment)
-    (refusal : DayRefusal) : Type 0 where
+pub record IsUndone (terms : Option Terms) (orders : List CallOrder) (ceilings : List ℕ) (day : ℕ)
+    (before after : Moment) (refusal : DayRefusal) : Type 0 where
   pub unfit : IsUnfitOf before.desk.present.dossier day (unfit_on terms day before.desk.present)
       refusal
   pub unopened : KeepsOpening before.desk.opening after.desk.opening refusal
   pub untold : TellsNoneUnfit before.told after.told refusal
+  -- the whole passes that it told of, and the beginning of one
+  pub asked : TellsOfPasses orders ceilings day (morning terms day before.desk.present)
+      before.choice before.told after.told

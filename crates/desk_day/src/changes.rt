@@ -1,8 +1,5 @@
 //! What the automatic answers after a pass changed.
-ghost use Rattle.std.specs.Prelude.{◌≡◌, ◌<◌, ◌≤◌, ◌+◌, length, IfOk, ◌&&◌, ◌==◌, not};
-ghost use Rattle.admit_core.specs.State.{status_number};
-ghost use Rattle.admit_core.specs.Answers.{status_at};
-ghost use Rattle.admit_core.specs.Lapses.{is_offered};
+ghost use Rattle.std.specs.Prelude.{◌≡◌, ◌<◌, IfOk, ◌&&◌};
 ghost use Rattle.auto_answer.specs.Laws.{SameOthers};
 ghost use Rattle.desk_day.specs.Changes.{answered_changes, is_answered_change, wishes_beside};
 ghost use Rattle.desk_day.specs.DayPlaces.{AreWishesOf};

@@ -1,11 +1,11 @@
 //! A day.
-ghost use Rattle.std.specs.Prelude.{◌≡◌, length, [], IfOk, IfErr, None, OnErr};
+ghost use Rattle.std.specs.Prelude.{◌≡◌, length, [], IfOk, IfErr, None};
 ghost use Rattle.std.specs.Option.{option_copied};
 ghost use Rattle.admit_core.specs.Ranges.{IsDay as IsDayNumber};
 ghost use Rattle.admit_core.specs.Days.{lapsed_on, morning, unfit_on};
 ghost use Rattle.admit_core.specs.Lapses.{AreTermsFor};
 ghost use Rattle.desk_day.specs.AnswersOn.{IsUnfitOf};
-ghost use Rattle.desk_day.specs.DayPasses.{IsAnswered, IsAnsweredBut, TellsOfPasses};
+ghost use Rattle.desk_day.specs.DayPasses.{IsAnswered, IsAnsweredBut};
 ghost use Rattle.desk_day.specs.DayPlaces.{AreWishesOf};
 ghost use Rattle.desk_day.specs.KeptDays.{EndsDayKept, kept_day};
 ghost use Rattle.desk_day.specs.RunDay.{EndsDay, IsDayDone};
@@ -19,7 +19,7 @@ use crate::lapses::lapses_by;
 use crate::morning::make_morning;
 use crate::plan::DayPlan;
 use crate::refusal::DayRefusal;
-use crate::running::{Running, both};
+use crate::running::Running;
 use crate::touched::list_touched;
 use admit_core::{DayRecord, Lapse, Terms};
 use bar_fixpoint::Picker;
@@ -82,7 +82,7 @@ pub fn run_day_by(
     desk.is_still = false;
     match outcome {
         Ok(done) => {
-            let is_still = both(is_settled, is_idle(desk.evening.dossier(), &done));
+            let is_still = is_settled & is_idle(desk.evening.dossier(), &done);
             desk.running.note_alike(is_still);
             desk.is_still = is_still;
             Ok(done)
@@ -113,13 +113,10 @@ impl Running<'_> {
             plan.entry.day
             (moment_on self.old self.old.present (told picker.old) (choice picker.old)) done
             (moment_on self.new self.old.present (told picker.new) (choice picker.new)))) }
-        ensures undone { IfErr result (IsUndone (option_copied plan.entry.terms) plan.entry.day
+        ensures undone { IfErr result (IsUndone (option_copied plan.entry.terms) roster.now.orders
+            plan.entry.ceilings.now plan.entry.day
             (moment_on self.old self.old.present (told picker.old) (choice picker.old))
             (moment_on self.new self.old.present (told picker.new) (choice picker.new))) }
-        ensures asked { OnErr result (TellsOfPasses roster.now.orders plan.entry.ceilings.now
-            plan.entry.day
-            (morning (option_copied plan.entry.terms) plan.entry.day self.old.present)
-            (choice picker.old) (told picker.old) (told picker.new)) }
         ensures choice { choice picker.new ≡ choice picker.old }
         ensures dossier { self.new.present.dossier ≡ self.old.present.dossier }
     {
@@ -159,7 +156,7 @@ impl Running<'_> {
         self.is_answered = false;
         self.is_alike = false;
         let Begun { lapsed, beside } = begin_day(alloc, &mut self.present, terms, day)?;
-        self.is_alike = both(was_alike, beside.as_slice().is_empty());
+        self.is_alike = was_alike & beside.as_slice().is_empty();
         self.is_answered = was_settled;
         self.beside = beside;
         Ok(lapsed)

@@ -1,5 +1,5 @@
 //! The states of a day that runs.
-ghost use Rattle.std.specs.Prelude.{◌≡◌, ◌&&◌, IfOk, true};
+ghost use Rattle.std.specs.Prelude.{◌≡◌, IfOk, true};
 ghost use Rattle.admit_core.specs.Days.{first_evening};
 ghost use Rattle.desk_day.specs.DayPasses.{IsAnswered};
 ghost use Rattle.desk_day.specs.Running.{RunningStates};
@@ -97,7 +97,7 @@ impl<'d> Running<'d> {
         ensures { result ≡ true → IsAnswered self.now.present }
     {
         let _ = self.present.marks(); // one for each wish
-        both(self.is_answered, self.beside.as_slice().is_empty())
+        self.is_answered & self.beside.as_slice().is_empty()
     }
 
     /// Notes whether the opening is the present state.
@@ -128,11 +128,4 @@ impl<'d> Running<'d> {
             self.opening.set_from(&self.present);
         }
     }
-}
-
-/// Whether two tests both pass.
-pub(crate) fn both(one: bool, other: bool) -> bool
-    ensures { result ≡ (one && other) }
-{
-    one && other
 }

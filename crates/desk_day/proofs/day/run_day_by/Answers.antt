@@ -44,7 +44,7 @@ note_alike-requires g c =
     let kept = c.keep_evening.ensures ∙ c.now-2.ensures in
     let same = c.dossier.ensures ∙ ap (λ (t : State). t.dossier) kept in
     λ is.
-    let parts = and_parts _ _ (sym c.both-is_still.ensures ∙ is) in
+    let parts = and_parts _ _ is in
     let alike = idle_day terms c.args.roster.now.orders c.args.plan.ceilings.now c.args.plan.day _
     c.in-Ok.ensures.done.0 _ long
     each
@@ -70,7 +70,7 @@ invariant_of-desk g c =
       dossier = ap (λ (t : State). t.dossier) kept ∙ sym c.play-outcome.ensures.dossier
           ∙ sym (ap (λ (t : State). t.dossier) noted);
       still = λ is.
-          let parts = and_parts _ _ (sym c.both-is_still.ensures ∙ is) in
+          let parts = and_parts _ _ is in
           let alike = idle_day terms c.args.roster.now.orders c.args.plan.ceilings.now c.args.plan.day _
           c.in-Ok.ensures.done.0 _ long
           each
@@ -104,6 +104,6 @@ returns-in-Err g c =
     let kept = c.keep_evening.ensures ∙ c.now-2.ensures in (
       Err c.in-Err.refusal,
       ends_undone _ _ _ _ _ _ _ _ _ _ _ _ _ _ c.desk.view_is kept c.play-outcome.ensures.choice c.in-Err.refusal
-          (c.restore.ensures.present ∙ kept) c.restore.ensures.opening c.in-Err.ensures.undone c.in-Err.ensures.asked,
+          (c.restore.ensures.present ∙ kept) c.restore.ensures.opening c.in-Err.ensures.undone,
       refl,
     )

@@ -32,7 +32,7 @@ invariant_of-self-2 c =
       within = c.in_ok-lapsed.ensures.within;
       answered = λ known. c.in_ok-lapsed.ensures.answered (answered (c.is_settled-was_settled.ensures known));
       alike = λ known.
-          let parts = and_parts _ _ (sym c.both-self-inside.ensures ∙ known) in
+          let parts = and_parts _ _ known in
           c.self.invariant.alike parts.0
           ∙ sym (c.in_ok-lapsed.ensures.alike (sym c.as_slice.ensures.value
           ∙ no_items c.as_slice.result.now (sym c.is_empty.ensures ∙ parts.1)));

@@ -10,7 +10,7 @@ use Rattle.desk_day.proofs.running.Running.is_settled.Goals as goal
 pub returns : goal.returns
 returns c = λ is.
     let s = c.self.inside.present in
-    let parts = and_parts c.self.inside.is_answered c.is_empty.result (sym c.both.ensures ∙ is) in
+    let parts = and_parts c.self.inside.is_answered c.is_empty.result is in
     let long : length s.marks ≡ length s.dossier.wishes =
     ap (λ (ms : List Mark). length ms) (sym c.marks.ensures.marks) ∙ c.marks.ensures.one_each in
     subst (λ (r : RunningStates). IsAnswered r.present) c.self.view_is

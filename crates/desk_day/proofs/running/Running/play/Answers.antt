@@ -1,6 +1,5 @@
 use Rattle.std.proofs.Common.{List, ◌∙◌, ◌≤◌, ◌+◌, ap, length, refl, subst, sym}
 use Rattle.std.proofs.lemmas.Result.{IfOk-from_err}
-use Rattle.admit_core.proofs.Plain.{on_err}
 use Rattle.std.specs.Option.{option_copied}
 use Rattle.admit_core.specs.declared.records.PassEnd.{PassEnd}
 use Rattle.admit_core.specs.CallOrder.{AreCallOrders}
@@ -14,7 +13,7 @@ use Rattle.desk_day.proofs.DayEnds.{not_begun, ran_out}
 use Rattle.desk_day.proofs.DayLaws.{laws_kept}
 use Rattle.desk_day.proofs.DayPlaces.{day_in}
 use Rattle.desk_day.proofs.Stamps.{stamps_kept}
-use Rattle.desk_day.proofs.ToldPasses.{told_more, told_nothing, told_there, told_to_the_end}
+use Rattle.desk_day.proofs.ToldPasses.{told_more, told_there, told_to_the_end}
 use Rattle.desk_day.proofs.running.Running.play.Goals as goal
 
 pub make_passes-requires : goal.make_passes-requires
@@ -25,7 +24,7 @@ make_passes-requires g c = record {
 
 pub returns-in_err-lapsed-clause-undone : goal.returns-in_err-lapsed-clause-undone
 returns-in_err-lapsed-clause-undone g c =
-    not_begun _ _ _ _ c.from_residual.result c.in_err-lapsed.field-0.0 c.from_residual.ensures.1
+    not_begun _ _ _ _ _ _ c.from_residual.result c.in_err-lapsed.field-0.0 c.from_residual.ensures.1
     c.in_err-lapsed.ensures.unfit
     c.begin_day.ensures.opening refl
 
@@ -38,22 +37,8 @@ returns-in_err-passes-clause-undone g c = ran_out _ _ c.from_residual-in_err-pas
       unfit = c.in_ok-lapsed.ensures.fits;
       unopened = tt;
       untold = told_more _ _ _ _ _ _ _ c.in_err-passes.ensures.early;
+      asked = told_there _ _ c.in_ok-lapsed.ensures.present _ _ _ _ _ _ c.in_err-passes.ensures.early;
     })
-
-pub returns-in_err-lapsed-clause-asked : goal.returns-in_err-lapsed-clause-asked
-returns-in_err-lapsed-clause-asked g c = on_err c.from_residual.result (told_nothing _ _ _ _ _ _)
-
-pub returns-in_err-passes-clause-asked : goal.returns-in_err-passes-clause-asked
-returns-in_err-passes-clause-asked g c =
-    on_err c.from_residual-in_err-passes.result
-    (told_there _ _ c.in_ok-lapsed.ensures.present _ _ _ _ _ _ c.in_err-passes.ensures.early)
-
-pub returns-in_err-done-clause-asked : goal.returns-in_err-done-clause-asked
-returns-in_err-done-clause-asked g c =
-    let picked = c.in_ok-passes.ensures.made.1 in
-    on_err c.from_residual-in_err-done.result
-    (told_there _ _ c.in_ok-lapsed.ensures.present _ _ _ _ _ _
-    (told_to_the_end _ _ _ _ _ _ _ _ _ picked.made.passes picked.chosen picked.told_of))
 
 pub returns-in_err-passes-clause-dossier : goal.returns-in_err-passes-clause-dossier
 returns-in_err-passes-clause-dossier g c = c.make_passes.ensures.dossier ∙ c.begin_day.ensures.dossier
@@ -62,8 +47,16 @@ pub returns-in_err-done-clause-done : goal.returns-in_err-done-clause-done
 returns-in_err-done-clause-done g c = IfOk-from_err _ _ c.from_residual-in_err-done.ensures.0
 
 pub returns-in_err-done-clause-undone : goal.returns-in_err-done-clause-undone
-returns-in_err-done-clause-undone g c = ran_out _ _ c.from_residual-in_err-done.ensures.1
-    (record { unfit = c.in_ok-lapsed.ensures.fits; unopened = tt; untold = (_, c.in_ok-passes.ensures.made.1.told_of) })
+returns-in_err-done-clause-undone g c =
+    let picked = c.in_ok-passes.ensures.made.1 in
+    ran_out _ _ c.from_residual-in_err-done.ensures.1
+    (record {
+      unfit = c.in_ok-lapsed.ensures.fits;
+      unopened = tt;
+      untold = (_, picked.told_of);
+      asked = told_there _ _ c.in_ok-lapsed.ensures.present _ _ _ _ _ _
+          (told_to_the_end _ _ _ _ _ _ _ _ _ picked.made.passes picked.chosen picked.told_of);
+    })
 
 pub returns-in_err-done-clause-dossier : goal.returns-in_err-done-clause-dossier
 returns-in_err-done-clause-dossier g c = c.make_passes.ensures.dossier ∙ c.begin_day.ensures.dossier
