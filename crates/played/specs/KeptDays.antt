@@ -1,15 +1,19 @@
 -- What was played, of whose days the falls are kept or left out.
-use Rattle.std.specs.Prelude.{◌≡◌, ℕ, Bool, List, map, Option, Result}
+use Rattle.std.specs.Prelude.{◌≡◌, ℕ, Bool, List, map, MatchResult, Option, Result}
 use Rattle.admit_core.specs.DossierRows.{DossierRows}
+use Rattle.admit_core.specs.declared.ranking.CallOrder.{CallOrder}
 use Rattle.admit_core.specs.declared.records.DayRecord.{DayRecord}
 use Rattle.admit_core.specs.declared.records.Terms.{Terms}
+use Rattle.admit_core.specs.declared.refusal.Refusal.{Refusal}
 use Rattle.desk_day.specs.DeskStates.{DeskStates}
 use Rattle.desk_day.specs.KeptDays.{kept_day}
 use Rattle.desk_day.specs.declared.refusal.DayRefusal.{DayRefusal}
 use Rattle.request.specs.declared.pickers.PickerChoice.{PickerChoice}
 use Rattle.round.specs.KeptFalls.{IsKeptOf}
+use Rattle.played.specs.LastDesks.{DeskLeft, EndsBy}
 use Rattle.played.specs.Lent.{Lent}
-use Rattle.played.specs.PlayedDays.{IsPlayed, OnFit, Plan, Played, PlaysDays}
+use Rattle.played.specs.PlayedDays.{BreaksDays, IsPlayed, OnFit, Plan, Played, PlaysDays, first_desk}
+use Rattle.played.specs.declared.wanted.Wanted.{Wanted}
 
 -- what was played, with all falls where they are kept, and with none elsewhere
 abbrev pub kept_played : Bool → Played → Played
@@ -29,3 +33,15 @@ abbrev pub IsPlayedKept : Bool → DossierRows → Option Terms → ℕ → Pick
     → Lent → Type 0
 IsPlayedKept keeps d terms number who before kept after =
     IsKeptOf (kept_played keeps) (λ whole. IsPlayed d terms number who before whole after) kept
+
+-- how the days of a dossier end that are asked for: they were played, and what an outcome has of
+-- their records and of their end is kept of them; or memory ran out
+abbrev pub EndsWanted : {X E : Type 0} → Wanted → List CallOrder → DossierRows → Option Terms → Lent
+    → Lent → Result X E → (X → List DayRecord) → (X → Result DeskLeft Refusal) → Type 0
+EndsWanted wanted orders d terms before after result days end =
+    MatchResult result
+    (λ x. EndsBy orders wanted.number
+    (λ played. IsPlayedKept wanted.keeps_falls d terms wanted.number wanted.who before played after)
+    (days x) (end x))
+    (λ _. BreaksDays (record { orders = orders; terms = terms; who = wanted.who }) wanted.number
+    (first_desk d) before after)

@@ -2,7 +2,7 @@
 ghost use Rattle.std.specs.Prelude.{◌≡◌, ◌≤◌, ◌<◌, false, [], ◌∷◌, ◌++◌, MatchResult, Ok, OnOk, option_copied};
 ghost use Rattle.admit_core.specs.CallOrder.{AreCallOrders};
 ghost use Rattle.admit_core.specs.Lapses.{AreTermsFor};
-ghost use Rattle.played.specs.KeptDays.{IsPlayedKept, PlaysDaysKept};
+ghost use Rattle.played.specs.KeptDays.{EndsWanted, PlaysDaysKept};
 ghost use Rattle.played.specs.LastDesks.{EndsBy, IsUnasked};
 ghost use Rattle.played.specs.Lent.{AreBack, AreThere, lent};
 ghost use Rattle.played.specs.PlayedDays.{BreaksDays, IsPlayed, first_desk};
@@ -102,19 +102,10 @@ fn play_some<'a, 'd>(
     ensures there { AreThere pickers.new }
     ensures back { AreBack (lent (λ p. told p) (λ p. choice p) pickers.old)
         (lent (λ p. told p) (λ p. choice p) pickers.new) }
-    ensures ends { MatchResult result
-        (λ p. EndsBy orders.now.orders wanted.number
-        (λ played. IsPlayedKept wanted.keeps_falls
-        dossier.now (option_copied terms.entry) wanted.number wanted.who
-        (lent (λ p. told p) (λ p. choice p) pickers.old) played
-        (lent (λ p. told p) (λ p. choice p) pickers.new)) p.days.items p.end)
-        (λ _. BreaksDays (record {
-          orders = orders.now.orders;
-          terms = option_copied terms.entry;
-          who = wanted.who;
-        }) wanted.number (first_desk dossier.now)
+    ensures ends { EndsWanted wanted orders.now.orders dossier.now (option_copied terms.entry)
         (lent (λ p. told p) (λ p. choice p) pickers.old)
-        (lent (λ p. told p) (λ p. choice p) pickers.new)) }
+        (lent (λ p. told p) (λ p. choice p) pickers.new)
+        result (λ p. p.days.items) (λ p. p.end) }
 {
     let (mut desk, roster) = DeskAlong::begin(alloc, dossier, orders)?.into_parts();
     let mut days = Vec::new(alloc);
@@ -194,19 +185,10 @@ pub fn play_wanted<'a, 'd>(
         (lent (λ p. told p) (λ p. choice p) pickers.new) }
     ensures idle { wanted.number ≡ 0 → IsUnasked (lent (λ p. told p) (λ p. choice p) pickers.old)
         (lent (λ p. told p) (λ p. choice p) pickers.new) result }
-    ensures ends { MatchResult result
-        (λ p. EndsBy orders.now.orders wanted.number
-        (λ played. IsPlayedKept wanted.keeps_falls
-        dossier.now (option_copied terms.entry) wanted.number wanted.who
-        (lent (λ p. told p) (λ p. choice p) pickers.old) played
-        (lent (λ p. told p) (λ p. choice p) pickers.new)) p.days.items p.end)
-        (λ _. BreaksDays (record {
-          orders = orders.now.orders;
-          terms = option_copied terms.entry;
-          who = wanted.who;
-        }) wanted.number (first_desk dossier.now)
+    ensures ends { EndsWanted wanted orders.now.orders dossier.now (option_copied terms.entry)
         (lent (λ p. told p) (λ p. choice p) pickers.old)
-        (lent (λ p. told p) (λ p. choice p) pickers.new)) }
+        (lent (λ p. told p) (λ p. choice p) pickers.new)
+        result (λ p. p.days.items) (λ p. p.end) }
 {
     if wanted.number == 0 {
         return Ok(unplayed(alloc, dossier, orders));
