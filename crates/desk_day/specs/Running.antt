@@ -1,14 +1,15 @@
 -- What the desk of a day that runs holds.
-use Rattle.std.specs.Prelude.{◌≡◌, ℕ, ◌+◌, ◌≤◌, ◌<◌, Bool, true, not, List, length, Option, IsTrue, if◌then◌else◌}
+use Rattle.std.specs.Prelude.{◌≡◌, ℕ, ◌+◌, ◌≤◌, ◌<◌, Bool, true, not, List, [], length, Option, None, IsTrue, if◌then◌else◌}
 use Rattle.admit_core.specs.declared.ranking.CallOrder.{CallOrder}
+use Rattle.admit_core.specs.declared.records.Lapse.{Lapse}
 use Rattle.admit_core.specs.declared.records.PassEnd.{PassEnd}
 use Rattle.admit_core.specs.declared.records.Terms.{Terms}
 use Rattle.admit_core.specs.declared.state.Freed.{Freed}
 use Rattle.admit_core.specs.declared.state.Stamp.{Stamp}
-use Rattle.admit_core.specs.Days.{IsPassEnd, Passes, closing, frees_nothing, morning, unfit_on}
+use Rattle.admit_core.specs.Days.{IsPassEnd, Passes, closing, frees_nothing, lapsed_on, morning, unfit_on}
 use Rattle.admit_core.specs.State.{State}
 use Rattle.desk_day.specs.AnswersOn.{IsUnfitOf}
-use Rattle.desk_day.specs.DayPasses.{IsAnsweredBut, TellsOfPasses, last_opening, open_wishes}
+use Rattle.desk_day.specs.DayPasses.{IsAnswered, IsAnsweredBut, TellsOfPasses, last_opening, open_wishes}
 use Rattle.desk_day.specs.DayPlaces.{AreWishesOf}
 use Rattle.desk_day.specs.RunDay.{KeepsOpening, Moment, TellsNoneUnfit}
 use Rattle.desk_day.specs.declared.refusal.DayRefusal.{DayRefusal}
@@ -57,6 +58,17 @@ moment_on running evening told choice = record {
   told = told;
   choice = choice;
 }
+
+-- the lapse and the answers of a day have been made: these offers lapsed, and only those who have
+-- one of these wishes may have changed
+pub record IsBegun (terms : Option Terms) (day : ℕ) (old new : State) (lapsed : List Lapse)
+    (beside : List ℕ) : Type 0 where
+  pub lapses : lapsed ≡ lapsed_on terms day old
+  pub fits : unfit_on terms day old ≡ None
+  pub state : new ≡ morning terms day old
+  pub within : AreWishesOf new.dossier beside
+  pub answered : IsAnswered old → IsAnsweredBut beside new
+  pub alike : beside ≡ [] → new ≡ old
 
 -- why a day has not come about, and what its picker told and its last pass opened with by then
 pub record IsUndone (terms : Option Terms) (orders : List CallOrder) (ceilings : List ℕ) (day : ℕ)

@@ -1,15 +1,13 @@
 //! A day.
-ghost use Rattle.std.specs.Prelude.{◌≡◌, length, [], IfOk, IfErr, None};
+ghost use Rattle.std.specs.Prelude.{◌≡◌, length, IfOk, IfErr, None};
 ghost use Rattle.std.specs.Option.{option_copied};
 ghost use Rattle.admit_core.specs.Ranges.{IsDay as IsDayNumber};
 ghost use Rattle.admit_core.specs.Days.{lapsed_on, morning, unfit_on};
 ghost use Rattle.admit_core.specs.Lapses.{AreTermsFor};
 ghost use Rattle.desk_day.specs.AnswersOn.{IsUnfitOf};
-ghost use Rattle.desk_day.specs.DayPasses.{IsAnswered, IsAnsweredBut};
-ghost use Rattle.desk_day.specs.DayPlaces.{AreWishesOf};
 ghost use Rattle.desk_day.specs.KeptDays.{EndsDayKept, kept_day};
 ghost use Rattle.desk_day.specs.RunDay.{EndsDay, IsDayDone};
-ghost use Rattle.desk_day.specs.Running.{IsUndone, moment_on};
+ghost use Rattle.desk_day.specs.Running.{IsBegun, IsUndone, moment_on};
 ghost use Rattle.round.specs.KeptFalls.{IsKeptOf, are_kept};
 
 use crate::desk::{Desk, keep_evening};
@@ -183,15 +181,8 @@ pub fn begin_day(
     requires before { AreTermsFor state.old.dossier (option_copied terms) }
     requires day { IsDayNumber day }
 
-    ensures lapsed { IfOk result (λ begun. begun.lapsed.items ≡ lapsed_on
-        (option_copied terms.entry) day state.old) }
-    ensures fits { IfOk result (λ _. unfit_on (option_copied terms.entry) day state.old ≡ None) }
-    ensures state { IfOk result (λ _. state.new ≡ morning (option_copied terms.entry) day
-        state.old) }
-    ensures within { IfOk result (λ begun. AreWishesOf state.new.dossier begun.beside.items) }
-    ensures answered { IfOk result (λ begun. IsAnswered state.old
-        → IsAnsweredBut begun.beside.items state.new) }
-    ensures alike { IfOk result (λ begun. begun.beside.items ≡ [] → state.new ≡ state.old) }
+    ensures begun { IfOk result (λ begun. IsBegun (option_copied terms.entry) day state.old
+        state.new begun.lapsed.items begun.beside.items) }
     ensures unfit { IfErr result
         (IsUnfitOf state.old.dossier day (unfit_on (option_copied terms.entry) day state.old)) }
     ensures dossier { state.new.dossier ≡ state.old.dossier }

@@ -18,24 +18,21 @@ list_touched-requires c =
     (c.as_slice.ensures.value ∙ c.in_ok-lapsed.ensures)
     (lapsed_in (option_copied c.args.terms) c.args.day s c.requires.before))
 
-pub returns-clause-answered : goal.returns-clause-answered
-returns-clause-answered c =
+pub returns-clause-begun : goal.returns-clause-begun
+returns-clause-begun c =
     let s = c.args.state.now in
     let terms = option_copied c.args.terms in
     let m = c.make_morning.new.state in
     let long : length s.marks ≡ length s.dossier.wishes =
     ap (λ (ms : List Mark). length ms) (sym c.marks.ensures.marks) ∙ c.marks.ensures.one_each in
-    morning_answered terms c.args.day s m c.as_slice.result.now c.in_ok-beside.beside.items long c.requires.before
-    c.in_ok-make_morning.ensures.morning
-    (c.as_slice.ensures.value ∙ c.in_ok-lapsed.ensures) c.in_ok-beside.ensures.listed
-
-pub returns-clause-alike : goal.returns-clause-alike
-returns-clause-alike c =
-    let s = c.args.state.now in
-    let terms = option_copied c.args.terms in
-    let m = c.make_morning.new.state in
-    let long : length s.marks ≡ length s.dossier.wishes =
-    ap (λ (ms : List Mark). length ms) (sym c.marks.ensures.marks) ∙ c.marks.ensures.one_each in
-    morning_alike terms c.args.day s m c.as_slice.result.now c.in_ok-beside.beside.items long c.requires.before
-    c.in_ok-make_morning.ensures.morning
-    (c.as_slice.ensures.value ∙ c.in_ok-lapsed.ensures) c.in_ok-beside.ensures.listed
+    let gone = c.as_slice.ensures.value ∙ c.in_ok-lapsed.ensures in
+    record {
+      lapses = c.in_ok-lapsed.ensures;
+      fits = c.in_ok-make_morning.ensures.fits;
+      state = c.in_ok-make_morning.ensures.morning;
+      within = c.in_ok-beside.ensures.within;
+      answered = morning_answered terms c.args.day s m c.as_slice.result.now c.in_ok-beside.beside.items long
+          c.requires.before c.in_ok-make_morning.ensures.morning gone c.in_ok-beside.ensures.listed;
+      alike = morning_alike terms c.args.day s m c.as_slice.result.now c.in_ok-beside.beside.items long
+          c.requires.before c.in_ok-make_morning.ensures.morning gone c.in_ok-beside.ensures.listed;
+    }

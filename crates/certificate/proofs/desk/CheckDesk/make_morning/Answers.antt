@@ -22,7 +22,7 @@ invariant_of-self c = record {
 
 pub invariant_of-self-2 : goal.invariant_of-self-2
 invariant_of-self-2 c = record {
-  within = c.in_ok-beside.ensures.within;
-  answered = λ known. c.in_ok-beside.ensures.answered
+  within = c.in_ok-beside.ensures.begun.within;
+  answered = λ known. c.in_ok-beside.ensures.begun.answered
       (subst IsAnswered (sym c.self.view_is) (c.is_settled-was_settled.ensures known));
 }

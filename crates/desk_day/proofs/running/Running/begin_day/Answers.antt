@@ -29,11 +29,11 @@ invariant_of-self-2 c =
     let answered = subst (λ (r : RunningStates). IsAnswered r.present) (sym c.self.view_is) in
     record {
       dossier = c.self.invariant.dossier ∙ sym c.begin_day.ensures.dossier;
-      within = c.in_ok-lapsed.ensures.within;
-      answered = λ known. c.in_ok-lapsed.ensures.answered (answered (c.is_settled-was_settled.ensures known));
+      within = c.in_ok-lapsed.ensures.begun.within;
+      answered = λ known. c.in_ok-lapsed.ensures.begun.answered (answered (c.is_settled-was_settled.ensures known));
       alike = λ known.
           let parts = and_parts _ _ known in
           c.self.invariant.alike parts.0
-          ∙ sym (c.in_ok-lapsed.ensures.alike (sym c.as_slice.ensures.value
+          ∙ sym (c.in_ok-lapsed.ensures.begun.alike (sym c.as_slice.ensures.value
           ∙ no_items c.as_slice.result.now (sym c.is_empty.ensures ∙ parts.1)));
     }
