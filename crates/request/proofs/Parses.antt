@@ -1,6 +1,6 @@
 -- The command is one of which the matches and the faults are a function of the words.
-use Rattle.std.proofs.Common.{◌≡◌, ◌≢◌, ◌∙◌, List, [], ◌∷◌, true, refl, subst, inl, inr}
-use Rattle.std.specs.Prelude.{Some, None, Result, Ok, Err, IfOk, IsErrAnd, ◌↔◌}
+use Rattle.std.proofs.Common.{◌≡◌, ◌≢◌, ◌∙◌, List, [], ◌∷◌, true, ap, refl, subst, inl, inr}
+use Rattle.std.specs.Prelude.{Some, None, Result, Ok, Err, IfOk, IsErrAnd}
 use Rattle.std.proofs.lemmas.Result.{IfOk-weaker}
 use Rattle.clap.specs.Words.{App, FailsBy, HasKind, HasMatchesOf, Kinds, Row, Text, fault_of, found_of, is_simple}
 use Rattle.clap.specs.Words.{is_simple_and_free, kind_of, matches_of, rows_of}
@@ -10,6 +10,7 @@ use Rattle.clap.specs.declared.error.kind.ErrorKind.TheVariants.{OutOfMemory}
 use Rattle.clap.specs.declared.parser.matches.ArgMatches.{ArgMatches}
 use Rattle.clap.proofs.OnLiterals.{clap_on_literals}
 use Rattle.request.specs.Command.{parcours}
+use Rattle.request.specs.Refusals.{refusal_of}
 use Rattle.request.specs.Request.{Reads, request_in, request_of_named, where_sound}
 use Rattle.request.specs.declared.refusal.BadWords.{BadWords}
 use Rattle.request.specs.declared.refusal.WordsRefusal.{WordsRefusal}
@@ -47,14 +48,19 @@ bad_by_kind [] request e k has is not_memory =
     elim has [ inl memory ↦ absurd (not_memory (is ∙ memory)) | inr none ↦ elim none [ ] ]
 bad_by_kind (f ∷ kinds) request e k has is not_memory = refl
 
-pub words_refused : (words : List Text) (refusal : WordsRefusal) (e : Error) (k : ErrorKind)
-    → HasKind (fault_of parcours words) e → k ≡ kind_of e
-    → (refusal ≡ refusals.OutOfMemory) ↔ (k ≡ OutOfMemory) → Reads (Err refusal) (request_of_named words)
+refused_by_kind : (words : List Text) (refusal : WordsRefusal) (e : Error) → HasKind (fault_of parcours words) e
+    → refusal ≡ refusal_of (kind_of e) → Reads (Err refusal) (request_of_named words)
 unfolding request_of_named
-words_refused words refusals.OutOfMemory e k has is memory = tt
-words_refused words refusals.Bad e k has is memory =
-    bad_by_kind (fault_of parcours words) (request_in (matches_of parcours words)) e k has is
-    (λ wanting. let never : refusals.Bad ≡ refusals.OutOfMemory = memory.1 wanting in absurd (cc))
+refused_by_kind words refusals.OutOfMemory e has is = tt
+refused_by_kind words refusals.Bad e has is =
+    bad_by_kind (fault_of parcours words) (request_in (matches_of parcours words)) e (kind_of e) has refl
+    (λ wanting. let never : refusals.Bad ≡ refusals.OutOfMemory = is ∙ ap refusal_of wanting in absurd (cc))
+
+pub words_refused : (words : List Text) (e : Error) (r : Result Request WordsRefusal)
+    → HasKind (fault_of parcours words) e → IsErrAnd r (λ refusal. refusal ≡ refusal_of (kind_of e))
+    → Reads r (request_of_named words)
+words_refused words e (Ok request) has from = absurd from
+words_refused words e (Err refusal) has from = refused_by_kind words refusal e has from
 
 -- where the command names no fault, the matches say what the words ask for
 pub words_ask : (words : List Text) (rows : List Row) (request : Request) → fault_of parcours words ≡ []

@@ -1,5 +1,7 @@
 //! Why words are not read.
 
+use clap::Error;
+use clap::error::ErrorKind;
 use std::alloc::AllocError;
 
 /// Why the words after the program's name are not read.
@@ -33,5 +35,20 @@ impl From<AllocError> for WordsRefusal {
 
     fn from(_error: AllocError) -> WordsRefusal {
         WordsRefusal::OutOfMemory
+    }
+}
+
+impl From<Error> for WordsRefusal {
+    ghost use Rattle.std.specs.Prelude.{◌≡◌};
+    ghost use Rattle.clap.specs.Words.{kind_of};
+    ghost use Rattle.request.specs.Refusals.{refusal_of};
+
+    ghost from_gives = { λ error refusal. refusal ≡ refusal_of (kind_of error) };
+
+    fn from(error: Error) -> WordsRefusal {
+        match error.kind() {
+            ErrorKind::OutOfMemory => WordsRefusal::OutOfMemory,
+            _ => WordsRefusal::Bad,
+        }
     }
 }

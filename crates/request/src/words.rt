@@ -1,12 +1,10 @@
 //! The words after the program's name.
-ghost use Rattle.std.specs.Prelude.{◌≡◌, ◌↔◌, ◌≤◌, IfOk, IfSome, codes, map, option_map, string_bytes, unwrap_or};
+ghost use Rattle.std.specs.Prelude.{◌≡◌, ◌≤◌, IfOk, IfSome, codes, map, option_map, string_bytes, unwrap_or};
 ghost use Rattle.clap.specs.Words.{first_of, found_of, rows_of};
-ghost use Rattle.clap.specs.declared.error.kind.ErrorKind.TheVariants as kinds;
 ghost use Rattle.dossier_csv.specs.Columns.{number_of};
 ghost use Rattle.calendar.specs.Texts.{date_in};
 ghost use Rattle.request.specs.Modes.{AreNumbers, IsMode};
 ghost use Rattle.request.specs.Request.{IsDeadlines, IsRequest, IsStart, Reads, between, deadlines_option, deadlines_with, in_start_years, mode_option, named_words, number_option, numbers_option, picker_named, picker_option, request_in, request_of, request_of_named, start_option};
-ghost use Rattle.request.specs.declared.refusal.WordsRefusal.TheVariants as refusals;
 
 use crate::command::parse;
 use crate::modes::{Mode, Numbers, mode_of};
@@ -16,7 +14,6 @@ use crate::request::{Deadlines, Request};
 use admit_core::{MAX_DAY, MAX_NUMBER};
 use calendar::{Civil, parts, read_date};
 use clap::ArgMatches;
-use clap::error::ErrorKind;
 use dossier_csv::number_of;
 use sample_gen::MAX_CANDIDATES;
 use std::alloc::{AllocError, Global};
@@ -193,25 +190,13 @@ fn request_in(matches: &ArgMatches<'_>) -> Result<Request, BadWords>
     })
 }
 
-/// Bad words, unless memory ran out.
-fn refusal_of(kind: ErrorKind) -> WordsRefusal
-    ensures { (result ≡ refusals.OutOfMemory) ↔ (kind ≡ kinds.OutOfMemory) }
-{
-    match kind {
-        ErrorKind::OutOfMemory => WordsRefusal::OutOfMemory,
-        _ => WordsRefusal::Bad,
-    }
-}
-
 /// What the words ask for, the program's name first.
 fn read_named(alloc: Global, words: &[&str]) -> Result<Request, WordsRefusal>
     ensures value { Reads result (request_of_named (map (λ s. s.now) words.now)) }
     ensures known { IfOk result IsRequest }
 {
-    match parse(alloc, words) {
-        Ok(matches) => Ok(request_in(&matches)?),
-        Err(error) => Err(refusal_of(error.kind())),
-    }
+    let matches = parse(alloc, words)?;
+    Ok(request_in(&matches)?)
 }
 
 /// The words with the program's name before them.
