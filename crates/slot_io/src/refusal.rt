@@ -1,25 +1,19 @@
 //! Why a device refuses.
 
 use std::alloc::AllocError;
-use thiserror::Error;
 
 /// Why a device took or gave nothing.
-#[derive(Clone, Copy, Debug, PartialEq, Eq, Error)]
+#[derive(Clone, Copy, Debug, PartialEq, Eq)]
 pub enum IoRefusal {
-    #[error("the device failed")]
     Failed,
-    #[error("out of memory")]
     OutOfMemory,
 }
 
 /// Why a slot was not read to its end.
-#[derive(Clone, Copy, Debug, PartialEq, Eq, Error)]
+#[derive(Clone, Copy, Debug, PartialEq, Eq)]
 pub enum SlotRefusal {
-    #[error("the device failed")]
     ReadFault,
-    #[error("the slot has too many bytes")]
     TooLarge,
-    #[error("out of memory")]
     OutOfMemory,
 }
 
