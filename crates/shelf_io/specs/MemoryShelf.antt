@@ -1,5 +1,5 @@
 -- What the shelves in memory tell.
-use Rattle.std.specs.Prelude.{ℕ, List, Option, Some}
+use Rattle.std.specs.Prelude.{ℕ, ◌≤◌, List, Option, Some, vec_capacity, vec_len}
 use Rattle.admit_core.specs.Slots.{at}
 use Rattle.admit_core.specs.declared.slot.Slot.{Slot}
 use Rattle.shelf_io.specs.declared.memory_shelf.MemShelf.{MemShelf}
@@ -28,3 +28,7 @@ mem_failing shelf = shelf.plan.failing.items
 
 abbrev pub mem_calls : MemShelf → ℕ
 mem_calls shelf = shelf.plan.calls
+
+-- its list of calls that are to fail is full
+abbrev pub mem_plan_full : MemShelf → Type 0
+mem_plan_full shelf = vec_capacity shelf.plan.failing ≤ vec_len shelf.plan.failing

@@ -1,5 +1,5 @@
 -- What the sinks in memory tell.
-use Rattle.std.specs.Prelude.{ℕ, List, Option}
+use Rattle.std.specs.Prelude.{ℕ, ◌+◌, ◌<◌, ◌≤◌, List, Option, vec_capacity, vec_len}
 use Rattle.shelf_io.specs.declared.memory_sink.MemSink.{MemSink}
 use Rattle.shelf_io.specs.declared.memory_sink.PlainSink.{PlainSink}
 
@@ -7,10 +7,17 @@ use Rattle.shelf_io.specs.declared.memory_sink.PlainSink.{PlainSink}
 abbrev pub plain_held : PlainSink → List ℕ
 plain_held sink = sink.bytes.items
 
--- the same of a sink with failing calls, its room, its count of faults, the calls that are to fail,
+-- a sink has too little room for so many bytes more
+abbrev pub plain_lacks : PlainSink → ℕ → Type 0
+plain_lacks sink more = vec_capacity sink.bytes < vec_len sink.bytes + more
+
+-- the same of a sink with failing calls, then its room, its count of faults, the calls that are to fail,
 -- and how many calls were made
 abbrev pub sink_held : MemSink → List ℕ
 sink_held sink = sink.bytes.items
+
+abbrev pub sink_lacks : MemSink → ℕ → Type 0
+sink_lacks sink more = vec_capacity sink.bytes < vec_len sink.bytes + more
 
 abbrev pub sink_room : MemSink → Option ℕ
 sink_room sink = sink.room
@@ -23,3 +30,7 @@ sink_failing sink = sink.plan.failing.items
 
 abbrev pub sink_calls : MemSink → ℕ
 sink_calls sink = sink.plan.calls
+
+-- its list of calls that are to fail is full
+abbrev pub sink_plan_full : MemSink → Type 0
+sink_plan_full sink = vec_capacity sink.plan.failing ≤ vec_len sink.plan.failing

@@ -130,7 +130,7 @@ pub struct MemShelf {
 impl MemShelf {
     ghost use Rattle.admit_core.specs.declared.slot.Slot.{Slot};
     ghost use Rattle.slot_io.specs.Bytes.{OthersKept};
-    ghost use Rattle.shelf_io.specs.MemoryShelf.{mem_calls, mem_failing, mem_faults, mem_left, mem_taken};
+    ghost use Rattle.shelf_io.specs.MemoryShelf.{mem_calls, mem_failing, mem_faults, mem_left, mem_plan_full, mem_taken};
 
     /// A shelf with nothing in its slots.
     pub fn new(alloc: Global) -> MemShelf
@@ -164,6 +164,7 @@ impl MemShelf {
     pub fn fail_at(&mut self, call: u64) -> Result<(), OutOfMemory>
         ensures ok { OnOk result (mem_failing self.new ≡ mem_failing self.old ++ call ∷ []) }
         ensures err { OnErr result (mem_failing self.new ≡ mem_failing self.old) }
+        ensures full { OnErr result (mem_plan_full self.old) }
         ensures calls { mem_calls self.new ≡ mem_calls self.old }
         ensures left { mem_left self.new ≡ mem_left self.old }
         ensures taken { mem_taken self.new ≡ mem_taken self.old }

@@ -37,7 +37,7 @@ impl PlainSink {
 impl Sink for PlainSink {
     ghost use Rattle.std.specs.Io.{WritesAtMost};
     ghost use Rattle.std.specs.Io.KnownBytes.{WriteAppends};
-    ghost use Rattle.shelf_io.specs.MemorySink.{plain_held};
+    ghost use Rattle.shelf_io.specs.MemorySink.{plain_held, plain_lacks};
 
     ghost held = { λ sink. Some (plain_held sink) };
 
@@ -54,6 +54,8 @@ impl Sink for PlainSink {
             result piece.now }
         ensures memory { IsErrOf result IoRefusal.OutOfMemory → Unit {0} }
 
+        ensures full { IsErrOf result IoRefusal.OutOfMemory
+            → plain_lacks self.old (length piece.now) }
         ensures never_failed { ¬ IsErrOf result IoRefusal.Failed }
         ensures moves { IfOk result (λ count. count ≡ length piece.now) }
     {
@@ -72,7 +74,7 @@ pub struct MemSink {
 }
 
 impl MemSink {
-    ghost use Rattle.shelf_io.specs.MemorySink.{sink_calls, sink_failing, sink_faults, sink_held, sink_room};
+    ghost use Rattle.shelf_io.specs.MemorySink.{sink_calls, sink_failing, sink_faults, sink_held, sink_plan_full, sink_room};
 
     /// A sink that holds nothing, and takes `room` bytes in all, or any number.
     pub fn new(alloc: Global, room: Option<u64>) -> MemSink
@@ -94,6 +96,7 @@ impl MemSink {
     pub fn fail_at(&mut self, call: u64) -> Result<(), OutOfMemory>
         ensures ok { OnOk result (sink_failing self.new ≡ sink_failing self.old ++ call ∷ []) }
         ensures err { OnErr result (sink_failing self.new ≡ sink_failing self.old) }
+        ensures full { OnErr result (sink_plan_full self.old) }
         ensures calls { sink_calls self.new ≡ sink_calls self.old }
         ensures held { sink_held self.new ≡ sink_held self.old }
         ensures room { sink_room self.new ≡ sink_room self.old }
@@ -132,7 +135,7 @@ impl Sink for MemSink {
     ghost use Rattle.std.specs.Io.{WritesAtMost};
     ghost use Rattle.std.specs.Io.KnownBytes.{WriteAppends};
     ghost use Rattle.slot_io.specs.Refusals.{faults_after};
-    ghost use Rattle.shelf_io.specs.MemorySink.{sink_calls, sink_failing, sink_faults, sink_held, sink_room};
+    ghost use Rattle.shelf_io.specs.MemorySink.{sink_calls, sink_failing, sink_faults, sink_held, sink_lacks, sink_room};
     ghost use Rattle.slot_io.specs.Faults.{Rose};
 
     ghost held = { λ sink. Some (sink_held sink) };
@@ -154,6 +157,8 @@ impl Sink for MemSink {
         ensures counted { sink_faults self.new ≡ faults_after result (sink_faults self.old) }
         ensures memory { IsErrOf result IoRefusal.OutOfMemory → Unit {0} }
 
+        ensures full { IsErrOf result IoRefusal.OutOfMemory → sink_lacks self.old
+            (fitting (sink_room self.old) (length (sink_held self.old)) (length piece.now)) }
         ensures planned { IsErrOf result IoRefusal.Failed
             ↔ (IsToFail (sink_failing self.old) (sink_calls self.old)
             ⊎ (fitting (sink_room self.old) (length (sink_held self.old)) (length piece.now) ≡ 0)) }

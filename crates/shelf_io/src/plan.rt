@@ -1,5 +1,5 @@
 //! Calls that are to fail.
-ghost use Rattle.std.specs.Prelude.{◌≡◌, ◌+◌, ◌-◌, ◌^◌, ◌↔◌, ◌∷◌, ◌++◌, [], IsTrue, OnOk, OnErr, min};
+ghost use Rattle.std.specs.Prelude.{◌≡◌, ◌+◌, ◌-◌, ◌^◌, ◌↔◌, ◌∷◌, ◌++◌, ◌≤◌, [], IsTrue, OnOk, OnErr, min, vec_capacity, vec_len};
 ghost use Rattle.shelf_io.specs.Plans.{IsToFail};
 
 use admit_core::OutOfMemory;
@@ -27,6 +27,7 @@ impl Plan {
     pub(crate) fn fail_at(&mut self, call: u64) -> Result<(), OutOfMemory>
         ensures ok { OnOk result (self.new.failing.items ≡ self.old.failing.items ++ call ∷ []) }
         ensures err { OnErr result (self.new.failing.items ≡ self.old.failing.items) }
+        ensures full { OnErr result (vec_capacity self.old.failing ≤ vec_len self.old.failing) }
         ensures calls { self.new.calls ≡ self.old.calls }
     {
         self.failing.push(call)?;
