@@ -11,8 +11,8 @@ plain_held sink = sink.bytes.items
 abbrev pub plain_lacks : PlainSink → ℕ → Type 0
 plain_lacks sink more = vec_capacity sink.bytes < vec_len sink.bytes + more
 
--- the same of a sink with failing calls, then its room, its count of faults, the calls that are to fail,
--- and how many calls were made
+-- the same of a sink with failing calls, then its room, its count of faults, the calls that are to
+-- fail, and how many calls were made
 abbrev pub sink_held : MemSink → List ℕ
 sink_held sink = sink.bytes.items
 
