@@ -1,5 +1,5 @@
 //! The mode `check`: the days of a chain, tested one after another.
-ghost use Rattle.std.specs.Prelude.{◌≡◌, ◌≤◌, ◌<◌, ◌^◌, All, IfErr, IfOk, IfSome, OnOk, length, option_copied, option_map};
+ghost use Rattle.std.specs.Prelude.{◌≡◌, ◌≤◌, ◌<◌, ◌^◌, [], All, IfErr, IfOk, IfSome, IsOk, OnOk, length, option_copied, option_map};
 ghost use Rattle.admit_core.specs.Chains.{IsDayChain, day_fault};
 ghost use Rattle.admit_core.specs.Days.{first_evening};
 ghost use Rattle.admit_core.specs.Lapses.{AreTermsFor};
@@ -102,6 +102,7 @@ fn check_days(
     ensures stamps { OnOk result (All (IsStampedBy 366) desk.old.marks → All (IsStampedBy 366)
         desk.new.marks) }
     ensures school { IfErr result (KeepsIn (length desk.old.dossier.schools)) }
+    ensures always { days.now ≡ [] → IsOk result }
 {
     for (place, chain) in days.iter().enumerate() {
         check_next(alloc, grounds, terms, desk, place as u32 + 1, chain)?;

@@ -1,11 +1,12 @@
 //! What a run answers and writes.
-ghost use Rattle.std.specs.Prelude.{◌≡◌, IfOk};
-ghost use Rattle.modes.specs.Stopping.{IsStoppedBy};
+ghost use Rattle.std.specs.Prelude.{◌≡◌, IfOk, OnErr};
+ghost use Rattle.modes.specs.Stopping.{HasNoLine, IsStoppedBy};
 
 use crate::exit::{Exit, exit_of};
 use admit_core::OutOfMemory;
 use intake::Stop;
 use std::alloc::Global;
+use std::marker::Model;
 
 /// What a run answers and writes.
 #[derive(Drop)]
@@ -25,15 +26,43 @@ pub(crate) fn done(text: Vec<u8>) -> Reply
     }
 }
 
-/// The line of what stopped a run before its days.
-pub fn stopped(alloc: Global, stop: Stop) -> Result<Reply, OutOfMemory>
-    ensures { IfOk result (λ reply. IsStoppedBy stop reply.exit reply.text.items) }
+/// An empty text with room for the line of any stop. It is taken before anything is read, so that
+/// no stop is told as want of memory for its line.
+#[derive(Drop)]
+pub struct StopLine {
+    text: String,
+}
+
+impl Model for StopLine {
+    ghost use Rattle.modes.specs.Stopping.{HasLineRoom};
+
+    ghost Value = { Unit {0} };
+
+    ghost view = { λ _. record {} };
+
+    ghost invariant = { λ line. HasLineRoom line.text };
+}
+
+impl StopLine {
+    /// Takes the room of a line.
+    pub fn new(alloc: Global) -> Result<StopLine, OutOfMemory> {
+        Ok(StopLine {
+            text: String::with_capacity(alloc, 128)?,
+        })
+    }
+}
+
+/// The line of what stopped a run before its days, in the room that was taken for it.
+pub fn stopped(line: StopLine, stop: Stop) -> Result<Reply, OutOfMemory>
+    ensures line { IfOk result (λ reply. IsStoppedBy stop reply.exit reply.text.items) }
+    ensures memory { OnErr result (HasNoLine stop) }
 {
+    let StopLine { text } = line;
     let exit = exit_of(stop)?;
-    let mut line = String::new(alloc);
-    stop.push_onto(&mut line)?;
+    let mut text = text;
+    stop.push_onto(&mut text)?;
     Ok(Reply {
         exit,
-        text: line.into_bytes(),
+        text: text.into_bytes(),
     })
 }

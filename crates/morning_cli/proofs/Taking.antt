@@ -1,14 +1,18 @@
 -- What the words ask for, taken in.
 use Rattle.std.proofs.Common.{◌≡◌, ℕ, List, Option, None, Some, Result, Ok, Err, IsErrAnd, arith, inl, refl, subst, sym}
+use Rattle.std.specs.Prelude.{IsErr}
+use Rattle.std.proofs.lemmas.Bool.{false≢true}
 use Rattle.intake.specs.Input.{TakesIn}
 use Rattle.intake.specs.Shelves.{OnShelf}
 use Rattle.intake.specs.Stops.{words_stop}
 use Rattle.intake.specs.declared.input.Input.{Input}
 use Rattle.intake.specs.declared.stop.Stop.{Stop}
 use Rattle.intake.specs.declared.stop.Stop.TheVariants as stops
+use Rattle.modes.specs.declared.reply.Reply.{Reply}
+use Rattle.played.specs.Lent.{Lent}
 use Rattle.request.specs.declared.refusal.WordsRefusal.{WordsRefusal}
 use Rattle.request.specs.declared.refusal.WordsRefusal.TheVariants as refusals
-use Rattle.morning_cli.specs.Answering.{TakesAsked, TakesFor}
+use Rattle.morning_cli.specs.Answering.{RepliesSlot, TakesAsked, TakesFor}
 use Rattle.morning_cli.specs.Asked.{IsAsked, ReadsAsked, asked_of}
 use Rattle.morning_cli.specs.declared.asked.Asked.{Asked}
 
@@ -70,3 +74,13 @@ module _ (words : List (List ℕ)) where
       takes = subst (λ (q : Option Asked). TakesFor q before after (Ok (asked, input))) (sym is) (refl, takes);
       known = known;
     }
+
+-- there was no memory for a line, and nothing was read
+pub replies_lacking : {E : Type 0} (words : List (List ℕ)) (shelf : OnShelf) (before : Lent) (result : Result Reply E)
+    → IsErr result → RepliesSlot words shelf shelf before before result
+replies_lacking words shelf before (Ok reply) err = absurd (false≢true err)
+replies_lacking words shelf before (Err e) err = record {
+  taken = Err stops.OutOfMemory;
+  takes = record { takes = nothing_for (asked_of words) shelf; known = tt };
+  replies = (refl, tt, inl refl);
+}

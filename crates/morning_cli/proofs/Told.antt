@@ -1,6 +1,6 @@
 -- What a run writes where the shelf tells the bytes of its slots.
 use Rattle.std.proofs.Common.{◌≡◌, ℕ, List, Option, None, Some, Result, Ok, Err, IsTrue, option_map, refl, subst, sym}
-use Rattle.std.proofs.Common.{ap}
+use Rattle.std.proofs.Common.{IfOk, ap, inl, inr}
 use Rattle.std.proofs.lemmas.Bool.{false≢true}
 use Rattle.admit_core.specs.declared.slot.Slot.{Slot}
 use Rattle.intake.specs.Input.{IsJobOf, Job, job_of}
@@ -12,16 +12,20 @@ use Rattle.intake.specs.declared.stop.Stop.TheVariants as stops
 use Rattle.modes.specs.Exits.{is_answer}
 use Rattle.modes.specs.Stopping.{IsStoppedBy}
 use Rattle.modes.specs.declared.exit.Exit.{Exit}
+use Rattle.modes.specs.declared.exit.Exit.TheVariants as exits
 use Rattle.modes.specs.declared.reply.Reply.{Reply}
 use Rattle.played.specs.Lent.{Lent}
 use Rattle.replay_cli.specs.Answering.{IsOfWords}
 use Rattle.replay_cli.specs.Delivering.{Delivers, Takes, exit_after}
 use Rattle.replay_cli.specs.Outcome.{IsStop, slots_read}
-use Rattle.replay_cli.specs.Run.{Around}
+use Rattle.replay_cli.specs.Run.{Around, AtSink, HidesNone, IsQuiet}
+use Rattle.replay_cli.proofs.Quiet.{quiet_stop, quiet_taken, quiet_untouched}
+use Rattle.request.specs.Modes.{slots_of}
 use Rattle.slot_io.specs.declared.refusal.IoRefusal.{IoRefusal}
 use Rattle.slot_io.specs.declared.refusal.IoRefusal.TheVariants as refusals
 use Rattle.morning_cli.specs.Answering.{RepliesSlot, RepliesTo, TakesFor}
 use Rattle.morning_cli.specs.Asked.{asked_of}
+use Rattle.morning_cli.specs.Morning.{IsSlotEnding}
 use Rattle.morning_cli.specs.Run.{EndsSlot, OutcomeFor, WritesOutcome}
 use Rattle.morning_cli.specs.declared.asked.Asked.{Asked}
 
@@ -79,6 +83,42 @@ module _ (slots : Slot → List ℕ) (shelf shelf' : OnShelf) (before after : Le
       (subst (λ (q : Asked). EndsSlot q.slot (Ok given.job) before after reply.exit reply.text.items) takes.0
       (replies.1 given.job there given.is_input))
 
+-- where there is no reply, no read failed and no slot was too large
+quiet_for : {E : Type 0} (asked : Option Asked) (shelf shelf' : OnShelf) (before after : Lent)
+    (taken : Result (Asked × Input) Stop) (e : E) → TakesFor asked shelf shelf' taken
+    → RepliesTo taken before after (Err e) → IsQuiet shelf shelf'
+quiet_for None shelf shelf' before after taken e takes replies = quiet_untouched shelf shelf' takes.1
+quiet_for (Some asked) shelf shelf' before after (Ok x) e takes replies =
+    quiet_taken (slots_of asked.request.mode) shelf shelf' x.1 takes.1.slots
+quiet_for (Some asked) shelf shelf' before after (Err stop) e takes replies =
+    quiet_stop (slots_of asked.request.mode) shelf shelf' stop replies.2 takes.1.slots
+
+-- a reply does not say that memory ran out
+stop_says : (stop : Stop) (exit : Exit) (text : List ℕ) → IsStoppedBy stop exit text → exit ≡ exits.NoMemory → ⊥
+stop_says stops.BadWords exit text by is = absurd (cc (by.is_exit, is))
+stop_says (stops.Refused refusal) exit text by is = absurd (cc (by.is_exit, is))
+stop_says (stops.ReadFault slot) exit text by is = absurd (cc (by.is_exit, is))
+stop_says (stops.NoSuch name) exit text by is = absurd (cc (by.is_exit, is))
+stop_says stops.OutOfMemory exit text by is = by.not_memory refl
+
+ending_says : (slot : Slot) (job : Job) (before after : Lent) (exit : Exit) (text : List ℕ)
+    → IsSlotEnding slot job before after exit text → exit ≡ exits.NoMemory → ⊥
+ending_says slot job before after exit text (inl morning) is = absurd (cc (morning.ends.0, is))
+ending_says slot job before after exit text (inr refused) is = absurd (cc (refused.0, is))
+
+reply_says : {E : Type 0} (asked : Option Asked) (shelf shelf' : OnShelf) (before after : Lent)
+    (taken : Result (Asked × Input) Stop) (reply : Reply) → TakesFor asked shelf shelf' taken
+    → RepliesTo {E = E} taken before after (Ok reply) → reply.exit ≡ exits.NoMemory → ⊥
+reply_says asked shelf shelf' before after (Err stop) reply takes replies is =
+    stop_says stop reply.exit reply.text.items replies.1 is
+reply_says None shelf shelf' before after (Ok x) reply takes replies is = absurd takes.0
+reply_says (Some asked) shelf shelf' before after (Ok x) reply takes replies is =
+    let given = takes.1.value in
+    let there : IsJobOf x.0.request given.job =
+    subst (λ (q : Asked). IsJobOf q.request given.job) (sym takes.0) given.is_job in
+    ending_says x.0.slot given.job before after reply.exit reply.text.items
+    (replies.1 given.job there given.is_input) is
+
 to_unit : (E : Type 0) (taken : Result (Asked × Input) Stop) (before after : Lent) (reply : Reply)
     → RepliesTo {E = E} taken before after (Ok reply) → RepliesTo {E = Unit {0}} taken before after (Ok reply)
 to_unit E (Ok x) before after reply replies = replies
@@ -106,3 +146,18 @@ module _ {E : Type 0} (words : List (List ℕ)) (before after : Around) where
   outcome_written (Ok reply) exit replies delivers slots tells answers =
       subst (WritesOutcome words before after) (sym delivers.2) (taken reply delivers.0 replies delivers.1) slots tells
       answers
+
+  -- the exit is want of memory, which the sink can't lack
+  pub hidden : (MayLack : Type 0) (result : Result Reply E) (exit : Exit)
+      → RepliesSlot words before.shelf after.shelf before.pickers after.pickers result
+      → Delivers result before.sink after.sink exit
+      → (¬ MayLack → exit ≡ exits.NoMemory → IfOk result (λ reply. reply.exit ≡ exits.NoMemory))
+      → HidesNone MayLack before.shelf after.shelf before.sink after.sink exit
+  hidden MayLack (Ok reply) exit replies delivers lacks never is =
+      absurd (reply_says {E = E} (asked_of words) before.shelf after.shelf before.pickers after.pickers replies.taken
+      reply replies.takes.takes replies.replies (lacks never is))
+  hidden MayLack (Err e) exit replies delivers lacks never is = record {
+    reads = quiet_for (asked_of words) before.shelf after.shelf before.pickers after.pickers replies.taken e
+        replies.takes.takes replies.replies;
+    writes = ap (λ (sink : AtSink). sink.faults) delivers.1;
+  }

@@ -1,10 +1,10 @@
 -- What a run answers before anything is written.
-use Rattle.std.specs.Prelude.{◌≡◌, ℕ, List, Option, None, Some, Result, Ok, Err, IfOk, IsErrAnd}
+use Rattle.std.specs.Prelude.{◌≡◌, ℕ, List, Option, None, Some, Result, Ok, Err, IfOk, IsErrAnd, OnErr}
 use Rattle.intake.specs.Input.{IsInputOf, IsJobOf, Job, TakesIn}
 use Rattle.intake.specs.Shelves.{OnShelf}
 use Rattle.intake.specs.declared.input.Input.{Input}
 use Rattle.intake.specs.declared.stop.Stop.{Stop}
-use Rattle.modes.specs.Stopping.{IsStoppedBy}
+use Rattle.modes.specs.Stopping.{HasNoLine, IsStoppedBy}
 use Rattle.modes.specs.declared.reply.Reply.{Reply}
 use Rattle.played.specs.Lent.{AreBack, Lent}
 use Rattle.replay_cli.specs.Answering.{IsOfWords}
@@ -30,7 +30,7 @@ pub record TakesAsked (words : List (List ℕ)) (before after : OnShelf)
   pub known : IfOk result (λ x. IsAsked x.0)
 
 -- the reply to what was taken in: the pickers are back, and each job with this input ends by it; or
--- to why nothing was: no picker is asked
+-- to why nothing was: no picker is asked, and there is no reply only where the stop has no line
 abbrev pub RepliesTo : {E : Type 0} → Result (Asked × Input) Stop → Lent → Lent
     → Result Reply E → Type 0
 RepliesTo (Ok x) before after result =
@@ -39,6 +39,7 @@ RepliesTo (Ok x) before after result =
     → IfOk result (λ reply. IsSlotEnding x.0.slot job before after reply.exit reply.text.items))
 RepliesTo (Err stop) before after result =
     (after ≡ before) × IfOk result (λ reply. IsStoppedBy stop reply.exit reply.text.items)
+    × OnErr result (HasNoLine stop)
 
 -- the exit and the text of a run, before anything is written, with the shelf and the pickers before
 -- it and after it

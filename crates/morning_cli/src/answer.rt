@@ -20,7 +20,7 @@ use crate::morning::slot_reply;
 use admit_core::{OutOfMemory, Slot};
 use call_order::call_orders;
 use intake::{DatedTerms, Input, Stop, dated_terms, take_in};
-use modes::{Reply, days_of, deadlines_of, ending, stopped, terms_in};
+use modes::{Reply, StopLine, days_of, deadlines_of, ending, stopped, terms_in};
 use played::{Pickers, Played, play};
 use slot_io::Shelf;
 use std::alloc::Global;
@@ -115,8 +115,9 @@ pub(crate) fn answer<S: Shelf>(
         (standing (λ p. told p) (λ p. choice p) pickers.old)
         (standing (λ p. told p) (λ p. choice p) pickers.new) result }
 {
+    let line = StopLine::new(alloc)?;
     match take(alloc, words, shelf) {
         Ok((asked, input)) => play_out(alloc, &asked, &input, pickers),
-        Err(stop) => stopped(alloc, stop),
+        Err(stop) => stopped(line, stop),
     }
 }

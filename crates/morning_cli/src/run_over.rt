@@ -2,7 +2,7 @@
 ghost use Rattle.std.specs.Prelude.{◌≡◌, map, string_bytes};
 ghost use Rattle.intake.specs.Shelves.{on_shelf};
 ghost use Rattle.played.specs.Lent.{AreThere, standing};
-ghost use Rattle.replay_cli.specs.Run.{at_sink};
+ghost use Rattle.replay_cli.specs.Run.{HidesNone, at_sink};
 ghost use Rattle.morning_cli.specs.Run.{IsSlotRun};
 
 use crate::answer::answer;
@@ -36,6 +36,9 @@ pub fn run<S: Shelf, K: Sink>(
           pickers = standing (λ p. told p) (λ p. choice p) pickers.new;
         })
         result }
+    ensures hides { HidesNone K.may_lack
+        (on_shelf S.left S.taken S.faults shelf.old) (on_shelf S.left S.taken S.faults shelf.new)
+        (at_sink K.held K.faults sink.old) (at_sink K.held K.faults sink.new) result }
 {
     deliver(answer(alloc, words, shelf, pickers), sink)
 }

@@ -1,7 +1,7 @@
 -- What a run answers: after its days, or where it stops before them.
 use Rattle.std.proofs.Common.{◌≡◌, ℕ, ◌⊎◌, List, [], Option, None, Some, Result, Ok, Err}
 use Rattle.std.proofs.Common.{IfOk, IsNone, IsOkAnd, IsTrue, ap, arith, inl, inr, refl, subst, sym}
-use Rattle.std.specs.Prelude.{Contains, MatchResult}
+use Rattle.std.specs.Prelude.{Contains, IsErr, MatchResult, OnErr}
 use Rattle.std.proofs.lemmas.Bool.{false≢true}
 use Rattle.admit_core.specs.declared.slot.Slot.{Slot}
 use Rattle.intake.specs.Input.{IsInputOf, IsJobOf, Job, accepted, job_of}
@@ -16,7 +16,7 @@ use Rattle.modes.specs.Exits.{ends_unasked, is_answer}
 use Rattle.modes.proofs.CheckedExits.{IsAfterDays}
 use Rattle.modes.specs.Checking.{CanBeDone}
 use Rattle.modes.specs.Jobs.{IsIdle}
-use Rattle.modes.specs.Stopping.{IsStoppedBy}
+use Rattle.modes.specs.Stopping.{HasNoLine, IsStoppedBy}
 use Rattle.modes.specs.declared.exit.Exit.{Exit}
 use Rattle.modes.specs.declared.exit.Exit.TheVariants as exits
 use Rattle.modes.specs.declared.reply.Reply.{Reply}
@@ -28,8 +28,10 @@ use Rattle.request.specs.declared.request.Request.{Request}
 use Rattle.slot_io.specs.Faults.{NoneFell, Rose}
 use Rattle.replay_cli.specs.Answering.{Replies, TakesAll, TakesAsked}
 use Rattle.replay_cli.specs.Outcome.{Breaks, Ends, IsBroken, IsOutcome, NamesFault, WantsNoPicker, slots_read}
-use Rattle.replay_cli.specs.Run.{KeepsOthers, SameFaults}
+use Rattle.replay_cli.specs.Run.{IsQuiet, KeepsOthers, SameFaults}
 use Rattle.replay_cli.proofs.Played.{breaks_untold, ending_done, ending_exit}
+use Rattle.replay_cli.proofs.Quiet.{quiet_stop, quiet_taken, quiet_untouched}
+use Rattle.replay_cli.proofs.Taking.{takes_lacking}
 
 no_none : (request : Request) → IsNone (Some request) → ⊥
 no_none request none = false≢true (sym none)
@@ -167,6 +169,7 @@ module _ (words : List (List ℕ)) (shelf shelf' : OnShelf) (before after : Lent
         ends = λ slots tells done. all_read slots tells;
         others = others_kept shelf shelf' (Ok x) (request_of words) takes.slots;
         counts = none_fell shelf shelf' (Ok x) (request_of words) takes.slots;
+        quiet = tt;
         back = back;
         idle = asks_none;
         complete = λ slots tells fits none.
@@ -186,6 +189,7 @@ module _ (words : List (List ℕ)) (shelf shelf' : OnShelf) (before after : Lent
     ends = λ slots tells. tt;
     others = others_kept shelf shelf' (Ok x) (request_of words) takes.slots;
     counts = none_fell shelf shelf' (Ok x) (request_of words) takes.slots;
+    quiet = quiet_taken (slots_of x.0.mode) shelf shelf' x read;
     back = back;
     idle = asks_none;
     complete = λ slots tells fits none. tt;
@@ -281,10 +285,14 @@ module _ (words : List (List ℕ)) (shelf shelf' : OnShelf) (before : Lent) wher
   no_stop (Some request) slots (stops.ReadFault slot) exit text takes is by fits none = none slot takes.cause.rose
   no_stop request slots stops.OutOfMemory exit text takes is by fits none = by.not_memory refl
 
+  stop_quiet : (request : Option Request) (stop : Stop) → HasNoLine stop → Slots request stop → IsQuiet shelf shelf'
+  stop_quiet None stop none takes = quiet_untouched shelf shelf' takes.1
+  stop_quiet (Some request) stop none takes = quiet_stop (slots_of request.mode) shelf shelf' stop none takes
+
   pub replies_stopped : {E : Type 0} (stop : Stop) (result : Result Reply E) → TakesAll words shelf shelf' (Err stop)
-      → IfOk result (λ reply. IsStoppedBy stop reply.exit reply.text.items)
+      → IfOk result (λ reply. IsStoppedBy stop reply.exit reply.text.items) → OnErr result (HasNoLine stop)
       → Replies words shelf shelf' before before result
-  replies_stopped stop (Ok reply) takes by = record {
+  replies_stopped stop (Ok reply) takes by none = record {
     outcome = λ slots tells answers. stop_answers slots stop reply.exit reply.text.items
         (takes.stop slots tells) by answers;
     broken = λ slots tells. tt;
@@ -297,12 +305,13 @@ module _ (words : List (List ℕ)) (shelf shelf' : OnShelf) (before : Lent) wher
     ends = λ slots tells done. absurd (stop_done stop reply.exit reply.text.items by done);
     others = others_kept shelf shelf' _ (request_of words) takes.slots;
     counts = none_fell shelf shelf' _ (request_of words) takes.slots;
+    quiet = tt;
     back = back_untouched before;
     idle = λ none name. refl;
     complete = λ slots tells fits none. absurd (no_stop (request_of words) slots stop reply.exit reply.text.items
         takes.slots (takes.stop slots tells) by fits none);
   }
-  replies_stopped stop (Err e) takes by = record {
+  replies_stopped stop (Err e) takes by none = record {
     outcome = tt;
     broken = λ slots tells. stop_broken words slots before;
     kinds = tt;
@@ -314,7 +323,15 @@ module _ (words : List (List ℕ)) (shelf shelf' : OnShelf) (before : Lent) wher
     ends = λ slots tells. tt;
     others = others_kept shelf shelf' _ (request_of words) takes.slots;
     counts = none_fell shelf shelf' _ (request_of words) takes.slots;
+    quiet = stop_quiet (request_of words) stop none takes.slots;
     back = back_untouched before;
     idle = λ none name. refl;
     complete = λ slots tells fits none. tt;
   }
+
+-- there was no memory for a line, and nothing was read
+pub replies_lacking : {E : Type 0} (words : List (List ℕ)) (shelf : OnShelf) (before : Lent) (result : Result Reply E)
+    → IsErr result → Replies words shelf shelf before before result
+replies_lacking words shelf before (Ok reply) err = absurd (false≢true err)
+replies_lacking words shelf before (Err e) err =
+    replies_stopped words shelf shelf before stops.OutOfMemory (Err e) (takes_lacking words shelf) tt (inl refl)

@@ -59,6 +59,10 @@ unread words shelf refusals.OutOfMemory none = record {
   slots = nothing_asked (request_of words) shelf;
 }
 
+pub takes_lacking : (words : List (List ℕ)) (shelf : OnShelf)
+    → TakesAll words shelf shelf (Err stops.OutOfMemory)
+takes_lacking words shelf = unread words shelf refusals.OutOfMemory tt
+
 pub takes_unread : (words : List (List ℕ)) (shelf : OnShelf) (refusal : WordsRefusal)
     (r : Result (Request × Input) Stop) → Reads (Err refusal) (request_of words)
     → IsErrAnd r (λ stop. stop ≡ words_stop refusal)

@@ -1,6 +1,6 @@
 -- What a run writes of its reply.
 use Rattle.std.proofs.Common.{◌≡◌, ◌≢◌, ◌∙◌, false, ℕ, ◌≤◌, ◌⊎◌, List, [], Option, None, Some, Result, Ok, Err, IsTrue}
-use Rattle.std.proofs.Common.{inl, inr, refl, subst, sym}
+use Rattle.std.proofs.Common.{IfOk, ap, inl, inr, refl, subst, sym}
 use Rattle.std.specs.Io.KnownBytes.{Appends}
 use Rattle.std.proofs.lemmas.Bool.{false≢true}
 use Rattle.std.proofs.lemmas.List.{append-nil}
@@ -18,7 +18,7 @@ use Rattle.slot_io.specs.declared.refusal.IoRefusal.{IoRefusal}
 use Rattle.slot_io.specs.declared.refusal.IoRefusal.TheVariants as refusals
 use Rattle.replay_cli.specs.Delivering.{Delivers, Takes, exit_after}
 use Rattle.replay_cli.specs.Outcome.{slots_read}
-use Rattle.replay_cli.specs.Run.{Around, AtSink, IsRun, IsWhole}
+use Rattle.replay_cli.specs.Run.{Around, AtSink, HidesNone, IsRun, IsWhole}
 
 appends_none : (held : Option (List ℕ)) → Appends held held []
 appends_none None = tt
@@ -156,7 +156,7 @@ module _ {E : Type 0} (words : List (List ℕ)) (before after : Around)
       → Takes reply.text.items before.sink after.sink refusal → IsRun words before after (exit_after refusal reply.exit)
   taken reply replies None takes = written reply replies takes
   taken reply replies (Some refusals.Failed) takes = failed reply replies takes.0 takes.1
-  taken reply replies (Some refusals.OutOfMemory) takes = cut reply replies takes
+  taken reply replies (Some refusals.OutOfMemory) takes = cut reply replies takes.0
 
   pub delivered : (result : Result Reply E) (exit : Exit)
       → Replies words before.shelf after.shelf before.pickers after.pickers result
@@ -166,3 +166,14 @@ module _ {E : Type 0} (words : List (List ℕ)) (before after : Around)
       subst (IsRun words before after) (sym delivers.2) (taken reply replies delivers.0 delivers.1)
   delivered (Err error) exit replies delivers =
       subst (IsRun words before after) (sym delivers.0) (unanswered error delivers.1 replies)
+
+  -- the exit is want of memory, which the sink can't lack
+  pub hidden : (MayLack : Type 0) (result : Result Reply E) (exit : Exit)
+      → Replies words before.shelf after.shelf before.pickers after.pickers result
+      → Delivers result before.sink after.sink exit
+      → (¬ MayLack → exit ≡ exits.NoMemory → IfOk result (λ reply. reply.exit ≡ exits.NoMemory))
+      → HidesNone MayLack before.shelf after.shelf before.sink after.sink exit
+  hidden MayLack (Ok reply) exit replies delivers lacks never is =
+      absurd (not_of_sink reply.exit exits.NoMemory _ refl (λ e. cc) replies.kinds (lacks never is))
+  hidden MayLack (Err error) exit replies delivers lacks never is =
+      record { reads = replies.quiet; writes = ap (λ (sink : AtSink). sink.faults) delivers.1 }

@@ -18,7 +18,7 @@ use Rattle.request.specs.Request.{IsRequest, request_of}
 use Rattle.request.specs.declared.request.Request.{Request}
 use Rattle.slot_io.specs.Faults.{NoneFell, Rose}
 use Rattle.replay_cli.specs.Outcome.{IsBroken, WantsNoPicker, IsOutcome, NamesFault, slots_read}
-use Rattle.replay_cli.specs.Run.{KeepsOthers, SameFaults}
+use Rattle.replay_cli.specs.Run.{IsQuiet, KeepsOthers, SameFaults}
 
 -- what stops the reading of the words
 abbrev pub IsOfWords : Stop → Type 0
@@ -68,6 +68,7 @@ pub record Replies {E : Type 0} (words : List (List ℕ)) (shelf shelf' : OnShel
       → Contains (slots_read (request_of words)) slot → shelf'.left slot ≡ Some [])
   pub others : KeepsOthers (slots_read (request_of words)) shelf shelf'
   pub counts : NoneFell shelf.faults shelf'.faults
+  pub quiet : OnErr result (IsQuiet shelf shelf')
   pub back : AreBack before after
   pub idle : WantsNoPicker (request_of words) → Untold before after
   pub complete : (slots : Slot → List ℕ) → Tells (slots_read (request_of words)) shelf.left slots

@@ -16,12 +16,14 @@ exit_after None exit = exit
 exit_after (Some refusals.Failed) exit = WriteFault
 exit_after (Some refusals.OutOfMemory) exit = NoMemory
 
--- a sink took the whole text, or not all of it and refused the rest
+-- a sink took the whole text, or not all of it and refused the rest; its count of faults rose only
+-- where it failed
 abbrev pub Takes : List ℕ → AtSink → AtSink → Option IoRefusal → Type 0
 Takes text before after None = Appends before.held after.held text
 Takes text before after (Some refusals.Failed) =
     AppendsPart before.held after.held text × Rose before.faults after.faults
-Takes text before after (Some refusals.OutOfMemory) = AppendsPart before.held after.held text
+Takes text before after (Some refusals.OutOfMemory) =
+    AppendsPart before.held after.held text × (after.faults ≡ before.faults)
 
 -- the text of a reply is written, and the exit is the reply's where it was written whole; nothing
 -- is written where there is no reply

@@ -1,5 +1,5 @@
 -- What a run does, as a whole: its exit, what it takes and writes, and what becomes of the pickers.
-use Rattle.std.specs.Prelude.{◌≡◌, ◌⊎◌, ◌≤◌, ℕ, List, [], Contains, Option, Some, IsNone, IsOkAnd, IsTrue}
+use Rattle.std.specs.Prelude.{◌≡◌, ◌⊎◌, ◌≤◌, ℕ, ◌+◌, List, [], Contains, Option, Some, IsNone, IsOkAnd, IsTrue}
 use Rattle.std.specs.Io.KnownBytes.{Appends}
 use Rattle.admit_core.specs.declared.slot.Slot.{Slot}
 use Rattle.intake.specs.Input.{accepted}
@@ -79,6 +79,21 @@ pub record Answers (words : List (List ℕ)) (slots : Slot → List ℕ) (before
   -- call fails, the run is done, or memory ran out
   pub complete : IsOkAnd (accepted words slots) CanBeDone → NoneFails before after → (exit ≡ Done)
       ⊎ (exit ≡ NoMemory)
+
+-- no read of a shelf failed, and of no slot more was taken than the greatest size of one
+pub record IsQuiet (before after : OnShelf) : Type 0 where
+  pub faults : (slot : Slot) → after.faults slot ≡ before.faults slot
+  pub sizes : (slot : Slot) → after.taken slot ≤ before.taken slot + 1073741824
+
+-- want of memory hides no fault: no read failed, no slot was too large, and no write failed
+pub record HidesNothing (shelf shelf' : OnShelf) (sink sink' : AtSink) : Type 0 where
+  pub reads : IsQuiet shelf shelf'
+  pub writes : sink'.faults ≡ sink.faults
+
+-- the same of a run with this exit, where its sink can't lack memory
+abbrev pub HidesNone : Type 0 → OnShelf → OnShelf → AtSink → AtSink → Exit → Type 0
+HidesNone MayLack shelf shelf' sink sink' exit =
+    ¬ MayLack → exit ≡ NoMemory → HidesNothing shelf shelf' sink sink'
 
 -- with bad words no slot is touched
 pub record IsRefusal (before after : Around) (exit : Exit) : Type 0 where

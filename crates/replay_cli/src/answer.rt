@@ -12,7 +12,7 @@ ghost use Rattle.request.specs.Request.{IsRequest};
 use admit_core::OutOfMemory;
 use call_order::call_orders;
 use intake::{Input, Stop, dated_terms, take_in};
-use modes::{Reply, days_of, deadlines_of, ending, keeps_falls, stopped, terms_in};
+use modes::{Reply, StopLine, days_of, deadlines_of, ending, keeps_falls, stopped, terms_in};
 use played::{Pickers, Wanted, play_wanted};
 use request::{Request, read_request};
 use slot_io::Shelf;
@@ -87,8 +87,9 @@ pub(crate) fn answer<S: Shelf>(
         (standing (λ p. told p) (λ p. choice p) pickers.old)
         (standing (λ p. told p) (λ p. choice p) pickers.new) result }
 {
+    let line = StopLine::new(alloc)?;
     match take(alloc, words, shelf) {
         Ok((request, input)) => play_out(alloc, &request, &input, pickers),
-        Err(stop) => stopped(alloc, stop),
+        Err(stop) => stopped(line, stop),
     }
 }

@@ -1,10 +1,10 @@
 //! One run of the program, over any shelf and any sink.
-ghost use Rattle.std.specs.Prelude.{◌≡◌, ◌≤◌, map, string_bytes};
+ghost use Rattle.std.specs.Prelude.{◌≡◌, ◌≤◌, IfOk, map, string_bytes};
 ghost use Rattle.intake.specs.Shelves.{on_shelf};
 ghost use Rattle.played.specs.Lent.{AreThere, standing};
 ghost use Rattle.replay_cli.specs.Delivering as Delivering;
 ghost use Rattle.replay_cli.specs.Delivering.{Delivers};
-ghost use Rattle.replay_cli.specs.Run.{IsRun, at_sink};
+ghost use Rattle.replay_cli.specs.Run.{HidesNone, IsRun, at_sink};
 
 use crate::answer::answer;
 use admit_core::OutOfMemory;
@@ -29,6 +29,8 @@ pub fn deliver<K: Sink>(reply: Result<Reply, OutOfMemory>, sink: &mut K) -> Exit
     ensures delivers { Delivers reply (at_sink K.held K.faults sink.old)
         (at_sink K.held K.faults sink.new) result }
     ensures counts { K.faults sink.old ≤ K.faults sink.new }
+    ensures memory { ¬ K.may_lack → result ≡ Exit.NoMemory
+        → IfOk reply (λ reply. reply.exit ≡ Exit.NoMemory) }
 {
     let Ok(reply) = reply else {
         return Exit::NoMemory;
@@ -59,6 +61,9 @@ pub fn run<S: Shelf, K: Sink>(
           pickers = standing (λ p. told p) (λ p. choice p) pickers.new;
         })
         result }
+    ensures hides { HidesNone K.may_lack
+        (on_shelf S.left S.taken S.faults shelf.old) (on_shelf S.left S.taken S.faults shelf.new)
+        (at_sink K.held K.faults sink.old) (at_sink K.held K.faults sink.new) result }
 {
     deliver(answer(alloc, words, shelf, pickers), sink)
 }

@@ -5,7 +5,7 @@ ghost use Rattle.bar_fixpoint.specs.Choices.{first_of, last_of, turn_of};
 ghost use Rattle.intake.specs.Shelves.{on_shelf};
 ghost use Rattle.modes.specs.declared.exit.Exit.{Exit};
 ghost use Rattle.played.specs.Lent.{AreThere, standing};
-ghost use Rattle.replay_cli.specs.Run.{Around, at_sink};
+ghost use Rattle.replay_cli.specs.Run.{Around, HidesNone, at_sink};
 ghost use Rattle.replay_cli.specs.Start.{IsNewRun, IsUntouched, LacksMemory, Starts};
 ghost use Rattle.replay_cli.specs.Words.{IsLack, words_in};
 
@@ -33,7 +33,7 @@ pub trait Program {
         pickers: &mut Pickers,
     ) -> Exit
         requires { AreThere pickers.old }
-        ensures { is_run (map string_bytes words.now)
+        ensures runs { is_run (map string_bytes words.now)
             (record {
               shelf = on_shelf S.left S.taken S.faults shelf.old;
               sink = at_sink K.held K.faults sink.old;
@@ -44,7 +44,11 @@ pub trait Program {
               sink = at_sink K.held K.faults sink.new;
               pickers = standing (λ p. told p) (λ p. choice p) pickers.new;
             })
-            result };
+            result }
+        ensures hides { HidesNone K.may_lack
+            (on_shelf S.left S.taken S.faults shelf.old)
+            (on_shelf S.left S.taken S.faults shelf.new)
+            (at_sink K.held K.faults sink.old) (at_sink K.held K.faults sink.new) result };
 }
 
 /// The number that a program ends with. `started` alone makes one, and it can be neither copied
@@ -79,7 +83,7 @@ fn run_with_new<P: Program, S: Shelf, K: Sink>(
         ≡ Some (λ told places. last_of places) }
     requires turn_of { option_map (λ p. choice (p.vtable, p.value)) pickers.old.turn
         ≡ Some turn_of }
-    ensures { IsNewRun (P.is_run (map string_bytes words.now))
+    ensures { IsNewRun (P.is_run (map string_bytes words.now)) K.may_lack
         (on_shelf S.left S.taken S.faults shelf.old) (on_shelf S.left S.taken S.faults shelf.new)
         (at_sink K.held K.faults sink.old) (at_sink K.held K.faults sink.new) result }
 {
@@ -93,7 +97,7 @@ fn run_new<P: Program, S: Shelf, K: Sink>(
     shelf: &mut S,
     sink: &mut K,
 ) -> Result<Exit, AllocError>
-    ensures ran { IfOk result (IsNewRun (P.is_run (map string_bytes words.now))
+    ensures ran { IfOk result (IsNewRun (P.is_run (map string_bytes words.now)) K.may_lack
         (on_shelf S.left S.taken S.faults shelf.old) (on_shelf S.left S.taken S.faults shelf.new)
         (at_sink K.held K.faults sink.old) (at_sink K.held K.faults sink.new)) }
     ensures lacked { OnErr result (IsUntouched
@@ -116,6 +120,7 @@ fn run_given<P: Program, S: Shelf, K: Sink>(
     sink: &mut K,
 ) -> Result<Exit, AllocError>
     ensures ran { IfOk result (IsNewRun (P.is_run (map string_bytes (words_in args)))
+        K.may_lack
         (on_shelf S.left S.taken S.faults shelf.old) (on_shelf S.left S.taken S.faults shelf.new)
         (at_sink K.held K.faults sink.old) (at_sink K.held K.faults sink.new)) }
     ensures lacked { OnErr result (IsUntouched
@@ -136,6 +141,7 @@ pub fn started<P: Program, S: Shelf, K: Sink>(
     sink: &mut K,
 ) -> Ended
     ensures starts { Starts (P.is_run (map string_bytes (words_in args)))
+        K.may_lack
         (on_shelf S.left S.taken S.faults shelf.old) (on_shelf S.left S.taken S.faults shelf.new)
         (at_sink K.held K.faults sink.old) (at_sink K.held K.faults sink.new) result.number }
     ensures told { IsErrAnd args IsLack → LacksMemory

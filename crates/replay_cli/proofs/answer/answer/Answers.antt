@@ -1,4 +1,4 @@
-use Rattle.replay_cli.proofs.Replying.{replies_played, replies_stopped}
+use Rattle.replay_cli.proofs.Replying.{replies_lacking, replies_played, replies_stopped}
 use Rattle.replay_cli.proofs.Taking.{indexed_in, named_in}
 use Rattle.replay_cli.proofs.answer.answer.Goals as goal
 
@@ -15,4 +15,7 @@ returns-in-Ok-clause-replies g c =
 
 pub returns-in-Err-clause-replies : goal.returns-in-Err-clause-replies
 returns-in-Err-clause-replies g c = replies_stopped _ _ _ _ c.in-Err.stop c.stopped.result c.in-Err.ensures
-    c.stopped.ensures
+    c.stopped.ensures.line c.stopped.ensures.memory
+
+pub returns-in_err-line-clause-replies : goal.returns-in_err-line-clause-replies
+returns-in_err-line-clause-replies g c = replies_lacking _ _ _ c.from_residual.result c.from_residual.ensures.0

@@ -8,5 +8,6 @@ returns g c =
       pickers' = _;
       are_new = are_new _ _ _ _ _ c.requires.first c.requires.last c.requires.turn c.requires.first_of
           c.requires.last_of c.requires.turn_of;
-      is_run = c.run.ensures;
+      is_run = c.run.ensures.runs;
+      hides = c.run.ensures.hides;
     }
