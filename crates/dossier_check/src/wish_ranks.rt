@@ -118,7 +118,13 @@ impl<'a> RowTest<WishRow> for MayNotWish<'a> {
             return Ok(Some(Reason::Unknown(4)));
         };
         let near = self.near.as_mut_slice();
-        if !is_ranked(self.all_ranked, known.ranked, near, row.candidate, programme) {
+        if !is_ranked(
+            self.all_ranked,
+            known.ranked,
+            near,
+            row.candidate,
+            programme,
+        ) {
             return Ok(Some(Reason::Unranked));
         }
         let Some(rank) = rank_place(known.boarded, row.candidate, row.school) else {

@@ -155,14 +155,14 @@ days = (
     automatic_evening,
     refl,
     day_by _ _ _ _ _ _ (
-        record {
-          pass = passes_with _ three_in_order [] _ (record { are_falls = tt; settled = refl }) refl refl;
-          autos = refl;
-          freed = refl;
-        },
-        refl,
-        refl,
-      ) refl refl refl refl,
+      record {
+        pass = passes_with _ three_in_order [] _ (record { are_falls = tt; settled = refl }) refl refl;
+        autos = refl;
+        freed = refl;
+      },
+      refl,
+      refl,
+    ) refl refl refl refl,
     refl,
   ),
 )

@@ -33,51 +33,51 @@ old = first_evening full_schools
 -- the days of the two schools
 one_first : IsDay None two_candidates (4 ∷ 4 ∷ []) old (first_falls_first 1) old
 one_first = day_by _ _ _ _ _ _ (
-    record {
-      pass = passes_with _ two_candidates (4 ∷ 4 ∷ []) _
-          (record { are_falls = (refl, refl, (refl, refl, tt)); settled = refl }) refl refl;
-      autos = refl;
-      freed = refl;
-    },
-    refl,
-    refl,
-  ) refl refl refl refl
+  record {
+    pass = passes_with _ two_candidates (4 ∷ 4 ∷ []) _
+        (record { are_falls = (refl, refl, (refl, refl, tt)); settled = refl }) refl refl;
+    autos = refl;
+    freed = refl;
+  },
+  refl,
+  refl,
+) refl refl refl refl
 
 one_second : IsDay None two_candidates (4 ∷ 4 ∷ []) old (second_falls_first 1) old
 one_second = day_by _ _ _ _ _ _ (
-    record {
-      pass = passes_with _ two_candidates (4 ∷ 4 ∷ []) _
-          (record { are_falls = (refl, refl, (refl, refl, tt)); settled = refl }) refl refl;
-      autos = refl;
-      freed = refl;
-    },
-    refl,
-    refl,
-  ) refl refl refl refl
+  record {
+    pass = passes_with _ two_candidates (4 ∷ 4 ∷ []) _
+        (record { are_falls = (refl, refl, (refl, refl, tt)); settled = refl }) refl refl;
+    autos = refl;
+    freed = refl;
+  },
+  refl,
+  refl,
+) refl refl refl refl
 
 two_first : IsDay None two_candidates (4 ∷ 4 ∷ []) old (first_falls_first 2) old
 two_first = day_by _ _ _ _ _ _ (
-    record {
-      pass = passes_with _ two_candidates (4 ∷ 4 ∷ []) _
-          (record { are_falls = (refl, refl, (refl, refl, tt)); settled = refl }) refl refl;
-      autos = refl;
-      freed = refl;
-    },
-    refl,
-    refl,
-  ) refl refl refl refl
+  record {
+    pass = passes_with _ two_candidates (4 ∷ 4 ∷ []) _
+        (record { are_falls = (refl, refl, (refl, refl, tt)); settled = refl }) refl refl;
+    autos = refl;
+    freed = refl;
+  },
+  refl,
+  refl,
+) refl refl refl refl
 
 two_second : IsDay None two_candidates (4 ∷ 4 ∷ []) old (second_falls_first 2) old
 two_second = day_by _ _ _ _ _ _ (
-    record {
-      pass = passes_with _ two_candidates (4 ∷ 4 ∷ []) _
-          (record { are_falls = (refl, refl, (refl, refl, tt)); settled = refl }) refl refl;
-      autos = refl;
-      freed = refl;
-    },
-    refl,
-    refl,
-  ) refl refl refl refl
+  record {
+    pass = passes_with _ two_candidates (4 ∷ 4 ∷ []) _
+        (record { are_falls = (refl, refl, (refl, refl, tt)); settled = refl }) refl refl;
+    autos = refl;
+    freed = refl;
+  },
+  refl,
+  refl,
+) refl refl refl refl
 
 full_called : AreCallOrders full_schools.groups two_candidates
 full_called = (called 2 _ _ refl (refl, (refl, tt)) (λ k. refl), tt)

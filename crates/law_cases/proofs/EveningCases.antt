@@ -122,14 +122,14 @@ next_unanswered = (
   unanswered_evening,
   refl,
   day_by _ _ _ _ _ _ (
-      record {
-        pass = passes_with _ (realistic_order ∷ []) (10 ∷ []) _ (record { are_falls = tt; settled = refl }) refl refl;
-        autos = refl;
-        freed = refl;
-      },
-      refl,
-      refl,
-    ) refl refl refl refl,
+    record {
+      pass = passes_with _ (realistic_order ∷ []) (10 ∷ []) _ (record { are_falls = tt; settled = refl }) refl refl;
+      autos = refl;
+      freed = refl;
+    },
+    refl,
+    refl,
+  ) refl refl refl refl,
   refl,
 )
 
@@ -192,14 +192,14 @@ past_holds = (
   evening_past,
   refl,
   day_by _ _ _ _ _ _ (
-      record {
-        pass = passes_with _ three_called [] _ (record { are_falls = tt; settled = refl }) refl refl;
-        autos = refl;
-        freed = refl;
-      },
-      refl,
-      refl,
-    ) refl refl refl refl,
+    record {
+      pass = passes_with _ three_called [] _ (record { are_falls = tt; settled = refl }) refl refl;
+      autos = refl;
+      freed = refl;
+    },
+    refl,
+    refl,
+  ) refl refl refl refl,
   refl,
 )
 
@@ -240,14 +240,14 @@ roomy_holds = (
   roomy_night,
   refl,
   day_by _ _ _ _ _ _ (
-      record {
-        pass = passes_with _ small_orders (3 ∷ []) _ (record { are_falls = tt; settled = refl }) refl refl;
-        autos = refl;
-        freed = refl;
-      },
-      refl,
-      refl,
-    ) refl refl refl refl,
+    record {
+      pass = passes_with _ small_orders (3 ∷ []) _ (record { are_falls = tt; settled = refl }) refl refl;
+      autos = refl;
+      freed = refl;
+    },
+    refl,
+    refl,
+  ) refl refl refl refl,
   refl,
 )
 

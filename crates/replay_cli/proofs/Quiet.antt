@@ -7,6 +7,7 @@ use Rattle.admit_core.specs.Lines.{slot_name}
 use Rattle.admit_core.specs.declared.refusal.Reason.TheVariants.{TooLarge}
 use Rattle.admit_core.specs.declared.slot.Slot.{Slot}
 use Rattle.admit_core.specs.declared.slot.Slot.TheVariants as slots
+use Rattle.dossier_check.proofs.Pairs.{order as same_or_not}
 use Rattle.intake.specs.Shelves.{IsTooLarge, OnShelf, TakesSlots}
 use Rattle.intake.specs.Stops.{stop_text}
 use Rattle.intake.specs.declared.stop.Stop.{Stop}
@@ -65,9 +66,6 @@ large_has_line slot (inl is) = absurd (cc)
 large_has_line slot (inr long) = absurd (omega (arith, large_fits slot, long))
 
 -- what can't be otherwise
-same_or_not : (a b : ℕ) → (a < b) ⊎ ((b < a) ⊎ (a ≡ b))
-same_or_not a b = grind arith
-
 same : (a b : ℕ) → ((a ≡ b → ⊥) → ⊥) → a ≡ b
 same a b never = by (same_or_not a b)
   where
