@@ -106,13 +106,13 @@ ending_says : (slot : Slot) (job : Job) (before after : Lent) (exit : Exit) (tex
 ending_says slot job before after exit text (inl morning) is = absurd (cc (morning.ends.0, is))
 ending_says slot job before after exit text (inr refused) is = absurd (cc (refused.0, is))
 
-reply_says : {E : Type 0} (asked : Option Asked) (shelf shelf' : OnShelf) (before after : Lent)
+reply_says : (E : Type 0) (asked : Option Asked) (shelf shelf' : OnShelf) (before after : Lent)
     (taken : Result (Asked × Input) Stop) (reply : Reply) → TakesFor asked shelf shelf' taken
     → RepliesTo {E = E} taken before after (Ok reply) → reply.exit ≡ exits.NoMemory → ⊥
-reply_says asked shelf shelf' before after (Err stop) reply takes replies is =
+reply_says E asked shelf shelf' before after (Err stop) reply takes replies is =
     stop_says stop reply.exit reply.text.items replies.1 is
-reply_says None shelf shelf' before after (Ok x) reply takes replies is = absurd takes.0
-reply_says (Some asked) shelf shelf' before after (Ok x) reply takes replies is =
+reply_says E None shelf shelf' before after (Ok x) reply takes replies is = absurd takes.0
+reply_says E (Some asked) shelf shelf' before after (Ok x) reply takes replies is =
     let given = takes.1.value in
     let there : IsJobOf x.0.request given.job =
     subst (λ (q : Asked). IsJobOf q.request given.job) (sym takes.0) given.is_job in
@@ -154,7 +154,7 @@ module _ {E : Type 0} (words : List (List ℕ)) (before after : Around) where
       → (¬ MayLack → exit ≡ exits.NoMemory → IfOk result (λ reply. reply.exit ≡ exits.NoMemory))
       → HidesNone MayLack before.shelf after.shelf before.sink after.sink exit
   hidden MayLack (Ok reply) exit replies delivers lacks never is =
-      absurd (reply_says {E = E} (asked_of words) before.shelf after.shelf before.pickers after.pickers replies.taken
+      absurd (reply_says E (asked_of words) before.shelf after.shelf before.pickers after.pickers replies.taken
       reply replies.takes.takes replies.replies (lacks never is))
   hidden MayLack (Err e) exit replies delivers lacks never is = record {
     reads = quiet_for (asked_of words) before.shelf after.shelf before.pickers after.pickers replies.taken e
