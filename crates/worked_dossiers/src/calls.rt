@@ -3,9 +3,7 @@ ghost use Rattle.std.specs.Prelude.{◌≡◌, length, IfOk};
 ghost use Rattle.admit_core.specs.CallOrder.{AreCallOrders};
 ghost use Rattle.admit_core.specs.Ranges.{IsDay as IsDayNumber};
 
-use crate::campaigns::{
-    campaign_of, dated_campaign_of, grown_bars_of, least_beds_of, with_beds_of,
-};
+use crate::campaigns::{campaign_of, grown_bars_of, least_beds_of, with_beds_of};
 use crate::tables::{call_orders_of, dossier_of};
 use crate::views::{push_wishes, school_id};
 use admit_core::{
@@ -162,7 +160,7 @@ fn one_day(alloc: Global, dossier: &Dossier, day: u32) -> Result<String, OutOfMe
 }
 
 /// Terms of so many days, where all offers that came in are of the day before the first.
-pub(crate) fn terms_of(alloc: Global, dossier: &Dossier, term: u32) -> Result<Terms, OutOfMemory>
+fn terms_of(alloc: Global, dossier: &Dossier, term: u32) -> Result<Terms, OutOfMemory>
     ensures { IfOk result (λ terms. length terms.before ≡ length dossier.now.wishes) }
 {
     let before = vec![in alloc; 0; dossier.wishes.len()]?;
@@ -264,7 +262,6 @@ fn answer_on(
         "run_day" if 1 <= number && number <= 366 => one_day(alloc, dossier, number),
         "run_dated_day" if 1 <= number && number <= 366 => one_dated_day(alloc, dossier, number),
         "campaign" => campaign_of(alloc, dossier, number),
-        "dated_campaign" => dated_campaign_of(alloc, dossier, number),
         "with_beds" => with_beds_of(alloc, dossier, number),
         "least_beds" => least_beds_of(alloc, dossier, number),
         "grown_bars" => grown_bars_of(alloc, dossier, number),

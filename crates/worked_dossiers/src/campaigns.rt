@@ -3,10 +3,10 @@ ghost use Rattle.std.specs.Prelude.{◌≡◌, ◌+◌, ◌<◌, ◌≤◌, leng
 ghost use Rattle.admit_core.specs.CallOrder.{AreCallOrders};
 ghost use Rattle.admit_core.specs.DossierRows.{beds_of};
 
-use crate::calls::{ended_text, first_pass, push_numbers, terms_of};
+use crate::calls::{ended_text, first_pass, push_numbers};
 use crate::tables::call_orders_of;
-use admit_core::{CallOrders, Dossier, OutOfMemory, Terms};
-use bar_fixpoint::{FirstPicker, LastPicker, Picker};
+use admit_core::{CallOrders, Dossier, OutOfMemory};
+use bar_fixpoint::{FirstPicker, Picker};
 use bed_need::{Growth, MoreBeds, grown_bars, least_beds};
 use day_run::Campaign;
 use day_state::DayState;
@@ -60,80 +60,6 @@ pub(crate) fn campaign_of(
         Ok(picker) => begun_by(alloc, dossier, &orders, picker, days),
         Err(_) => Err(OutOfMemory),
     }
-}
-
-/// One text behind another.
-fn joined(
-    first: Result<String, OutOfMemory>,
-    others: Result<String, OutOfMemory>,
-) -> Result<String, OutOfMemory> {
-    let mut text = first?;
-    text.push_str(others?.as_str())?;
-    Ok(text)
-}
-
-/// The lines of the next day of a campaign, and those of so many more by another picker.
-fn turned_text(
-    alloc: Global,
-    campaign: &mut Campaign<'_>,
-    other: Box<dyn Picker>,
-    days: u32,
-) -> Result<String, OutOfMemory> {
-    let first = next_text(alloc, campaign);
-    let _ = campaign.set_picker(other);
-    let others = days_text(alloc, campaign, days);
-    joined(first, others)
-}
-
-/// The lines of the first days of a campaign with terms, the first by a picker and the others by
-/// another one.
-fn begun_dated(
-    alloc: Global,
-    dossier: &Dossier,
-    orders: &CallOrders,
-    terms: Terms,
-    pickers: (Box<dyn Picker>, Box<dyn Picker>),
-    others: u32,
-) -> Result<String, OutOfMemory>
-    requires orders { AreCallOrders dossier.now.groups orders.now.orders }
-    requires before { length terms.before ≡ length dossier.now.wishes }
-{
-    let (picker, other) = pickers;
-    match Campaign::begin_dated(alloc, dossier, orders, terms, picker) {
-        Ok(mut campaign) => turned_text(alloc, &mut campaign, other, others),
-        Err(_) => Err(OutOfMemory),
-    }
-}
-
-/// The same by the first picker and then the last.
-fn begun_by_two(
-    alloc: Global,
-    dossier: &Dossier,
-    orders: &CallOrders,
-    terms: Terms,
-    others: u32,
-) -> Result<String, OutOfMemory>
-    requires orders { AreCallOrders dossier.now.groups orders.now.orders }
-    requires before { length terms.before ≡ length dossier.now.wishes }
-{
-    let first = Box::new(alloc, FirstPicker::new(alloc));
-    let last = Box::new(alloc, LastPicker::new(alloc));
-    match (first, last) {
-        (Ok(first), Ok(last)) => begun_dated(alloc, dossier, orders, terms, (first, last), others),
-        _ => Err(OutOfMemory),
-    }
-}
-
-/// The lines of the first day of a campaign with terms of one day, and of so many more by another
-/// picker.
-pub(crate) fn dated_campaign_of(
-    alloc: Global,
-    dossier: &Dossier,
-    others: u32,
-) -> Result<String, OutOfMemory> {
-    let orders = call_orders_of(alloc, dossier)?;
-    let terms = terms_of(alloc, dossier, 1)?;
-    begun_by_two(alloc, dossier, &orders, terms, others)
 }
 
 /// The lines of the first pass where the first school has so many beds.
