@@ -160,7 +160,8 @@ days_hold : Days None crossed_orders 1 (first_evening crossed) crossed_days cros
 days_hold = (
   crossed_evening,
   refl,
-  day_by _ _ _ _ _ _ (end_by _ _ _ _ _ _ (record { are_falls = tt; settled = refl }) refl refl refl refl, refl, refl) refl refl refl refl,
+  day_by _ _ _ _ _ _ (end_by _ _ _ _ _ _ (record { are_falls = tt; settled = refl }) refl refl refl refl, refl, refl)
+      refl refl refl refl,
   refl,
 )
 

@@ -16,7 +16,11 @@ seat_more_can_empty = (
     are_days = (
       _,
       refl,
-      day_by _ _ _ _ _ _ (end_by _ _ _ _ _ _ (record { are_falls = tt; settled = refl }) refl refl refl refl, refl, refl) refl refl refl refl,
+      day_by _ _ _ _ _ _ (
+        end_by _ _ _ _ _ _ (record { are_falls = tt; settled = refl }) refl refl refl refl,
+        refl,
+        refl,
+      ) refl refl refl refl,
       refl,
     );
   },
@@ -50,7 +54,11 @@ leaving_out_can_pay = (
     are_days = (
       _,
       refl,
-      day_by _ _ _ _ _ _ (end_by _ _ _ _ _ _ (record { are_falls = tt; settled = refl }) refl refl refl refl, refl, refl) refl refl refl refl,
+      day_by _ _ _ _ _ _ (
+        end_by _ _ _ _ _ _ (record { are_falls = tt; settled = refl }) refl refl refl refl,
+        refl,
+        refl,
+      ) refl refl refl refl,
       refl,
     );
   },
@@ -102,7 +110,11 @@ better_rank_can_harm = (
     are_days = (
       _,
       refl,
-      day_by _ _ _ _ _ _ (end_by _ _ _ _ _ _ (record { are_falls = tt; settled = refl }) refl refl refl refl, refl, refl) refl refl refl refl,
+      day_by _ _ _ _ _ _ (
+        end_by _ _ _ _ _ _ (record { are_falls = tt; settled = refl }) refl refl refl refl,
+        refl,
+        refl,
+      ) refl refl refl refl,
       refl,
     );
   },
@@ -157,7 +169,11 @@ seat_more_can_place_fewer = (
     are_days = (
       _,
       refl,
-      day_by _ _ _ _ _ _ (end_by _ _ _ _ _ _ (record { are_falls = tt; settled = refl }) refl refl refl refl, refl, refl) refl refl refl refl,
+      day_by _ _ _ _ _ _ (
+        end_by _ _ _ _ _ _ (record { are_falls = tt; settled = refl }) refl refl refl refl,
+        refl,
+        refl,
+      ) refl refl refl refl,
       refl,
     );
   },
@@ -203,7 +219,11 @@ bed_more_can_place_fewer = (
     are_days = (
       _,
       refl,
-      day_by _ _ _ _ _ _ (end_by _ _ _ _ _ _ (record { are_falls = tt; settled = refl }) refl refl refl refl, refl, refl) refl refl refl refl,
+      day_by _ _ _ _ _ _ (
+        end_by _ _ _ _ _ _ (record { are_falls = tt; settled = refl }) refl refl refl refl,
+        refl,
+        refl,
+      ) refl refl refl refl,
       refl,
     );
   },

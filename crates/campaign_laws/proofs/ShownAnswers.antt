@@ -20,7 +20,11 @@ quitting_can_cost = (
     are_days = (
       _,
       refl,
-      day_by _ _ _ _ _ _ (end_by _ _ _ _ _ _ (record { are_falls = tt; settled = refl }) refl refl refl refl, refl, refl) refl refl refl refl,
+      day_by _ _ _ _ _ _ (
+        end_by _ _ _ _ _ _ (record { are_falls = tt; settled = refl }) refl refl refl refl,
+        refl,
+        refl,
+      ) refl refl refl refl,
       refl,
     );
   },
@@ -51,7 +55,11 @@ accepting_can_cost = (
     are_days = (
       _,
       refl,
-      day_by _ _ _ _ _ _ (end_by _ _ _ _ _ _ (record { are_falls = tt; settled = refl }) refl refl refl refl, refl, refl) refl refl refl refl,
+      day_by _ _ _ _ _ _ (
+        end_by _ _ _ _ _ _ (record { are_falls = tt; settled = refl }) refl refl refl refl,
+        refl,
+        refl,
+      ) refl refl refl refl,
       refl,
     );
   },
@@ -62,7 +70,11 @@ accepting_can_cost = (
     are_days = (
       _,
       refl,
-      day_by _ _ _ _ _ _ (end_by _ _ _ _ _ _ (record { are_falls = tt; settled = refl }) refl refl refl refl, refl, refl) refl refl refl refl,
+      day_by _ _ _ _ _ _ (
+        end_by _ _ _ _ _ _ (record { are_falls = tt; settled = refl }) refl refl refl refl,
+        refl,
+        refl,
+      ) refl refl refl refl,
       refl,
     );
   },
@@ -93,7 +105,11 @@ withdrawing_can_cost = (
     are_days = (
       _,
       refl,
-      day_by _ _ _ _ _ _ (end_by _ _ _ _ _ _ (record { are_falls = tt; settled = refl }) refl refl refl refl, refl, refl) refl refl refl refl,
+      day_by _ _ _ _ _ _ (
+        end_by _ _ _ _ _ _ (record { are_falls = tt; settled = refl }) refl refl refl refl,
+        refl,
+        refl,
+      ) refl refl refl refl,
       refl,
     );
   },
@@ -113,11 +129,19 @@ accepting_earlier_can_cost = (
             marked Offered 1 1 ∷ marked Accepted 1 0 ∷ marked Waiting 0 0 ∷ [];
       },
       refl,
-      day_by _ _ _ _ _ _ (end_by _ _ _ _ _ _ (record { are_falls = tt; settled = refl }) refl refl refl refl, refl, refl) refl refl refl refl,
+      day_by _ _ _ _ _ _ (
+        end_by _ _ _ _ _ _ (record { are_falls = tt; settled = refl }) refl refl refl refl,
+        refl,
+        refl,
+      ) refl refl refl refl,
       (
         _,
         refl,
-        day_by _ _ _ _ _ _ (end_by _ _ _ _ _ _ (record { are_falls = tt; settled = refl }) refl refl refl refl, refl, refl) refl refl refl refl,
+        day_by _ _ _ _ _ _ (
+          end_by _ _ _ _ _ _ (record { are_falls = tt; settled = refl }) refl refl refl refl,
+          refl,
+          refl,
+        ) refl refl refl refl,
         refl,
       ),
     );
@@ -133,11 +157,19 @@ accepting_earlier_can_cost = (
             marked Offered 1 1 ∷ marked Offered 0 0 ∷ marked Waiting 0 0 ∷ [];
       },
       refl,
-      day_by _ _ _ _ _ _ (end_by _ _ _ _ _ _ (record { are_falls = tt; settled = refl }) refl refl refl refl, refl, refl) refl refl refl refl,
+      day_by _ _ _ _ _ _ (
+        end_by _ _ _ _ _ _ (record { are_falls = tt; settled = refl }) refl refl refl refl,
+        refl,
+        refl,
+      ) refl refl refl refl,
       (
         _,
         refl,
-        day_by _ _ _ _ _ _ (end_by _ _ _ _ _ _ (record { are_falls = tt; settled = refl }) refl refl refl refl, refl, refl) refl refl refl refl,
+        day_by _ _ _ _ _ _ (
+          end_by _ _ _ _ _ _ (record { are_falls = tt; settled = refl }) refl refl refl refl,
+          refl,
+          refl,
+        ) refl refl refl refl,
         refl,
       ),
     );
@@ -160,7 +192,11 @@ answers_cannot_be_split = (
             marked Waiting 0 0 ∷ marked Offered 1 1 ∷ marked Offered 1 1 ∷ [];
       },
       refl,
-      day_by _ _ _ _ _ _ (end_by _ _ _ _ _ _ (record { are_falls = tt; settled = refl }) refl refl refl refl, refl, refl) refl refl refl refl,
+      day_by _ _ _ _ _ _ (
+        end_by _ _ _ _ _ _ (record { are_falls = tt; settled = refl }) refl refl refl refl,
+        refl,
+        refl,
+      ) refl refl refl refl,
       (
         record {
           dossier =
@@ -170,11 +206,19 @@ answers_cannot_be_split = (
               marked Offered 2 1 ∷ marked Accepted 2 0 ∷ marked HasQuit 2 0 ∷ [];
         },
         refl,
-        day_by _ _ _ _ _ _ (end_by _ _ _ _ _ _ (record { are_falls = tt; settled = refl }) refl refl refl refl, refl, refl) refl refl refl refl,
+        day_by _ _ _ _ _ _ (
+          end_by _ _ _ _ _ _ (record { are_falls = tt; settled = refl }) refl refl refl refl,
+          refl,
+          refl,
+        ) refl refl refl refl,
         (
           _,
           refl,
-          day_by _ _ _ _ _ _ (end_by _ _ _ _ _ _ (record { are_falls = tt; settled = refl }) refl refl refl refl, refl, refl) refl refl refl refl,
+          day_by _ _ _ _ _ _ (
+            end_by _ _ _ _ _ _ (record { are_falls = tt; settled = refl }) refl refl refl refl,
+            refl,
+            refl,
+          ) refl refl refl refl,
           refl,
         ),
       ),
@@ -193,7 +237,11 @@ answers_cannot_be_split = (
             marked Waiting 0 0 ∷ marked Offered 1 1 ∷ marked Offered 1 1 ∷ [];
       },
       refl,
-      day_by _ _ _ _ _ _ (end_by _ _ _ _ _ _ (record { are_falls = tt; settled = refl }) refl refl refl refl, refl, refl) refl refl refl refl,
+      day_by _ _ _ _ _ _ (
+        end_by _ _ _ _ _ _ (record { are_falls = tt; settled = refl }) refl refl refl refl,
+        refl,
+        refl,
+      ) refl refl refl refl,
       (
         record {
           dossier =
@@ -203,11 +251,19 @@ answers_cannot_be_split = (
               marked Offered 2 1 ∷ marked Offered 1 1 ∷ marked HasQuit 2 0 ∷ [];
         },
         refl,
-        day_by _ _ _ _ _ _ (end_by _ _ _ _ _ _ (record { are_falls = tt; settled = refl }) refl refl refl refl, refl, refl) refl refl refl refl,
+        day_by _ _ _ _ _ _ (
+          end_by _ _ _ _ _ _ (record { are_falls = tt; settled = refl }) refl refl refl refl,
+          refl,
+          refl,
+        ) refl refl refl refl,
         (
           _,
           refl,
-          day_by _ _ _ _ _ _ (end_by _ _ _ _ _ _ (record { are_falls = tt; settled = refl }) refl refl refl refl, refl, refl) refl refl refl refl,
+          day_by _ _ _ _ _ _ (
+            end_by _ _ _ _ _ _ (record { are_falls = tt; settled = refl }) refl refl refl refl,
+            refl,
+            refl,
+          ) refl refl refl refl,
           refl,
         ),
       ),

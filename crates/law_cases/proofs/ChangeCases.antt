@@ -45,11 +45,13 @@ stay_holds : Days None three_orders 1 (first_evening all_stay) stay_days stay_ev
 stay_holds = (
   stay_evening,
   refl,
-  day_by _ _ _ _ _ _ (end_by _ _ _ _ _ _ (record { are_falls = tt; settled = refl }) refl refl refl refl, refl, refl) refl refl refl refl,
+  day_by _ _ _ _ _ _ (end_by _ _ _ _ _ _ (record { are_falls = tt; settled = refl }) refl refl refl refl, refl, refl)
+      refl refl refl refl,
   (
     stay_evening,
     refl,
-    day_by _ _ _ _ _ _ (end_by _ _ _ _ _ _ (record { are_falls = tt; settled = refl }) refl refl refl refl, refl, refl) refl refl refl refl,
+    day_by _ _ _ _ _ _ (end_by _ _ _ _ _ _ (record { are_falls = tt; settled = refl }) refl refl refl refl, refl, refl)
+        refl refl refl refl,
     refl,
   ),
 )
@@ -58,11 +60,13 @@ quit_holds : Days None three_orders 1 (first_evening one_quits) quit_days quit_e
 quit_holds = (
   record stay_evening { dossier = one_quits },
   refl,
-  day_by _ _ _ _ _ _ (end_by _ _ _ _ _ _ (record { are_falls = tt; settled = refl }) refl refl refl refl, refl, refl) refl refl refl refl,
+  day_by _ _ _ _ _ _ (end_by _ _ _ _ _ _ (record { are_falls = tt; settled = refl }) refl refl refl refl, refl, refl)
+      refl refl refl refl,
   (
     quit_evening,
     refl,
-    day_by _ _ _ _ _ _ (end_by _ _ _ _ _ _ (record { are_falls = tt; settled = refl }) refl refl refl refl, refl, refl) refl refl refl refl,
+    day_by _ _ _ _ _ _ (end_by _ _ _ _ _ _ (record { are_falls = tt; settled = refl }) refl refl refl refl, refl, refl)
+        refl refl refl refl,
     refl,
   ),
 )
@@ -146,11 +150,13 @@ later_hold : Days None second_of_two 1 (first_evening waits_behind) later_days
 later_hold = (
   with_two (marked Waiting 0 0) (marked Offered 1 1),
   refl,
-  day_by _ _ _ _ _ _ (end_by _ _ _ _ _ _ (record { are_falls = tt; settled = refl }) refl refl refl refl, refl, refl) refl refl refl refl,
+  day_by _ _ _ _ _ _ (end_by _ _ _ _ _ _ (record { are_falls = tt; settled = refl }) refl refl refl refl, refl, refl)
+      refl refl refl refl,
   (
     with_two (marked Offered 2 1) (marked Quit 2 0),
     refl,
-    day_by _ _ _ _ _ _ (end_by _ _ _ _ _ _ (record { are_falls = tt; settled = refl }) refl refl refl refl, refl, refl) refl refl refl refl,
+    day_by _ _ _ _ _ _ (end_by _ _ _ _ _ _ (record { are_falls = tt; settled = refl }) refl refl refl refl, refl, refl)
+        refl refl refl refl,
     refl,
   ),
 )
@@ -160,11 +166,13 @@ sooner_hold : Days None first_of_two 1 (first_evening waits_behind) sooner_days
 sooner_hold = (
   with_two (marked Offered 1 1) (marked Waiting 0 0),
   refl,
-  day_by _ _ _ _ _ _ (end_by _ _ _ _ _ _ (record { are_falls = tt; settled = refl }) refl refl refl refl, refl, refl) refl refl refl refl,
+  day_by _ _ _ _ _ _ (end_by _ _ _ _ _ _ (record { are_falls = tt; settled = refl }) refl refl refl refl, refl, refl)
+      refl refl refl refl,
   (
     with_two (marked Offered 1 1) (marked Quit 2 0),
     refl,
-    day_by _ _ _ _ _ _ (end_by _ _ _ _ _ _ (record { are_falls = tt; settled = refl }) refl refl refl refl, refl, refl) refl refl refl refl,
+    day_by _ _ _ _ _ _ (end_by _ _ _ _ _ _ (record { are_falls = tt; settled = refl }) refl refl refl refl, refl, refl)
+        refl refl refl refl,
     refl,
   ),
 )
@@ -207,7 +215,8 @@ third_hold : Days None one_order 1 (first_evening third_choice) third_days third
 third_hold = (
   third_evening,
   refl,
-  day_by _ _ _ _ _ _ (end_by _ _ _ _ _ _ (record { are_falls = tt; settled = refl }) refl refl refl refl, refl, refl) refl refl refl refl,
+  day_by _ _ _ _ _ _ (end_by _ _ _ _ _ _ (record { are_falls = tt; settled = refl }) refl refl refl refl, refl, refl)
+      refl refl refl refl,
   refl,
 )
 
