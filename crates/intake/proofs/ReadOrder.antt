@@ -1,5 +1,5 @@
 -- Reading slots in their order.
-use Rattle.std.proofs.Common.{◌≡◌, ◌≢◌, ◌∙◌, ℕ, ◌+◌, ◌<◌, ◌≤◌, ◌⊎◌, List, [], ◌∷◌, ◌++◌, AllPairs, Contains, Some}
+use Rattle.std.proofs.Common.{◌≡◌, ◌≢◌, ◌∙◌, ℕ, ◌+◌, ◌^◌, ◌<◌, ◌≤◌, ◌⊎◌, List, [], ◌∷◌, ◌++◌, AllPairs, Contains, Some}
 use Rattle.std.proofs.Common.{Result, Ok, Err, IsErrAnd, arith, ap, drop, inl, inr, length, refl, slice_index_or, subst}
 use Rattle.std.proofs.Common.{sym, take}
 use Rattle.std.proofs.lemmas.Bool.{cases_lt}
@@ -11,7 +11,7 @@ use Rattle.admit_core.specs.Ranges.{AreTables}
 use Rattle.slot_io.specs.Faults.{NoneFell}
 use Rattle.dossier_csv.specs.Shape.{Refuses}
 use Rattle.intake.specs.Reading.{files_in, no_files, sized, with_slot, with_slots}
-use Rattle.intake.specs.Shelves.{FaultsAt, HasCause, IsFaultAt, IsTooLarge, OnShelf, TakesSlots, Tells, TouchesOnly}
+use Rattle.intake.specs.Shelves.{FaultsAt, HasCause, IsFaultAt, IsTooLarge, OnShelf, ReadsOnce, TakesSlots, Tells}
 use Rattle.intake.specs.Stops.{◌>>=◌, Gives, Stopped, refused_as, stop_of}
 use Rattle.intake.specs.declared.files.Files.{Files}
 use Rattle.intake.specs.declared.stop.Stop.{Stop}
@@ -24,7 +24,7 @@ pub record AreReadTo (order : List Slot) (before after : OnShelf) (place : ℕ) 
   pub ends : (slots : Slot → List ℕ) → Tells order before.left slots → (i : ℕ) (slot : Slot) → i < place
       → slice_index_or order i slot ≡ slot → after.left slot ≡ Some []
   pub once : (i : ℕ) (slot : Slot) → i < place → slice_index_or order i slot ≡ slot
-      → after.taken slot ≤ before.taken slot + 1073741824
+      → after.taken slot ≤ before.taken slot + 2 ^ 30
   pub rest : (i : ℕ) (slot : Slot) → place ≤ i → i < length order → slice_index_or order i slot ≡ slot
       → after.left slot ≡ before.left slot
   pub rest_taken : (i : ℕ) (slot : Slot) → place ≤ i → i < length order → slice_index_or order i slot ≡ slot
@@ -73,7 +73,7 @@ not_twice order distinct i j one other lt within is is' same =
 module _ (order : List Slot) (distinct : AllPairs (λ one other. one ≢ other) order) (before mid after : OnShelf)
     (place : ℕ) (slot : Slot) (files : Files) (within : place < length order)
     (is_there : slice_index_or order place slot ≡ slot)
-    (so_far : AreReadTo order before mid place files) (touches : TouchesOnly slot mid after) where
+    (so_far : AreReadTo order before mid place files) (touches : ReadsOnce slot mid after) where
   left_there : mid.left slot ≡ before.left slot
   left_there = so_far.rest place slot (omega arith) within is_there
 
@@ -100,57 +100,57 @@ module _ (order : List Slot) (distinct : AllPairs (λ one other. one ≢ other) 
   not_among other out e = out (place, within, subst (λ (s : Slot). slice_index_or order place s ≡ s) (sym e) is_there)
 
   sized_before : (i : ℕ) (other : Slot) → i < place → slice_index_or order i other ≡ other
-      → after.taken other ≤ before.taken other + 1073741824
+      → after.taken other ≤ before.taken other + 2 ^ 30
   sized_before i other first is =
       let kept : after.taken other ≡ mid.taken other =
-      touches.others_taken other (is_other i other (omega arith) (omega arith) is) in
+      touches.others.taken other (is_other i other (omega arith) (omega arith) is) in
       omega (arith, kept, so_far.once i other first is)
 
   once_to : (i : ℕ) (other : Slot) → i < place + 1 → slice_index_or order i other ≡ other
-      → after.taken other ≤ before.taken other + 1073807360
+      → after.taken other ≤ before.taken other + (2 ^ 30 + 65536)
   once_to i other lt is = elim (cases_lt i place) [
     | inl first ↦ omega (arith, sized_before i other first is)
     | inr later ↦
         let at : i ≡ place = omega arith in
-        let here : after.taken slot ≤ before.taken slot + 1073807360 = omega (arith, taken_there, touches.once) in
-        subst (λ (s : Slot). after.taken s ≤ before.taken s + 1073807360) (same_there i other at is) here
+        let here : after.taken slot ≤ before.taken slot + (2 ^ 30 + 65536) = omega (arith, taken_there, touches.once) in
+        subst (λ (s : Slot). after.taken s ≤ before.taken s + (2 ^ 30 + 65536)) (same_there i other at is) here
   ]
 
   -- the sizes of the slots so far
-  sized_to : after.taken slot ≤ mid.taken slot + 1073741824 → (i : ℕ) (other : Slot) → i < place + 1
-      → slice_index_or order i other ≡ other → after.taken other ≤ before.taken other + 1073741824
+  sized_to : after.taken slot ≤ mid.taken slot + 2 ^ 30 → (i : ℕ) (other : Slot) → i < place + 1
+      → slice_index_or order i other ≡ other → after.taken other ≤ before.taken other + 2 ^ 30
   sized_to small i other lt is = elim (cases_lt i place) [
     | inl first ↦ sized_before i other first is
     | inr later ↦
         let at : i ≡ place = omega arith in
-        let here : after.taken slot ≤ before.taken slot + 1073741824 = omega (arith, taken_there, small) in
-        subst (λ (s : Slot). after.taken s ≤ before.taken s + 1073741824) (same_there i other at is) here
+        let here : after.taken slot ≤ before.taken slot + 2 ^ 30 = omega (arith, taken_there, small) in
+        subst (λ (s : Slot). after.taken s ≤ before.taken s + 2 ^ 30) (same_there i other at is) here
   ]
 
   rest_left : (i : ℕ) (other : Slot) → place + 1 ≤ i → i < length order → slice_index_or order i other ≡ other
       → after.left other ≡ before.left other
-  rest_left i other le lt is = touches.others other (is_other i other (omega arith) lt is)
+  rest_left i other le lt is = touches.others.left other (is_other i other (omega arith) lt is)
       ∙ so_far.rest i other (omega arith) lt is
 
   rest_taken : (i : ℕ) (other : Slot) → place + 1 ≤ i → i < length order → slice_index_or order i other ≡ other
       → after.taken other ≡ before.taken other
-  rest_taken i other le lt is = touches.others_taken other (is_other i other (omega arith) lt is)
+  rest_taken i other le lt is = touches.others.taken other (is_other i other (omega arith) lt is)
       ∙ so_far.rest_taken i other (omega arith) lt is
 
   fell_none : NoneFell before.faults after.faults
-  fell_none s = omega (arith, so_far.none_fell s, touches.counts s)
+  fell_none s = omega (arith, so_far.none_fell s, touches.others.counts s)
 
   others_quiet : (other : Slot) → ¬ Contains order other → after.faults other ≡ before.faults other
-  others_quiet other out = touches.others_faults other (not_among other out) ∙ so_far.others_quiet other out
+  others_quiet other out = touches.others.faults other (not_among other out) ∙ so_far.others_quiet other out
 
-  size_here : (stop : Stop) → (after.taken slot ≤ mid.taken slot + 1073741824) ⊎ IsTooLarge slot stop
-      → (after.taken slot ≤ before.taken slot + 1073741824) ⊎ IsTooLarge slot stop
+  size_here : (stop : Stop) → (after.taken slot ≤ mid.taken slot + 2 ^ 30) ⊎ IsTooLarge slot stop
+      → (after.taken slot ≤ before.taken slot + 2 ^ 30) ⊎ IsTooLarge slot stop
   size_here stop (inl small) = inl (omega (arith, taken_there, small))
   size_here stop (inr large) = inr large
 
   quiet_apart : (i : ℕ) (other : Slot) → i ≢ place → i < length order → slice_index_or order i other ≡ other
       → after.faults other ≡ before.faults other
-  quiet_apart i other apart lt is = touches.others_faults other (is_other i other apart lt is)
+  quiet_apart i other apart lt is = touches.others.faults other (is_other i other apart lt is)
       ∙ so_far.quiet i other lt is
 
   quiet_here : after.faults slot ≡ mid.faults slot → after.faults slot ≡ before.faults slot
@@ -172,7 +172,7 @@ module _ (order : List Slot) (distinct : AllPairs (λ one other. one ≢ other) 
       → ((read : List ℕ) → mid.left slot ≡ Some read → sized slot read ≡ Ok bytes)
       → ((read : List ℕ) → mid.left slot ≡ Some read → after.left slot ≡ Some [])
       → with_slot files slot bytes ≡ Ok more → AreTables more.tables → after.faults slot ≡ mid.faults slot
-      → after.taken slot ≤ mid.taken slot + 1073741824
+      → after.taken slot ≤ mid.taken slot + 2 ^ 30
       → AreReadTo order before after (place + 1) more
   unfolding with_slots
   read_one bytes more has ends holds ranges same small = record {
@@ -186,7 +186,7 @@ module _ (order : List Slot) (distinct : AllPairs (λ one other. one ≢ other) 
     ) refl;
     ranges = ranges;
     ends = λ slots tells i other lt is. elim (cases_lt i place) [
-      | inl first ↦ touches.others other (is_other i other (omega arith) (omega arith) is)
+      | inl first ↦ touches.others.left other (is_other i other (omega arith) (omega arith) is)
           ∙ so_far.ends slots tells i other first is
       | inr later ↦ subst (λ (s : Slot). after.left s ≡ Some []) (same_there i other (omega arith) is)
           (ends (slots slot) (told_there slots tells))
@@ -194,8 +194,8 @@ module _ (order : List Slot) (distinct : AllPairs (λ one other. one ≢ other) 
     once = sized_to small;
     rest = rest_left;
     rest_taken = rest_taken;
-    others = λ other out. touches.others other (not_among other out) ∙ so_far.others other out;
-    others_taken = λ other out. touches.others_taken other (not_among other out) ∙ so_far.others_taken other out;
+    others = λ other out. touches.others.left other (not_among other out) ∙ so_far.others other out;
+    others_taken = λ other out. touches.others.taken other (not_among other out) ∙ so_far.others_taken other out;
     none_fell = fell_none;
     quiet = quiet_to same;
     others_quiet = others_quiet;
@@ -277,21 +277,21 @@ module _ (order : List Slot) (distinct : AllPairs (λ one other. one ≢ other) 
   stop_is s stop other from (inr fault) = inr (from ∙ fault)
 
   -- no slot is too large, or that is the stop
-  size_to : (stop : Stop) → (after.taken slot ≤ mid.taken slot + 1073741824) ⊎ IsTooLarge slot stop
+  size_to : (stop : Stop) → (after.taken slot ≤ mid.taken slot + 2 ^ 30) ⊎ IsTooLarge slot stop
       → (i : ℕ) (other : Slot) → i < length order → slice_index_or order i other ≡ other
-      → (after.taken other ≤ before.taken other + 1073741824) ⊎ IsTooLarge other stop
+      → (after.taken other ≤ before.taken other + 2 ^ 30) ⊎ IsTooLarge other stop
   size_to stop size i other lt is = elim (cases_lt i place) [
     | inl first ↦ inl (sized_before i other first is)
     | inr later ↦ elim (cases_lt place i) [
       | inl past ↦ inl (omega (arith, rest_taken i other (omega arith) lt is))
-      | inr here ↦ subst (λ (s : Slot). (after.taken s ≤ before.taken s + 1073741824) ⊎ IsTooLarge s stop)
+      | inr here ↦ subst (λ (s : Slot). (after.taken s ≤ before.taken s + 2 ^ 30) ⊎ IsTooLarge s stop)
           (same_there i other (omega arith) is) (size_here stop size)
     ]
   ]
 
   size_is : (s stop : Stop) (other : Slot) → s ≡ stop
-      → (after.taken other ≤ before.taken other + 1073741824) ⊎ IsTooLarge other stop
-      → (after.taken other ≤ before.taken other + 1073741824) ⊎ IsTooLarge other s
+      → (after.taken other ≤ before.taken other + 2 ^ 30) ⊎ IsTooLarge other stop
+      → (after.taken other ≤ before.taken other + 2 ^ 30) ⊎ IsTooLarge other s
   size_is s stop other from (inl small) = inl small
   size_is s stop other from (inr large) = inr (from ∙ large)
 
@@ -299,7 +299,7 @@ module _ (order : List Slot) (distinct : AllPairs (λ one other. one ≢ other) 
   pub taken_till : {A : Type 0} (r : Result A Stop) (stop : Stop) → IsErrAnd r (λ s. s ≡ stop)
       → HasCause order before after stop
       → (after.faults slot ≡ mid.faults slot) ⊎ (stop ≡ stops.ReadFault slot)
-      → (after.taken slot ≤ mid.taken slot + 1073741824) ⊎ IsTooLarge slot stop → TakesSlots order before after r
+      → (after.taken slot ≤ mid.taken slot + 2 ^ 30) ⊎ IsTooLarge slot stop → TakesSlots order before after r
   taken_till (Ok x) stop from cause told size = absurd from
   taken_till (Err s) stop from cause told size = record {
     ends = λ slots tells. tt;
@@ -308,8 +308,8 @@ module _ (order : List Slot) (distinct : AllPairs (λ one other. one ≢ other) 
       | inr later ↦ omega (arith, rest_taken has.0 other later has.1 has.2)
     ];
     size = λ other has. size_is s stop other from (size_to stop size has.0 other has.1 has.2);
-    others = λ other out. touches.others other (not_among other out) ∙ so_far.others other out;
-    others_taken = λ other out. touches.others_taken other (not_among other out) ∙ so_far.others_taken other out;
+    others = λ other out. touches.others.left other (not_among other out) ∙ so_far.others other out;
+    others_taken = λ other out. touches.others.taken other (not_among other out) ∙ so_far.others_taken other out;
     counts = fell_none;
     cause = subst (HasCause order before after) (sym from) cause;
     told = λ other has. stop_is s stop other from (told_to stop told has.0 other has.1 has.2);

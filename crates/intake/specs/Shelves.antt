@@ -1,25 +1,14 @@
 -- What taking in slots does to a shelf.
-use Rattle.std.specs.Prelude.{◌≡◌, ℕ, ◌+◌, ◌<◌, ◌≤◌, ◌⊎◌, List, [], Contains, length, take, Option, Some, Result, Ok}
+use Rattle.std.specs.Prelude.{◌≡◌, ℕ, ◌+◌, ◌^◌, ◌<◌, ◌≤◌, ◌⊎◌, List, [], Contains, length, take, Option, Some, Result, Ok}
 use Rattle.std.specs.Prelude.{Err, IfErr, IsErrAnd, IsOk, OnOk, slice_index_or, ⊤}
 use Rattle.admit_core.specs.declared.refusal.Reason.TheVariants.{TooLarge}
 use Rattle.admit_core.specs.declared.slot.Slot.{Slot}
-use Rattle.slot_io.specs.Bytes.{OthersKept}
 use Rattle.slot_io.specs.Faults.{NoneFell, Rose}
+pub use Rattle.slot_io.specs.Shelves.{OnShelf, on_shelf}
+use Rattle.slot_io.specs.Shelves.{TouchesOnly}
 use Rattle.intake.specs.Reading.{files_in}
 use Rattle.intake.specs.declared.stop.Stop.{Stop}
 use Rattle.intake.specs.declared.stop.Stop.TheVariants as stops
-
--- the bytes left in each slot, where a shelf tells them, how many were taken, and how often its
--- reads have failed
-pub record OnShelf : Type 0 where
-  pub left : Slot → Option (List ℕ)
-  pub taken : Slot → ℕ
-  pub faults : Slot → ℕ
-
-abbrev pub on_shelf : {S : Type 0} → (S → Slot → Option (List ℕ)) → (S → Slot → ℕ)
-    → (S → Slot → ℕ) → S → OnShelf
-on_shelf left taken faults shelf =
-    record { left = left shelf; taken = taken shelf; faults = faults shelf }
 
 -- the shelf tells these bytes of the slots of the order
 abbrev pub Tells : List Slot → (Slot → Option (List ℕ)) → (Slot → List ℕ) → Type 0
@@ -35,13 +24,10 @@ pub record IsFaultAt (order : List Slot) (before after : OnShelf) (slot : Slot) 
   pub shapes : (slots : Slot → List ℕ) → Tells order before.left slots
       → IsOk (files_in (take place order) slots)
 
--- one slot is read, of which no more is taken than one reading may take, and no other is touched
-pub record TouchesOnly (slot : Slot) (before after : OnShelf) : Type 0 where
-  pub once : after.taken slot ≤ before.taken slot + 1073807360
-  pub others : OthersKept slot before.left after.left
-  pub others_taken : OthersKept slot before.taken after.taken
-  pub counts : NoneFell before.faults after.faults
-  pub others_faults : OthersKept slot before.faults after.faults
+-- one slot is read once: no more is taken of it than one reading may take, and no other is touched
+pub record ReadsOnce (slot : Slot) (before after : OnShelf) : Type 0 where
+  pub once : after.taken slot ≤ before.taken slot + (2 ^ 30 + 65536)
+  pub others : TouchesOnly slot before after
 
 -- what stops the reading of one slot: a fault of the shelf at it exactly where its count rose
 abbrev pub FaultsAt : Slot → (Slot → ℕ) → (Slot → ℕ) → Stop → Type 0
@@ -64,7 +50,7 @@ IsTooLarge slot stop =
 -- more than its greatest size is taken of a slot only where that is the stop
 abbrev pub IsSized : {A : Type 0} → Slot → ℕ → ℕ → Result A Stop → Type 0
 IsSized slot before now result =
-    (now ≤ before + 1073741824) ⊎ IsErrAnd result (IsTooLarge slot)
+    (now ≤ before + 2 ^ 30) ⊎ IsErrAnd result (IsTooLarge slot)
 
 -- what stops a run whose words are good: a fault of the shelf has its cause
 abbrev pub HasCause : List Slot → OnShelf → OnShelf → Stop → Type 0
@@ -81,7 +67,8 @@ pub record TakesSlots {A : Type 0} (order : List Slot) (before after : OnShelf)
   pub ends : (slots : Slot → List ℕ) → Tells order before.left slots
       → OnOk result ((slot : Slot) → Contains order slot → after.left slot ≡ Some [])
   -- of a slot no more is taken than one reading may take
-  pub once : (slot : Slot) → Contains order slot → after.taken slot ≤ before.taken slot + 1073807360
+  pub once : (slot : Slot) → Contains order slot
+      → after.taken slot ≤ before.taken slot + (2 ^ 30 + 65536)
   -- that a slot is too large is told as this and as nothing else
   pub size : (slot : Slot) → Contains order slot
       → IsSized slot (before.taken slot) (after.taken slot) result

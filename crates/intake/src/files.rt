@@ -5,7 +5,7 @@ ghost use Rattle.admit_core.specs.Ranges.{AreTables};
 ghost use Rattle.dossier_csv.specs.Shape.{Answers};
 ghost use Rattle.intake.specs.Input.{IsOfFiles};
 ghost use Rattle.intake.specs.Reading as Reading;
-ghost use Rattle.intake.specs.Shelves.{FaultsIn, IsSized, TakesSlots, Tells, TouchesOnly, on_shelf};
+ghost use Rattle.intake.specs.Shelves.{FaultsIn, IsSized, ReadsOnce, TakesSlots, Tells, on_shelf};
 ghost use Rattle.intake.specs.Stops.{Gives};
 
 use crate::stop::Stop;
@@ -35,7 +35,7 @@ fn slot_bytes<S: Shelf>(shelf: &mut S, slot: Slot, room: Vec<u8>) -> Result<Vec<
         → Gives (λ read. read.items) result (Reading.sized slot bytes) }
     ensures ends { (bytes : List ℕ) → S.left shelf.old slot ≡ Some bytes
         → OnOk result (S.left shelf.new slot ≡ Some []) }
-    ensures touches { TouchesOnly slot
+    ensures touches { ReadsOnce slot
         (on_shelf S.left S.taken S.faults shelf.old)
         (on_shelf S.left S.taken S.faults shelf.new) }
     ensures fault { FaultsIn slot (S.faults shelf.old) (S.faults shelf.new) result }

@@ -2,6 +2,7 @@
 use Rattle.std.specs.Prelude.{ℕ, ◌≤◌, List, Option, Some, vec_capacity, vec_len}
 use Rattle.admit_core.specs.Slots.{at}
 use Rattle.admit_core.specs.declared.slot.Slot.{Slot}
+use Rattle.slot_io.specs.Shelves.{OnShelf}
 use Rattle.shelf_io.specs.declared.memory_shelf.MemShelf.{MemShelf}
 use Rattle.shelf_io.specs.declared.memory_shelf.PlainShelf.{PlainShelf}
 
@@ -11,6 +12,10 @@ left_of shelf slot = Some ((at shelf.stocks slot).left)
 
 abbrev pub taken_of : PlainShelf → Slot → ℕ
 taken_of shelf slot = (at shelf.stocks slot).taken
+
+-- what it tells as a shelf, which never fails
+abbrev pub on_plain : PlainShelf → OnShelf
+on_plain shelf = record { left = left_of shelf; taken = taken_of shelf; faults = λ _. 0 }
 
 -- the same of a shelf with failing calls, its counts of faults, the calls that are to fail, and how
 -- many calls were made
@@ -22,6 +27,10 @@ mem_taken shelf = taken_of shelf.plain
 
 abbrev pub mem_faults : MemShelf → Slot → ℕ
 mem_faults shelf slot = at shelf.faults slot
+
+abbrev pub on_mem : MemShelf → OnShelf
+on_mem shelf =
+    record { left = mem_left shelf; taken = mem_taken shelf; faults = mem_faults shelf }
 
 abbrev pub mem_failing : MemShelf → List ℕ
 mem_failing shelf = shelf.plan.failing.items

@@ -1,11 +1,16 @@
 -- What the sinks in memory tell.
-use Rattle.std.specs.Prelude.{ℕ, ◌+◌, ◌<◌, ◌≤◌, List, Option, vec_capacity, vec_len}
+use Rattle.std.specs.Prelude.{ℕ, ◌+◌, ◌<◌, ◌≤◌, List, Option, Some, vec_capacity, vec_len}
+use Rattle.slot_io.specs.Sinks.{AtSink}
 use Rattle.shelf_io.specs.declared.memory_sink.MemSink.{MemSink}
 use Rattle.shelf_io.specs.declared.memory_sink.PlainSink.{PlainSink}
 
 -- the bytes that a sink holds
 abbrev pub plain_held : PlainSink → List ℕ
 plain_held sink = sink.bytes.items
+
+-- what it tells as a sink, which never fails
+abbrev pub at_plain : PlainSink → AtSink
+at_plain sink = record { held = Some (plain_held sink); faults = 0 }
 
 -- a sink has too little room for so many bytes more
 abbrev pub plain_lacks : PlainSink → ℕ → Type 0
@@ -24,6 +29,9 @@ sink_room sink = sink.room
 
 abbrev pub sink_faults : MemSink → ℕ
 sink_faults sink = sink.faults
+
+abbrev pub at_mem : MemSink → AtSink
+at_mem sink = record { held = Some (sink_held sink); faults = sink_faults sink }
 
 abbrev pub sink_failing : MemSink → List ℕ
 sink_failing sink = sink.plan.failing.items

@@ -90,10 +90,8 @@ impl PlainShelf {
 }
 
 impl Shelf for PlainShelf {
-    ghost use Rattle.std.specs.Io.{ReadsAtMost};
-    ghost use Rattle.std.specs.Io.KnownBytes.{ReadConsumes};
-    ghost use Rattle.slot_io.specs.Bytes.{CountsTaken, OthersKept};
-    ghost use Rattle.shelf_io.specs.MemoryShelf.{left_of, taken_of};
+    ghost use Rattle.slot_io.specs.Reads.{IsRead};
+    ghost use Rattle.shelf_io.specs.MemoryShelf.{left_of, on_plain, taken_of};
 
     ghost left = { left_of };
 
@@ -104,14 +102,7 @@ impl Shelf for PlainShelf {
     /// Moves as many bytes as fit. It takes no memory.
     fn read(&mut self, slot: Slot, buf: &mut [u8]) -> Result<usize, IoRefusal>
         requires { 0 < length buf.old }
-        ensures bound { ReadsAtMost result buf.new }
-        ensures bytes { ReadConsumes (left_of self.old slot) (left_of self.new slot)
-            result buf.new }
-        ensures taken { CountsTaken result (taken_of self.old slot) (taken_of self.new slot) }
-        ensures others { OthersKept slot (left_of self.old) (left_of self.new) }
-        ensures others_taken { OthersKept slot (taken_of self.old) (taken_of self.new) }
-        ensures memory { ¬ IsErrOf result IoRefusal.OutOfMemory }
-
+        ensures read { IsRead slot (on_plain self.old) (on_plain self.new) buf.new result }
         ensures moves { IfSome (left_of self.old slot)
             (λ left. result ≡ Ok (min (length buf.old) (length left))) }
     {
@@ -175,12 +166,9 @@ impl MemShelf {
 }
 
 impl Shelf for MemShelf {
-    ghost use Rattle.std.specs.Io.{ReadsAtMost};
-    ghost use Rattle.std.specs.Io.KnownBytes.{ReadConsumes};
-    ghost use Rattle.slot_io.specs.Bytes.{CountsTaken, OthersKept};
-    ghost use Rattle.slot_io.specs.Faults.{NoneFell, Rose};
-    ghost use Rattle.slot_io.specs.Refusals.{CountsFaults, faults_after};
-    ghost use Rattle.shelf_io.specs.MemoryShelf.{mem_calls, mem_failing, mem_faults, mem_left, mem_taken};
+    ghost use Rattle.slot_io.specs.Reads.{IsRead};
+    ghost use Rattle.shelf_io.specs.MemoryShelf.{mem_calls, mem_failing, mem_faults, mem_left};
+    ghost use Rattle.shelf_io.specs.MemoryShelf.{mem_taken, on_mem};
 
     ghost left = { mem_left };
 
@@ -191,25 +179,12 @@ impl Shelf for MemShelf {
     /// Moves as many bytes as fit, but for the calls that are to fail. It takes no memory.
     fn read(&mut self, slot: Slot, buf: &mut [u8]) -> Result<usize, IoRefusal>
         requires { 0 < length buf.old }
-        ensures bound { ReadsAtMost result buf.new }
-        ensures bytes { ReadConsumes (mem_left self.old slot) (mem_left self.new slot)
-            result buf.new }
-        ensures taken { CountsTaken result (mem_taken self.old slot) (mem_taken self.new slot) }
-        ensures others { OthersKept slot (mem_left self.old) (mem_left self.new) }
-        ensures others_taken { OthersKept slot (mem_taken self.old) (mem_taken self.new) }
-        ensures counts { NoneFell (mem_faults self.old) (mem_faults self.new) }
-        ensures failed { IsErrOf result IoRefusal.Failed → Rose (mem_faults self.old slot)
-            (mem_faults self.new slot) }
-        ensures counted { CountsFaults result slot (mem_faults self.old) (mem_faults self.new) }
-        ensures memory { ¬ IsErrOf result IoRefusal.OutOfMemory }
-
+        ensures read { IsRead slot (on_mem self.old) (on_mem self.new) buf.new result }
         ensures planned { IsErrOf result IoRefusal.Failed ↔ IsToFail (mem_failing self.old)
             (mem_calls self.old) }
         ensures moves { IsToFail (mem_failing self.old) (mem_calls self.old)
             ⊎ IfSome (mem_left self.old slot) (λ left. result
             ≡ Ok (min (length buf.old) (length left))) }
-        ensures faults { mem_faults self.new slot ≡ faults_after result (mem_faults self.old slot) }
-        ensures others_faults { OthersKept slot (mem_faults self.old) (mem_faults self.new) }
         ensures calls { mem_calls self.new ≡ min (mem_calls self.old + 1) (2 ^ 64 - 1) }
         ensures failing { mem_failing self.new ≡ mem_failing self.old }
     {

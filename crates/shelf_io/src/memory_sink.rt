@@ -35,9 +35,8 @@ impl PlainSink {
 }
 
 impl Sink for PlainSink {
-    ghost use Rattle.std.specs.Io.{WritesAtMost};
-    ghost use Rattle.std.specs.Io.KnownBytes.{WriteAppends};
-    ghost use Rattle.shelf_io.specs.MemorySink.{plain_held, plain_lacks};
+    ghost use Rattle.slot_io.specs.Sinks.{IsWrite};
+    ghost use Rattle.shelf_io.specs.MemorySink.{at_plain, plain_held, plain_lacks};
 
     ghost held = { λ sink. Some (plain_held sink) };
 
@@ -48,12 +47,8 @@ impl Sink for PlainSink {
     /// Takes the whole piece, or there was no memory for it.
     fn write(&mut self, piece: &[u8]) -> Result<usize, IoRefusal>
         requires { 0 < length piece.now }
-        ensures bound { WritesAtMost result piece.now }
-        ensures some { IfOk result (λ count. 0 < count) }
-        ensures bytes { WriteAppends (Some (plain_held self.old)) (Some (plain_held self.new))
-            result piece.now }
-        ensures memory { IsErrOf result IoRefusal.OutOfMemory → Unit {0} }
-
+        ensures written { IsWrite (Unit {0}) (at_plain self.old) (at_plain self.new)
+            piece.now result }
         ensures full { IsErrOf result IoRefusal.OutOfMemory
             → plain_lacks self.old (length piece.now) }
         ensures never_failed { ¬ IsErrOf result IoRefusal.Failed }
@@ -132,11 +127,9 @@ impl MemSink {
 }
 
 impl Sink for MemSink {
-    ghost use Rattle.std.specs.Io.{WritesAtMost};
-    ghost use Rattle.std.specs.Io.KnownBytes.{WriteAppends};
-    ghost use Rattle.slot_io.specs.Refusals.{faults_after};
-    ghost use Rattle.shelf_io.specs.MemorySink.{sink_calls, sink_failing, sink_faults, sink_held, sink_lacks, sink_room};
-    ghost use Rattle.slot_io.specs.Faults.{Rose};
+    ghost use Rattle.slot_io.specs.Sinks.{IsWrite};
+    ghost use Rattle.shelf_io.specs.MemorySink.{at_mem, sink_calls, sink_failing, sink_faults};
+    ghost use Rattle.shelf_io.specs.MemorySink.{sink_held, sink_lacks, sink_room};
 
     ghost held = { λ sink. Some (sink_held sink) };
 
@@ -147,16 +140,8 @@ impl Sink for MemSink {
     /// Takes the part of the piece that fits, or there was no memory for it.
     fn write(&mut self, piece: &[u8]) -> Result<usize, IoRefusal>
         requires { 0 < length piece.now }
-        ensures bound { WritesAtMost result piece.now }
-        ensures some { IfOk result (λ count. 0 < count) }
-        ensures bytes { WriteAppends (Some (sink_held self.old)) (Some (sink_held self.new))
-            result piece.now }
-        ensures counts { sink_faults self.old ≤ sink_faults self.new }
-        ensures failed { IsErrOf result IoRefusal.Failed
-            → Rose (sink_faults self.old) (sink_faults self.new) }
-        ensures counted { sink_faults self.new ≡ faults_after result (sink_faults self.old) }
-        ensures memory { IsErrOf result IoRefusal.OutOfMemory → Unit {0} }
-
+        ensures written { IsWrite (Unit {0}) (at_mem self.old) (at_mem self.new)
+            piece.now result }
         ensures full { IsErrOf result IoRefusal.OutOfMemory → sink_lacks self.old
             (fitting (sink_room self.old) (length (sink_held self.old)) (length piece.now)) }
         ensures planned { IsErrOf result IoRefusal.Failed

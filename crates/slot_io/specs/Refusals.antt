@@ -1,7 +1,5 @@
 -- What a device answers, and what its refusal leads to.
-use Rattle.std.specs.Prelude.{◌≡◌, ℕ, ◌==◌, Result, Ok, Err, if◌then◌else◌}
-use Rattle.admit_core.specs.declared.slot.Slot.{Slot}
-use Rattle.slot_io.specs.Bytes.{OthersKept}
+use Rattle.std.specs.Prelude.{ℕ, ◌==◌, Result, Ok, Err, if◌then◌else◌}
 use Rattle.slot_io.specs.Faults.{raised}
 use Rattle.slot_io.specs.declared.refusal.IoRefusal.{IoRefusal}
 use Rattle.slot_io.specs.declared.refusal.IoRefusal.TheVariants as io
@@ -19,24 +17,12 @@ faults_after (Ok _) count = count
 faults_after (Err io.Failed) count = raised count
 faults_after (Err io.OutOfMemory) count = count
 
--- the slots' counts of faults after a read of one: only its own count may change
-pub record CountsFaults {T : Type 0} (result : Result T IoRefusal) (slot : Slot)
-    (before now : Slot → ℕ) : Type 0 where
-  pub here : now slot ≡ faults_after result (before slot)
-  pub others : OthersKept slot before now
-
 -- a slot's count of faults after it was read, which counts one exactly where a fault is told
 abbrev pub faults_told : {T : Type 0} → Result T SlotRefusal → ℕ → ℕ
 faults_told (Ok _) count = count
 faults_told (Err ReadFault) count = raised count
 faults_told (Err TooLarge) count = count
 faults_told (Err OutOfMemory) count = count
-
--- the slots' counts of faults after one was read: only its own count may change
-pub record TellsFaults {T : Type 0} (result : Result T SlotRefusal) (slot : Slot)
-    (before now : Slot → ℕ) : Type 0 where
-  pub here : now slot ≡ faults_told result (before slot)
-  pub others : OthersKept slot before now
 
 -- what a device answers at a read: the number of bytes; any error is a failure
 abbrev pub read_answer : {E : Type 0} → Result ℕ E → Result ℕ IoRefusal

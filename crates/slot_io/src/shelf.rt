@@ -1,11 +1,8 @@
 //! Reading slots.
-ghost use Rattle.std.specs.Prelude.{◌≡◌, ℕ, ◌+◌, ◌<◌, ◌≤◌, ◌⊎◌, List, Option, length, vec_len, IfOk, OnErr, IsErrOf};
-ghost use Rattle.std.specs.Io.{ReadsAtMost};
-ghost use Rattle.std.specs.Io.KnownBytes.{ReadConsumes};
+ghost use Rattle.std.specs.Prelude.{ℕ, ◌<◌, List, Option, length};
 ghost use Rattle.admit_core.specs.declared.slot.Slot.{Slot};
-ghost use Rattle.slot_io.specs.Bytes.{CountsTaken, OthersKept, TakesAll, TakesAtMost, TakesMoreThan};
-ghost use Rattle.slot_io.specs.Faults.{Counted, NoneFell, Rose, raised_by};
-ghost use Rattle.slot_io.specs.Refusals.{CountsFaults, TellsFaults};
+ghost use Rattle.slot_io.specs.Reads.{IsRead, ReadsSlot};
+ghost use Rattle.slot_io.specs.Shelves.{on_shelf};
 
 use crate::refusal::{IoRefusal, SlotRefusal};
 use admit_core::Slot;
@@ -24,16 +21,9 @@ pub trait Shelf {
     /// 0 exactly where nothing is left. A refused read takes no byte, and none lacks memory.
     fn read(&mut self, slot: Slot, buf: &mut [u8]) -> Result<usize, IoRefusal>
         requires { 0 < length buf.old }
-        ensures bound { ReadsAtMost result buf.new }
-        ensures bytes { ReadConsumes (left self.old slot) (left self.new slot) result buf.new }
-        ensures taken { CountsTaken result (taken self.old slot) (taken self.new slot) }
-        ensures others { OthersKept slot (left self.old) (left self.new) }
-        ensures others_taken { OthersKept slot (taken self.old) (taken self.new) }
-        ensures counts { NoneFell (faults self.old) (faults self.new) }
-        ensures failed { IsErrOf result IoRefusal.Failed
-            → Rose (faults self.old slot) (faults self.new slot) }
-        ensures counted { CountsFaults result slot (faults self.old) (faults self.new) }
-        ensures memory { ¬ IsErrOf result IoRefusal.OutOfMemory };
+        ensures { IsRead slot
+            (on_shelf left taken faults self.old)
+            (on_shelf left taken faults self.new) buf.new result };
 }
 
 /// How many bytes are asked for at once.
@@ -49,31 +39,9 @@ pub fn read_slot_in<S: Shelf>(
     limit: u64,
     room: Vec<u8>,
 ) -> Result<Vec<u8>, SlotRefusal>
-    ensures whole { IfOk result (λ bytes. TakesAll (S.left shelf.old slot)
-        (S.left shelf.new slot) bytes.items) }
-    ensures within { IfOk result (λ bytes. vec_len bytes ≤ limit) }
-    ensures counted { IfOk result (λ bytes. Counted (vec_len bytes) (S.taken shelf.old slot)
-        (S.taken shelf.new slot)) }
-
-    // too large exactly where more than the limit was taken
-    ensures too_large { IsErrOf result SlotRefusal.TooLarge
-        → TakesMoreThan limit (S.left shelf.old slot) (S.left shelf.new slot) }
-    ensures over { IsErrOf result SlotRefusal.TooLarge
-        → raised_by (limit + 1) (S.taken shelf.old slot) ≤ S.taken shelf.new slot }
-    ensures not_over { IsErrOf result SlotRefusal.TooLarge
-        ⊎ (S.taken shelf.new slot ≤ S.taken shelf.old slot + limit) }
-
-    ensures taken { OnErr result (TakesAtMost (limit + 65536) (S.left shelf.old slot)
-        (S.left shelf.new slot)) }
-    ensures at_most { S.taken shelf.new slot ≤ S.taken shelf.old slot + limit + 65536 }
-    ensures others { OthersKept slot (S.left shelf.old) (S.left shelf.new) }
-    ensures others_taken { OthersKept slot (S.taken shelf.old) (S.taken shelf.new) }
-    ensures counts { NoneFell (S.faults shelf.old) (S.faults shelf.new) }
-    ensures fault { TellsFaults result slot (S.faults shelf.old) (S.faults shelf.new) }
-
-    // so a slot with nothing left is never told as want of memory
-    ensures memory { IsErrOf result SlotRefusal.OutOfMemory
-        → Rose (S.taken shelf.old slot) (S.taken shelf.new slot) }
+    ensures { ReadsSlot limit slot
+        (on_shelf S.left S.taken S.faults shelf.old)
+        (on_shelf S.left S.taken S.faults shelf.new) result }
 {
     let mut buf = [0u8; BUFFER_SIZE];
     let mut bytes = room;
@@ -97,31 +65,9 @@ pub fn read_slot<S: Shelf>(
     slot: Slot,
     limit: u64,
 ) -> Result<Vec<u8>, SlotRefusal>
-    ensures whole { IfOk result (λ bytes. TakesAll (S.left shelf.old slot)
-        (S.left shelf.new slot) bytes.items) }
-    ensures within { IfOk result (λ bytes. vec_len bytes ≤ limit) }
-    ensures counted { IfOk result (λ bytes. Counted (vec_len bytes) (S.taken shelf.old slot)
-        (S.taken shelf.new slot)) }
-
-    // too large exactly where more than the limit was taken
-    ensures too_large { IsErrOf result SlotRefusal.TooLarge
-        → TakesMoreThan limit (S.left shelf.old slot) (S.left shelf.new slot) }
-    ensures over { IsErrOf result SlotRefusal.TooLarge
-        → raised_by (limit + 1) (S.taken shelf.old slot) ≤ S.taken shelf.new slot }
-    ensures not_over { IsErrOf result SlotRefusal.TooLarge
-        ⊎ (S.taken shelf.new slot ≤ S.taken shelf.old slot + limit) }
-
-    ensures taken { OnErr result (TakesAtMost (limit + 65536) (S.left shelf.old slot)
-        (S.left shelf.new slot)) }
-    ensures at_most { S.taken shelf.new slot ≤ S.taken shelf.old slot + limit + 65536 }
-    ensures others { OthersKept slot (S.left shelf.old) (S.left shelf.new) }
-    ensures others_taken { OthersKept slot (S.taken shelf.old) (S.taken shelf.new) }
-    ensures counts { NoneFell (S.faults shelf.old) (S.faults shelf.new) }
-    ensures fault { TellsFaults result slot (S.faults shelf.old) (S.faults shelf.new) }
-
-    // so a slot with nothing left is never told as want of memory
-    ensures memory { IsErrOf result SlotRefusal.OutOfMemory
-        → Rose (S.taken shelf.old slot) (S.taken shelf.new slot) }
+    ensures { ReadsSlot limit slot
+        (on_shelf S.left S.taken S.faults shelf.old)
+        (on_shelf S.left S.taken S.faults shelf.new) result }
 {
     read_slot_in(shelf, slot, limit, Vec::new(alloc))
 }

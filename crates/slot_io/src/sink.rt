@@ -1,10 +1,10 @@
 //! Writing reports.
-ghost use Rattle.std.specs.Prelude.{◌≡◌, ℕ, ◌<◌, ◌≤◌, List, [], Option, length, IfOk, OnOk, OnErr, IsErrOf};
-ghost use Rattle.std.specs.Io.{WritesAtMost};
-ghost use Rattle.std.specs.Io.KnownBytes.{Appends, WriteAppends};
+ghost use Rattle.std.specs.Prelude.{◌≡◌, ℕ, ◌<◌, ◌≤◌, List, [], Option, length, OnOk, OnErr, IsErrOf};
+ghost use Rattle.std.specs.Io.KnownBytes.{Appends};
 ghost use Rattle.slot_io.specs.Bytes.{AppendsPart};
 ghost use Rattle.slot_io.specs.Faults.{Rose};
 ghost use Rattle.slot_io.specs.Refusals.{faults_after};
+ghost use Rattle.slot_io.specs.Sinks.{at_sink, IsWrite};
 
 use crate::refusal::IoRefusal;
 
@@ -21,14 +21,8 @@ pub trait Sink {
     /// takes none has failed. A refused write appends nothing.
     fn write(&mut self, piece: &[u8]) -> Result<usize, IoRefusal>
         requires { 0 < length piece.now }
-        ensures bound { WritesAtMost result piece.now }
-        ensures some { IfOk result (λ count. 0 < count) }
-        ensures bytes { WriteAppends (held self.old) (held self.new) result piece.now }
-        ensures counts { faults self.old ≤ faults self.new }
-        ensures failed { IsErrOf result IoRefusal.Failed
-            → Rose (faults self.old) (faults self.new) }
-        ensures counted { faults self.new ≡ faults_after result (faults self.old) }
-        ensures memory { IsErrOf result IoRefusal.OutOfMemory → may_lack };
+        ensures { IsWrite may_lack (at_sink held faults self.old) (at_sink held faults self.new)
+            piece.now result };
 }
 
 /// Appends all the bytes in order. Where there are none, it makes no call, and succeeds.
