@@ -1,16 +1,17 @@
 -- What is taken in for a request.
 use Rattle.std.proofs.Common.{◌≡◌, ◌⊎◌, inl, inr, ℕ, Bool, true, false, List, [], Option, Some, None, Result, Ok, Err}
 use Rattle.std.proofs.Common.{IfErr, IsErrAnd, IsTrue, ap, arith, length, refl, subst}
-use Rattle.std.specs.Prelude.{IfSome, MatchResult, if◌then◌else◌}
+use Rattle.std.specs.Prelude.{IfOk, IfSome, if◌then◌else◌}
 use Rattle.admit_core.specs.Relations.{first_fault}
 use Rattle.admit_core.specs.declared.refusal.Refusal.{Refusal}
 use Rattle.admit_core.specs.declared.slot.Slot.{Slot}
+use Rattle.dossier_check.specs.Ids.{ids_of}
 use Rattle.sample_gen.specs.Samples.{sample_tables}
 use Rattle.request.specs.Modes.{named_by, sample_of, slots_of}
 use Rattle.request.specs.declared.modes.Mode.{Mode}
 use Rattle.request.specs.declared.modes.Name.{Name}
 use Rattle.request.specs.declared.request.Request.{Request}
-use Rattle.intake.specs.Input.{IsInputFrom, IsOfFiles, TakesIn, faultless, having, is_there, job_of, tested}
+use Rattle.intake.specs.Input.{IsInputFrom, IsOfFiles, TakesIn, faultless, has_name, having, job_of, tested}
 use Rattle.intake.specs.Reading.{files_in, files_of, made, made_or_read}
 use Rattle.intake.specs.Shelves.{HasCause, OnShelf, TakesSlots, Tells}
 use Rattle.intake.specs.Stops.{◌>>=◌, Gives, Stopped}
@@ -118,9 +119,9 @@ true_there false name files is = cc
 
 named_there : (fault : Option Refusal) (name : Option Name) (files : Files)
     → (faultless files fault >>= λ sound. having name sound) ≡ Ok files
-    → IfSome name (λ n. IsTrue (is_there files.tables n))
+    → IfSome name (λ n. IsTrue (has_name (ids_of files.tables) n))
 named_there None None files is = tt
-named_there None (Some name) files is = true_there (is_there files.tables name) name files is
+named_there None (Some name) files is = true_there (has_name (ids_of files.tables) name) name files is
 named_there (Some refusal) name files is = absurd (cc)
 
 module _ (request : Request) (before after : OnShelf) where
@@ -153,24 +154,24 @@ module _ (request : Request) (before after : OnShelf) where
       → files_of request.mode slots ≡ Ok files)
       → IfSome (sample_of request.mode) (λ number. files.tables ≡ sample_tables number)
       → (let q : Result Files Stop = Ok files in TakesSlots (slots_of request.mode) before after q)
-      → MatchResult r (IsInputFrom request.mode files) (λ stop. Stopped stop (tested request.mode files))
-      → IfErr r IsOfFiles → TakesIn request before after r
+      → Gives (λ (input : Input). files) r (tested request.mode files) → IfOk r (IsInputFrom files) → IfErr r IsOfFiles
+      → TakesIn request before after r
   unfolding job_of
-  takes_in files (Ok input) read made taken from kinds = record {
+  takes_in files (Ok input) read made taken accepted from kinds = record {
     value = record {
       job = record { request = request; tables = files.tables; chain = files.chain };
       is_job = record {
         request = refl;
-        faultless = no_fault (first_fault files.tables) (named_by request.mode) files from.accepted;
-        named = named_there (first_fault files.tables) (named_by request.mode) files from.accepted;
+        faultless = no_fault (first_fault files.tables) (named_by request.mode) files accepted;
+        named = named_there (first_fault files.tables) (named_by request.mode) files accepted;
         made = made;
       };
       is_input = record { dossier = from.dossier; index = from.index; dates = from.dates; chain = from.chain };
-      is_accepted = λ slots tells. rw (read slots tells, from.accepted) refl;
+      is_accepted = λ slots tells. rw (read slots tells, accepted) refl;
     };
     slots = taken_still (slots_of request.mode) before after files (Ok input) taken kinds;
   }
-  takes_in files (Err stop) read made taken stopped kinds = record {
+  takes_in files (Err stop) read made taken stopped from kinds = record {
     value = λ slots tells. rw (read slots tells) (stopped_then stop (tested request.mode files) _ stopped);
     slots = taken_still (slots_of request.mode) before after files (Err stop) taken kinds;
   }

@@ -41,14 +41,11 @@ abbrev pub has_name : Ids → Name → Bool
 has_name ids (Wish id) = is_among id ids.wishes
 has_name ids (School id) = is_among id ids.schools
 
--- whether a wish or a school is in the tables
-abbrev pub is_there : Tables → Name → Bool
-is_there t = has_name (ids_of t)
-
 -- files that have what is named
 abbrev pub having : Option Name → Files → Result Files Stop
 having None files = Ok files
-having (Some name) files = if is_there files.tables name then Ok files else Err (stops.NoSuch name)
+having (Some name) files =
+    if has_name (ids_of files.tables) name then Ok files else Err (stops.NoSuch name)
 
 -- the same, by whether what is named was found
 abbrev pub by_name : {A : Type 0} → Files → Result A Missing → Result Files Stop
@@ -100,9 +97,8 @@ IsOfFiles stops.OutOfMemory = ⊤
 IsOfFiles stops.BadWords = ⊥
 IsOfFiles (stops.ReadFault slot) = ⊥
 
--- the input of accepted files
-pub record IsInputFrom (mode : Mode) (files : Files) (input : Input) : Type 0 where
-  pub accepted : tested mode files ≡ Ok files
+-- the input of these files
+pub record IsInputFrom (files : Files) (input : Input) : Type 0 where
   pub dossier : input.dossier ≡ dossier_of files.tables
   pub index : input.index ≡ ids_of files.tables
   pub dates : input.dates ≡ dates_of files.tables

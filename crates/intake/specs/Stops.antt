@@ -3,10 +3,14 @@ use Rattle.std.specs.Prelude.{◌≡◌, ℕ, List, [], ◌∷◌, ◌++◌, Opt
 use Rattle.admit_core.specs.Lines.{refusal_text, slot_name}
 use Rattle.admit_core.specs.declared.refusal.InFault.{InFault}
 use Rattle.admit_core.specs.declared.refusal.InFault.TheVariants as faults
+use Rattle.admit_core.specs.declared.refusal.Reason.TheVariants.{TooLarge}
 use Rattle.admit_core.specs.declared.refusal.Refusal.{Refusal}
+use Rattle.admit_core.specs.declared.slot.Slot.{Slot}
 use Rattle.request.specs.Modes.{name_text}
 use Rattle.request.specs.declared.refusal.WordsRefusal.{WordsRefusal}
 use Rattle.request.specs.declared.refusal.WordsRefusal.TheVariants as words
+use Rattle.slot_io.specs.declared.refusal.SlotRefusal.{SlotRefusal}
+use Rattle.slot_io.specs.declared.refusal.SlotRefusal.TheVariants as reads
 use Rattle.intake.specs.declared.stop.Stop.{Stop}
 use Rattle.intake.specs.declared.stop.Stop.TheVariants as stops
 
@@ -25,6 +29,13 @@ words_stop words.OutOfMemory = stops.OutOfMemory
 abbrev pub stop_of : InFault → Stop
 stop_of (faults.Refused refusal) = stops.Refused refusal
 stop_of faults.OutOfMemory = stops.OutOfMemory
+
+-- what a slot that was not read to its end is to a run
+abbrev pub slot_stop : Slot → SlotRefusal → Stop
+slot_stop slot reads.ReadFault = stops.ReadFault slot
+slot_stop slot reads.TooLarge =
+    stops.Refused (record { slot = slot; row = 0; reason = TooLarge })
+slot_stop slot reads.OutOfMemory = stops.OutOfMemory
 
 -- what a refusal is to a run
 abbrev pub refused_as : {A : Type 0} → Result A Refusal → Result A Stop

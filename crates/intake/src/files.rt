@@ -1,12 +1,13 @@
 //! What the slots hold.
-ghost use Rattle.std.specs.Prelude.{◌≡◌, ◌≢◌, ◌≤◌, ℕ, List, [], AllPairs, Some, IfErr, IfOk, OnOk};
+ghost use Rattle.std.specs.Prelude.{◌≡◌, ◌≢◌, ◌≤◌, ℕ, List, [], AllPairs, Some, IfErr, IfOk, OnErr, OnOk};
 ghost use Rattle.admit_core.specs.declared.slot.Slot.{Slot};
+ghost use Rattle.admit_core.specs.declared.slot.Slot.TheVariants.{Chain};
 ghost use Rattle.admit_core.specs.Ranges.{AreTables};
 ghost use Rattle.dossier_csv.specs.Shape.{Answers};
 ghost use Rattle.intake.specs.Input.{IsOfFiles};
 ghost use Rattle.intake.specs.Reading as Reading;
 ghost use Rattle.intake.specs.Shelves.{FaultsIn, IsSized, ReadsOnce, TakesSlots, Tells, on_shelf};
-ghost use Rattle.intake.specs.Stops.{Gives};
+ghost use Rattle.intake.specs.Stops.{Gives, slot_stop};
 
 use crate::stop::Stop;
 use admit_core::{InFault, Reason, Refusal, Sequence, Slot, Tables};
@@ -28,6 +29,21 @@ pub(crate) struct Files {
 /// The most bytes of a slot.
 const MAX_BYTES: u64 = 1_073_741_824;
 
+/// Why a run stops at a slot that was not read to its end.
+fn stop_at(slot: Slot, refusal: SlotRefusal) -> Stop
+    ensures { result ≡ slot_stop slot refusal }
+{
+    match refusal {
+        SlotRefusal::ReadFault => Stop::ReadFault(slot),
+        SlotRefusal::TooLarge => Stop::Refused(Refusal {
+            slot,
+            row: 0,
+            reason: Reason::TooLarge,
+        }),
+        SlotRefusal::OutOfMemory => Stop::OutOfMemory,
+    }
+}
+
 /// The bytes of a slot that is not too large, in the room of a text.
 #[tactic(auto, unfolding(crate::specs::Reading::sized))]
 fn slot_bytes<S: Shelf>(shelf: &mut S, slot: Slot, room: Vec<u8>) -> Result<Vec<u8>, Stop>
@@ -41,16 +57,7 @@ fn slot_bytes<S: Shelf>(shelf: &mut S, slot: Slot, room: Vec<u8>) -> Result<Vec<
     ensures fault { FaultsIn slot (S.faults shelf.old) (S.faults shelf.new) result }
     ensures size { IsSized slot (S.taken shelf.old slot) (S.taken shelf.new slot) result }
 {
-    match read_slot_in(shelf, slot, MAX_BYTES, room) {
-        Ok(bytes) => Ok(bytes),
-        Err(SlotRefusal::ReadFault) => Err(Stop::ReadFault(slot)),
-        Err(SlotRefusal::TooLarge) => Err(Stop::Refused(Refusal {
-            slot,
-            row: 0,
-            reason: Reason::TooLarge,
-        })),
-        Err(SlotRefusal::OutOfMemory) => Err(Stop::OutOfMemory),
-    }
+    read_slot_in(shelf, slot, MAX_BYTES, room).map_err(|refusal| stop_at(slot, refusal))
 }
 
 /// Tables of no rows.
@@ -86,6 +93,7 @@ fn put_rows(alloc: Global, tables: &mut Tables, slot: Slot, bytes: &[u8]) -> Res
     ensures value { Answers (λ _. tables.new) result
         (Reading.with_rows tables.old slot bytes.now) }
     ensures ranges { OnOk result (AreTables tables.new) }
+    ensures memory { OnErr result (slot ≢ Chain) }
 {
     match slot {
         Slot::Groups => {
@@ -164,6 +172,7 @@ fn with_slot(
     requires { AreTables files.tables }
     ensures value { Answers (λ more. more.0) result (Reading.with_slot files slot bytes.items) }
     ensures ranges { IfOk result (λ more. AreTables more.0.tables) }
+    ensures memory { OnErr result (slot ≢ Chain) }
 {
     let Files { mut tables, chain } = files;
     put_rows(alloc, &mut tables, slot, &bytes)?;

@@ -3,12 +3,14 @@ ghost use Rattle.std.specs.Prelude.{◌≡◌, ℕ, List, IfErr, IfOk, IfSome, M
 ghost use Rattle.admit_core.specs.Ranges.{AreTables};
 ghost use Rattle.admit_core.specs.declared.slot.Slot.{Slot};
 ghost use Rattle.admit_core.specs.declared.tables.Tables.{Tables};
+ghost use Rattle.admit_core.specs.Standing.{dossier_of};
+ghost use Rattle.dossier_check.specs.Dates.{dates_of};
 ghost use Rattle.dossier_check.specs.Ids.{ids_of};
 ghost use Rattle.request.specs.Modes as Modes;
 ghost use Rattle.request.specs.Modes.{IsMode};
 ghost use Rattle.sample_gen.specs.Samples.{sample_tables};
 ghost use Rattle.intake.specs.Reading as Reading;
-ghost use Rattle.intake.specs.Input.{IsInputFrom, IsOfFiles, TakesIn, by_name, having, is_there, tested};
+ghost use Rattle.intake.specs.Input.{IsInputFrom, IsOfFiles, TakesIn, by_name, has_name, having, tested};
 ghost use Rattle.intake.specs.Shelves.{TakesSlots, Tells, on_shelf};
 ghost use Rattle.intake.specs.Stops.{Gives, Stopped};
 ghost use Rattle.intake.specs.declared.files.Files.{Files};
@@ -16,7 +18,7 @@ ghost use Rattle.intake.specs.declared.files.Files.{Files};
 use crate::files::{Files, made, read_slots};
 use crate::input::Input;
 use crate::stop::{Missing, Stop};
-use dossier_check::{Index, check, school_place, wish_place};
+use dossier_check::{Checked, Index, check, school_place, wish_place};
 use request::{Mode, Name, Request, named_by, sample_of, slots_of};
 use slot_io::Shelf;
 use std::alloc::Global;
@@ -40,8 +42,8 @@ fn files_of<S: Shelf>(alloc: Global, shelf: &mut S, mode: Mode) -> Result<Files,
 }
 
 /// Whether a dossier with this index has what is named.
-fn is_there(index: &Index, name: Name) -> bool
-    ensures { (t : Tables) → index.now ≡ ids_of t → result ≡ is_there t name }
+fn has_name(index: &Index, name: Name) -> bool
+    ensures { result ≡ has_name index.now name }
 {
     match name {
         Name::Wish(id) => wish_place(index, id).is_some(),
@@ -49,32 +51,34 @@ fn is_there(index: &Index, name: Name) -> bool
     }
 }
 
-/// Whether the dossier with this index has what a mode names.
-fn find_named(index: &Index, name: Option<Name>) -> Result<(), Missing>
-    ensures { (files : Files) → index.now ≡ ids_of files.tables
-        → having name files ≡ by_name files result }
+/// The input of files whose rows were checked, where they have what is named.
+fn named_input(files: Files, checked: Checked, named: Option<Name>) -> Result<Input, Missing>
+    requires dossier { checked.dossier ≡ dossier_of files.tables }
+    requires index { checked.index ≡ ids_of files.tables }
+    requires dates { checked.dates ≡ dates_of files.tables }
+    ensures named { having named files ≡ by_name files result }
+    ensures input { IfOk result (IsInputFrom files) }
 {
-    match name {
-        Some(name) if !is_there(index, name) => Err(Missing { name }),
-        _ => Ok(()),
+    match named {
+        Some(name) if !has_name(&checked.index, name) => Err(Missing { name }),
+        _ => Ok(Input {
+            dossier: checked.dossier,
+            index: checked.index,
+            dates: checked.dates,
+            chain: files.chain,
+        }),
     }
 }
 
 /// The input of files that are accepted, or why they are not.
 fn input_of(alloc: Global, files: Files, mode: Mode) -> Result<Input, Stop>
     requires { AreTables files.tables }
-    ensures value { MatchResult result (IsInputFrom mode files)
-        (λ stop. Stopped stop (tested mode files)) }
+    ensures accepted { Gives (λ _. files) result (tested mode files) }
+    ensures input { IfOk result (IsInputFrom files) }
     ensures kinds { IfErr result IsOfFiles }
 {
     let checked = check(alloc, &files.tables)?;
-    find_named(&checked.index, named_by(mode))?;
-    Ok(Input {
-        dossier: checked.dossier,
-        index: checked.index,
-        dates: checked.dates,
-        chain: files.chain,
-    })
+    Ok(named_input(files, checked, named_by(mode))?)
 }
 
 /// Takes in what a request is about: the slots that its mode reads, in their order, each once and

@@ -1,5 +1,6 @@
 //! The terms of offers, with the date of day 1.
-ghost use Rattle.std.specs.Prelude.{◌≡◌, IfOk, IfSome, length, map, option_map, pos, replicate, zip};
+ghost use Rattle.std.specs.Prelude.{◌≡◌, IfOk, IfSome, IsSome, OnErr, length, map, option_map};
+ghost use Rattle.std.specs.Prelude.{pos, replicate, zip};
 ghost use Rattle.intake.specs.Dated.{AreDatedFor, dated_from, offer_since, since_day, terms_from};
 ghost use Rattle.request.specs.Request.{IsDeadlines};
 
@@ -110,6 +111,7 @@ pub fn dated_terms(
     ensures value { IfOk result (λ dated.
         dated ≡ option_map (dated_from input.now.dossier input.now.dates) deadlines) }
     ensures dates { IfOk result (λ dated. IfSome dated (AreDatedFor input.now.dossier)) }
+    ensures memory { OnErr result (IsSome deadlines) }
 {
     match deadlines {
         None => Ok(None),

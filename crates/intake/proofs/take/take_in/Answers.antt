@@ -8,5 +8,5 @@ returns-in_err-files g c = stops_in c.args.request.now _ _ c.in_err-files.field-
 pub returns : goal.returns
 returns g c =
     takes_in c.args.request.now _ _ c.in_ok-files.files c.input_of.result c.in_ok-files.ensures.value
-    c.in_ok-files.ensures.made c.in_ok-files.ensures.slots c.input_of.ensures.value
-    c.input_of.ensures.kinds
+    c.in_ok-files.ensures.made c.in_ok-files.ensures.slots c.input_of.ensures.accepted
+    c.input_of.ensures.input c.input_of.ensures.kinds
