@@ -1,15 +1,19 @@
 //! The lines of a day.
-ghost use Rattle.std.specs.Prelude.{◌≡◌, ◌<◌, ◌++◌, ◌∷◌, [], All, IfOk, IsOk, codes, flat_map, length, map};
+ghost use Rattle.std.specs.Prelude.{◌≡◌, ◌<◌, ◌++◌, ◌∷◌, [], All, IfOk, IsOk, codes, flat_map};
+ghost use Rattle.std.specs.Prelude.{length, map};
 ghost use Rattle.std.specs.Fmt.{decimal};
 ghost use Rattle.admit_core.specs.Lines.{status_word};
-ghost use Rattle.report.specs.DayText.{IsFallOf, IsLapseOf, IsPassOf, auto_line, dated_day_text, day_text, evening_text, fall_line, freed_line, lapse_line, offer_line, pass_text, passes_text};
+ghost use Rattle.report.specs.DayText.{IsFallOf, IsLapseOf, IsPassOf, auto_line, dated_day_text};
+ghost use Rattle.report.specs.DayText.{day_text, evening_text, fall_line, freed_line, lapse_line};
+ghost use Rattle.report.specs.DayText.{offer_line, pass_text, passes_text};
 ghost use Rattle.report.specs.Ids.{numbers_text, wish_id};
 ghost use Rattle.report.specs.Pushes.{Pushes};
 ghost use Rattle.report.specs.Words.{further};
 
 use crate::date::push_date;
 use crate::ids::{push_line, push_numbers, school_id, wish_id};
-use crate::piece::{Piece, push_after, push_all, push_ascii, push_spaced, push_text};
+use crate::piece::{Piece, push_after, push_all, push_end, push_spaced, push_text};
+use crate::words::status_between;
 use admit_core::{
     Change, DayRecord, Dossier, Fall, Lapse, OutOfMemory, PassEnd, PassRecord, Status, Terms,
 };
@@ -25,7 +29,7 @@ fn push_wishes(text: &mut String, dossier: &Dossier, wishes: &[u32]) -> Result<(
     for wish in wishes {
         push_spaced(text, wish_id(dossier, *wish))?;
     }
-    push_ascii(text, '\n')
+    push_end(text)
 }
 
 /// Adds the line of a fall.
@@ -90,17 +94,7 @@ fn push_offers(text: &mut String, dossier: &Dossier, offers: &[u32]) -> Result<(
 fn status_end(status: Status) -> &'static str
     ensures { result.now ≡ further 32 (status_word status ∷ []) }
 {
-    match status {
-        Status::Waiting => " waiting\n",
-        Status::Offered => " offered\n",
-        Status::Accepted => " accepted\n",
-        Status::Refused => " refused\n",
-        Status::Withdrawn => " withdrawn\n",
-        Status::Quit => " quit\n",
-        Status::AutoRefused => " auto_refused\n",
-        Status::AutoWithdrawn => " auto_withdrawn\n",
-        Status::Lapsed => " lapsed\n",
-    }
+    status_between!(status, " ", "\n")
 }
 
 /// Adds the line of a change that an automatic answer made.
@@ -240,7 +234,7 @@ fn push_lapse(
     let id = Piece::Number(wish_id(dossier, lapse.wish));
     push_all(text, &[Piece::Text("lapse "), id, Piece::Space])?;
     push_date(text, deadline(on_day(start, lapse.offered), term))?;
-    push_ascii(text, '\n')
+    push_end(text)
 }
 
 /// Adds the lines of lapsed offers, each with the deadline that has passed.

@@ -1,14 +1,15 @@
 //! The line that explains a wish.
-ghost use Rattle.std.specs.Prelude.{◌≡◌, ◌<◌, ◌∷◌, [], IfOk, codes, length};
+ghost use Rattle.std.specs.Prelude.{◌≡◌, ◌<◌, ◌∷◌, IfOk, codes, length};
 ghost use Rattle.std.specs.Fmt.{decimal};
 ghost use Rattle.admit_core.specs.Lines.{status_word};
-ghost use Rattle.report.specs.ExplainText.{NamesSchool, cause_words, explain_text, limit_words, stamp_words};
+ghost use Rattle.report.specs.ExplainText.{NamesSchool, cause_words, explain_text, limit_words};
+ghost use Rattle.report.specs.ExplainText.{stamp_words};
 ghost use Rattle.report.specs.Pushes.{Pushes};
 ghost use Rattle.report.specs.Words.{further, line};
 
 use crate::ids::{school_id, wish_id};
 use crate::piece::Piece::{End, Number, Space, Text, Word};
-use crate::piece::{push_all, push_text};
+use crate::piece::{push_all, push_end};
 use admit_core::{BarCause, Dossier, Explanation, OutOfMemory, Stamp, Status};
 use std::alloc::{AllocError, Global};
 
@@ -44,7 +45,7 @@ fn push_cause(text: &mut String, cause: BarCause) -> Result<(), AllocError>
     ensures { Pushes result text.old text.new (further 32 (cause_words cause)) }
 {
     match cause {
-        BarCause::Ceiling => push_text(text, " ceiling\n"),
+        BarCause::Ceiling => push_all(text, &[Text(" ceiling"), End]),
         BarCause::Full { beds } => push_all(text, &[Text(" full "), Number(beds), End]),
     }
 }
@@ -54,7 +55,7 @@ fn push_limit(text: &mut String, position: u32, limit: u32) -> Result<(), AllocE
     ensures { Pushes result text.old text.new (further 32 (limit_words position limit)) }
 {
     if limit == 0 {
-        return push_text(text, "\n");
+        return push_end(text);
     }
     let pieces = [
         Text(" position "),

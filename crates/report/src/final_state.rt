@@ -2,7 +2,8 @@
 ghost use Rattle.std.specs.Prelude.{◌≡◌, ◌<◌, ◌∷◌, [], IfOk, codes, length};
 ghost use Rattle.std.specs.Fmt.{decimal};
 ghost use Rattle.admit_core.specs.Lines.{status_word};
-ghost use Rattle.report.specs.FinalText.{HasDate, HasDates, dated_row, final_dated_text, final_text, offer_day_at};
+ghost use Rattle.report.specs.FinalText.{HasDate, HasDates, dated_row, final_dated_text};
+ghost use Rattle.report.specs.FinalText.{final_text, offer_day_at};
 ghost use Rattle.report.specs.DayText.{date_on};
 ghost use Rattle.report.specs.Pushes.{Pushes};
 ghost use Rattle.report.specs.Words.{further, row};
@@ -10,7 +11,8 @@ ghost use Rattle.calendar.specs.Dates.{IsCivil};
 ghost use Rattle.calendar.specs.Texts.{date_text};
 
 use crate::date::push_date;
-use crate::piece::{push_ascii, push_both, push_text};
+use crate::piece::{push_both, push_end, push_text};
+use crate::words::status_between;
 use admit_core::{OutOfMemory, Status, Terms, Wish};
 use calendar::{Civil, on_day};
 use day_state::DayState;
@@ -22,17 +24,7 @@ use std::alloc::{AllocError, Global};
 fn row_end(status: Status) -> &'static str
     ensures { result.now ≡ further 44 (status_word status ∷ []) }
 {
-    match status {
-        Status::Waiting => ",waiting\n",
-        Status::Offered => ",offered\n",
-        Status::Accepted => ",accepted\n",
-        Status::Refused => ",refused\n",
-        Status::Withdrawn => ",withdrawn\n",
-        Status::Quit => ",quit\n",
-        Status::AutoRefused => ",auto_refused\n",
-        Status::AutoWithdrawn => ",auto_withdrawn\n",
-        Status::Lapsed => ",lapsed\n",
-    }
+    status_between!(status, ",", "\n")
 }
 
 /// Adds the row of a wish with its status.
@@ -86,17 +78,7 @@ pub fn offer_date(state: &DayState<'_>, start: Civil, terms: &Terms, place: u32)
 fn dated_row_end(status: Status) -> &'static str
     ensures { result.now ≡ further 44 (status_word status ∷ [] ∷ []) }
 {
-    match status {
-        Status::Waiting => ",waiting,\n",
-        Status::Offered => ",offered,\n",
-        Status::Accepted => ",accepted,\n",
-        Status::Refused => ",refused,\n",
-        Status::Withdrawn => ",withdrawn,\n",
-        Status::Quit => ",quit,\n",
-        Status::AutoRefused => ",auto_refused,\n",
-        Status::AutoWithdrawn => ",auto_withdrawn,\n",
-        Status::Lapsed => ",lapsed,\n",
-    }
+    status_between!(status, ",", ",\n")
 }
 
 /// Adds the row of a wish that is offered since a date.
@@ -106,7 +88,7 @@ fn push_offered_row(text: &mut String, id: u32, since: Civil) -> Result<(), Allo
 {
     push_both(text, Buffer::new().format(id), ",offered,")?;
     push_date(text, since)?;
-    push_ascii(text, '\n')
+    push_end(text)
 }
 
 /// Adds the row of a wish at its place, with its status, and the date of its offer where it is

@@ -37,6 +37,14 @@ pub fn push_ascii(text: &mut String, character: char) -> Result<(), AllocError>
     text.push(character)
 }
 
+/// Ends the line.
+#[inline(always)]
+pub fn push_end(text: &mut String) -> Result<(), AllocError>
+    ensures { Pushes result text.old text.new (10 ∷ []) }
+{
+    push_ascii(text, '\n')
+}
+
 /// Adds one text and then another.
 #[inline(always)]
 pub(crate) fn push_both(text: &mut String, one: &str, other: &str) -> Result<(), AllocError>
@@ -74,7 +82,7 @@ fn push_piece(text: &mut String, piece: Piece<'_>) -> Result<(), AllocError>
         Piece::Count(count) => push_text(text, Buffer::new().format(count)),
         Piece::Word(status) => push_text(text, status.word()),
         Piece::Space => push_ascii(text, ' '),
-        Piece::End => push_ascii(text, '\n'),
+        Piece::End => push_end(text),
     }
 }
 

@@ -2,6 +2,7 @@
 ghost use Rattle.std.specs.Prelude.{◌≡◌, IfOk};
 ghost use Rattle.report.specs.RefusalText.{refusal_line};
 
+use crate::piece::push_end;
 use admit_core::{OutOfMemory, Refusal};
 use std::alloc::Global;
 
@@ -11,6 +12,6 @@ pub fn refusal_text(alloc: Global, refusal: Refusal) -> Result<Vec<u8>, OutOfMem
 {
     let mut text = String::new(alloc);
     refusal.push_onto(&mut text)?;
-    text.push_str("\n")?;
+    push_end(&mut text)?;
     Ok(text.into_bytes())
 }

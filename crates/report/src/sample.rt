@@ -1,8 +1,11 @@
 //! The summary of a sample.
-ghost use Rattle.std.specs.Prelude.{◌≡◌, ◌<◌, ◌+◌, ◌||◌, if◌then◌else◌, IfOk, flat_map, not, sum_by};
-ghost use Rattle.admit_core.specs.State.{is_gone, is_live, is_live_status, is_waiting, is_waiting_status};
+ghost use Rattle.std.specs.Prelude.{◌≡◌, ◌<◌, ◌+◌, ◌||◌, if◌then◌else◌, IfOk, flat_map, not};
+ghost use Rattle.std.specs.Prelude.{sum_by};
+ghost use Rattle.admit_core.specs.State.{is_gone, is_live, is_live_status, is_waiting};
+ghost use Rattle.admit_core.specs.State.{is_waiting_status};
 ghost use Rattle.report.specs.Pushes.{Pushes};
-ghost use Rattle.report.specs.SampleText.{day_summary, falls_in, offers_in, sample_text, state_summary, wishes_with};
+ghost use Rattle.report.specs.SampleText.{day_summary, falls_in, offers_in, sample_text};
+ghost use Rattle.report.specs.SampleText.{state_summary, wishes_with};
 
 use crate::piece::{Piece, push_all};
 use admit_core::{DayRecord, OutOfMemory, PassEnd, Status};

@@ -5,9 +5,28 @@ ghost use Rattle.admit_core.specs.Lines.{bound_letter};
 ghost use Rattle.report.specs.Pushes.{Pushes};
 ghost use Rattle.report.specs.Words.{further};
 
-use crate::piece::{push_ascii, push_spaced};
+use crate::piece::{push_ascii, push_end, push_spaced};
 use admit_core::Bound;
 use std::alloc::AllocError;
+
+/// The word of a status between two texts, as one text: lines with a status are most of a report.
+macro_rules! status_between {
+    ($status:expr, $before:literal, $after:literal) => {
+        match $status {
+            Status::Waiting => concat!($before, "waiting", $after),
+            Status::Offered => concat!($before, "offered", $after),
+            Status::Accepted => concat!($before, "accepted", $after),
+            Status::Refused => concat!($before, "refused", $after),
+            Status::Withdrawn => concat!($before, "withdrawn", $after),
+            Status::Quit => concat!($before, "quit", $after),
+            Status::AutoRefused => concat!($before, "auto_refused", $after),
+            Status::AutoWithdrawn => concat!($before, "auto_withdrawn", $after),
+            Status::Lapsed => concat!($before, "lapsed", $after),
+        }
+    };
+}
+
+pub(crate) use status_between;
 
 /// The letter of a bound, as a character.
 fn letter_of(bound: Bound) -> char
@@ -33,7 +52,7 @@ pub(crate) fn push_letters(text: &mut String, bounds: &[Bound]) -> Result<(), Al
     for bound in bounds {
         push_letter(text, *bound)?;
     }
-    push_ascii(text, '\n')
+    push_end(text)
 }
 
 /// Adds each number after a space, and ends the line.
@@ -43,5 +62,5 @@ pub(crate) fn push_list(text: &mut String, numbers: &[u32]) -> Result<(), AllocE
     for number in numbers {
         push_spaced(text, *number)?;
     }
-    push_ascii(text, '\n')
+    push_end(text)
 }

@@ -1,5 +1,7 @@
 //! Texts of small cases, as theorems.
-ghost use Rattle.report.specs.WorkedTexts.{AutomaticDays, CascadeDay, DatedFinals, EdgesOfBars, Explanations, LapsingDays, OrderTexts, RealisticDays, RealisticFinal, Refusals, Samples};
+ghost use Rattle.report.specs.WorkedTexts.{AutomaticDays, CascadeDay, DatedFinals, EdgesOfBars};
+ghost use Rattle.report.specs.WorkedTexts.{Explanations, LapsingDays, OrderTexts, RealisticDays};
+ghost use Rattle.report.specs.WorkedTexts.{RealisticFinal, Refusals, Samples};
 
 /// What the definitions of the texts give on small cases. It does nothing when it is called: its
 /// clauses are theorems.

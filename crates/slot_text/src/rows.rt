@@ -12,8 +12,8 @@ use admit_core::{
     AnswerKind, AnswerRow, BoardRow, CeilingRow, GroupRow, ProgrammeRow, RankRow, SchoolRow, Since,
     StateRow, WishRow,
 };
-use report::Piece::{Number, Text, Word};
-use report::{push_after, push_all, push_text};
+use report::Piece::{End, Number, Text, Word};
+use report::{push_after, push_all, push_end};
 use std::alloc::AllocError;
 
 impl WrittenRow for GroupRow {
@@ -30,7 +30,7 @@ impl WrittenRow for GroupRow {
             Number(self.scholar_pct),
             Text(","),
             Number(self.resident_pct),
-            Text("\n"),
+            End,
         ];
         push_all(text, &pieces)
     }
@@ -52,7 +52,7 @@ impl WrittenRow for ProgrammeRow {
             Number(self.seats),
             Text(","),
             Number(self.limit),
-            Text("\n"),
+            End,
         ];
         push_all(text, &pieces)
     }
@@ -67,7 +67,7 @@ impl WrittenRow for SchoolRow {
 
     fn push(&self, text: &mut String) -> Result<(), AllocError> {
         let (id, beds, ceiling) = (Number(self.id), Number(self.beds), Number(self.ceiling));
-        push_all(text, &[id, Text(","), beds, Text(","), ceiling, Text("\n")])
+        push_all(text, &[id, Text(","), beds, Text(","), ceiling, End])
     }
 }
 
@@ -99,7 +99,7 @@ impl WrittenRow for RankRow {
             Text(flag_word(self.scholar)),
             Text(","),
             Text(flag_word(self.resident)),
-            Text("\n"),
+            End,
         ];
         push_all(text, &pieces)
     }
@@ -115,10 +115,7 @@ impl WrittenRow for BoardRow {
     fn push(&self, text: &mut String) -> Result<(), AllocError> {
         let (school, candidate) = (Number(self.school), Number(self.candidate));
         let rank = Number(self.rank);
-        push_all(
-            text,
-            &[school, Text(","), candidate, Text(","), rank, Text("\n")],
-        )
+        push_all(text, &[school, Text(","), candidate, Text(","), rank, End])
     }
 }
 
@@ -144,7 +141,7 @@ impl WrittenRow for WishRow {
             school,
             Text(","),
             Number(self.preference),
-            Text("\n"),
+            End,
         ];
         push_all(text, &pieces)
     }
@@ -175,10 +172,10 @@ fn push_since(text: &mut String, since: Option<Since>) -> Result<(), AllocError>
     ensures { Pushes result text.old text.new (Texts.since_word since ++ 10 ∷ []) }
 {
     match since {
-        None => push_text(text, "\n"),
+        None => push_end(text),
         Some(date) => {
             push_date(text, date)?;
-            push_text(text, "\n")
+            push_end(text)
         }
     }
 }
@@ -204,7 +201,7 @@ pub(crate) fn push_plain(text: &mut String, state: &StateRow) -> Result<(), Allo
         (row (decimal state.now.wish ∷ status_word state.now.status ∷ [])) }
 {
     let (wish, status) = (Number(state.wish), Word(state.status));
-    push_all(text, &[wish, Text(","), status, Text("\n")])
+    push_all(text, &[wish, Text(","), status, End])
 }
 
 impl WrittenRow for CeilingRow {
@@ -216,10 +213,7 @@ impl WrittenRow for CeilingRow {
 
     fn push(&self, text: &mut String) -> Result<(), AllocError> {
         let (day, school, ceiling) = (Number(self.day), Number(self.school), Number(self.ceiling));
-        push_all(
-            text,
-            &[day, Text(","), school, Text(","), ceiling, Text("\n")],
-        )
+        push_all(text, &[day, Text(","), school, Text(","), ceiling, End])
     }
 }
 
@@ -245,6 +239,6 @@ impl WrittenRow for AnswerRow {
     fn push(&self, text: &mut String) -> Result<(), AllocError> {
         let (day, target) = (Number(self.day), Number(self.target));
         let kind = Text(kind_word(self.kind));
-        push_all(text, &[day, Text(","), kind, Text(","), target, Text("\n")])
+        push_all(text, &[day, Text(","), kind, Text(","), target, End])
     }
 }

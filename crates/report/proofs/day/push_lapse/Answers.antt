@@ -31,10 +31,10 @@ pub returns : goal.returns
 returns c =
     let id = decimal (wish_id c.args.dossier.now c.args.lapse.wish) in
     let date = date_text (last_date c.args.start c.args.term c.args.lapse.offered) in
-    let r = c.push_ascii.result in
-    let new = c.push_ascii.new.text in
+    let r = c.push_end.result in
+    let new = c.push_end.new.text in
     let before = rw c.wish_id.ensures at c.in_ok-push_all.ensures in
     let falls : c.deadline.result ≡ last_date c.args.start c.args.term c.args.lapse.offered = search rules in
     let dated = rw falls at c.in_ok-push_date.ensures in
     pushes_as r c.args.text.now new (line_of id date)
-    (pushes_then r new (10 ∷ []) (pushed_then before dated) c.push_ascii.ensures)
+    (pushes_then r new (10 ∷ []) (pushed_then before dated) c.push_end.ensures)

@@ -17,6 +17,6 @@ loop-wish-preserved c =
 
 pub returns : goal.returns
 returns c =
-    words_end (λ w. decimal (wish_id c.args.dossier.now w)) c.args.wishes.now c.push_ascii.result c.args.text.now
-    c.loop-wish.text c.push_ascii.new.text c.loop-wish.wish-index (omega arith) c.loop-wish.invariant
-    c.push_ascii.ensures
+    words_end (λ w. decimal (wish_id c.args.dossier.now w)) c.args.wishes.now c.push_end.result c.args.text.now
+    c.loop-wish.text c.push_end.new.text c.loop-wish.wish-index (omega arith) c.loop-wish.invariant
+    c.push_end.ensures

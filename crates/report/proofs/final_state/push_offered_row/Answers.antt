@@ -27,8 +27,8 @@ pub returns : goal.returns
 returns c =
     let id = decimal c.args.id in
     let date = date_text c.args.since in
-    let r = c.push_ascii.result in
-    let new = c.push_ascii.new.text in
+    let r = c.push_end.result in
+    let new = c.push_end.new.text in
     let before = rw c.format.ensures.text at c.in_ok-push_both.ensures in
     pushes_as r c.args.text.now new (row_of id date)
-    (pushes_then r new (10 ∷ []) (pushed_then before c.in_ok-push_date.ensures) c.push_ascii.ensures)
+    (pushes_then r new (10 ∷ []) (pushed_then before c.in_ok-push_date.ensures) c.push_end.ensures)

@@ -17,5 +17,5 @@ loop-bound-preserved c =
 
 pub returns : goal.returns
 returns c =
-    words_end bound_letter c.args.bounds.now c.push_ascii.result c.args.text.now c.loop-bound.text c.push_ascii.new.text
-    c.loop-bound.bound-index (omega arith) c.loop-bound.invariant c.push_ascii.ensures
+    words_end bound_letter c.args.bounds.now c.push_end.result c.args.text.now c.loop-bound.text c.push_end.new.text
+    c.loop-bound.bound-index (omega arith) c.loop-bound.invariant c.push_end.ensures

@@ -17,5 +17,5 @@ loop-number-preserved c =
 
 pub returns : goal.returns
 returns c =
-    words_end decimal c.args.numbers.now c.push_ascii.result c.args.text.now c.loop-number.text c.push_ascii.new.text
-    c.loop-number.number-index (omega arith) c.loop-number.invariant c.push_ascii.ensures
+    words_end decimal c.args.numbers.now c.push_end.result c.args.text.now c.loop-number.text c.push_end.new.text
+    c.loop-number.number-index (omega arith) c.loop-number.invariant c.push_end.ensures
