@@ -1,8 +1,7 @@
 //! Taking in what a request is about.
-ghost use Rattle.std.specs.Prelude.{◌≡◌, ℕ, List, IfErr, IfOk, IfSome, MatchResult};
+ghost use Rattle.std.specs.Prelude.{◌≡◌, ℕ, List, IfErr, IfOk, IfSome};
 ghost use Rattle.admit_core.specs.Ranges.{AreTables};
 ghost use Rattle.admit_core.specs.declared.slot.Slot.{Slot};
-ghost use Rattle.admit_core.specs.declared.tables.Tables.{Tables};
 ghost use Rattle.admit_core.specs.Standing.{dossier_of};
 ghost use Rattle.dossier_check.specs.Dates.{dates_of};
 ghost use Rattle.dossier_check.specs.Ids.{ids_of};
@@ -10,9 +9,10 @@ ghost use Rattle.request.specs.Modes as Modes;
 ghost use Rattle.request.specs.Modes.{IsMode};
 ghost use Rattle.sample_gen.specs.Samples.{sample_tables};
 ghost use Rattle.intake.specs.Reading as Reading;
-ghost use Rattle.intake.specs.Input.{IsInputFrom, IsOfFiles, TakesIn, by_name, has_name, having, tested};
+ghost use Rattle.intake.specs.Input.{IsInputFrom, IsOfFiles, TakesIn, by_name, has_name, having};
+ghost use Rattle.intake.specs.Input.{tested};
 ghost use Rattle.intake.specs.Shelves.{TakesSlots, Tells, on_shelf};
-ghost use Rattle.intake.specs.Stops.{Gives, Stopped};
+ghost use Rattle.intake.specs.Stops.{Gives};
 ghost use Rattle.intake.specs.declared.files.Files.{Files};
 
 use crate::files::{Files, made, read_slots};

@@ -1,6 +1,7 @@
 //! The command whose words are read.
 ghost use Rattle.std.specs.Prelude.{◌≡◌, IfOk, map};
-ghost use Rattle.clap.specs.Words.{FailsBy, app_of, fault_of, found_of, matches_of, rows_of, with_rule};
+ghost use Rattle.clap.specs.Words.{FailsBy, app_of, fault_of, found_of, matches_of, rows_of};
+ghost use Rattle.clap.specs.Words.{with_rule};
 ghost use Rattle.request.specs.Command.{option_rule, parcours, with_options};
 
 use clap::{Arg, ArgMatches, Command, Error};

@@ -1,6 +1,7 @@
 //! The modes, and short tables by mode: its word, the slots that it reads, whether it runs days and
 //! picks after them, and what it names in the dossier.
-ghost use Rattle.std.specs.Prelude.{◌≡◌, ◌≢◌, ◌≤◌, ◌++◌, [], AllPairs, IfSome, OnErr, OnOk, string_bytes};
+ghost use Rattle.std.specs.Prelude.{◌≡◌, ◌≢◌, ◌≤◌, ◌++◌, [], AllPairs, IfSome, OnErr, OnOk};
+ghost use Rattle.std.specs.Prelude.{string_bytes};
 ghost use Rattle.admit_core.specs.Texts.{KeepsRoom, LacksRoom};
 ghost use Rattle.request.specs.Modes as Modes;
 ghost use Rattle.request.specs.Modes.{IsMode};

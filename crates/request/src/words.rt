@@ -1,10 +1,15 @@
 //! The words after the program's name.
-ghost use Rattle.std.specs.Prelude.{◌≡◌, ◌≤◌, IfOk, IfSome, codes, map, option_map, string_bytes, unwrap_or};
+ghost use Rattle.std.specs.Prelude.{◌≡◌, ◌≤◌, IfOk, IfSome, map, option_map, string_bytes};
+ghost use Rattle.std.specs.Prelude.{unwrap_or};
 ghost use Rattle.clap.specs.Words.{first_of, found_of, rows_of};
 ghost use Rattle.dossier_csv.specs.Columns.{number_of};
 ghost use Rattle.calendar.specs.Texts.{date_in};
 ghost use Rattle.request.specs.Modes.{AreNumbers, IsMode};
-ghost use Rattle.request.specs.Request.{IsDeadlines, IsRequest, IsStart, Reads, between, deadlines_option, deadlines_with, in_start_years, mode_option, named_words, number_option, numbers_option, picker_named, picker_option, request_in, request_of, request_of_named, start_option};
+ghost use Rattle.request.specs.Request.{IsDeadlines, IsRequest, IsStart, Reads, between};
+ghost use Rattle.request.specs.Request.{deadlines_option, deadlines_with, in_start_years};
+ghost use Rattle.request.specs.Request.{mode_option, named_words, number_option, numbers_option};
+ghost use Rattle.request.specs.Request.{picker_named, picker_option, request_in, request_of};
+ghost use Rattle.request.specs.Request.{request_of_named, start_option};
 
 use crate::command::parse;
 use crate::modes::{Mode, Numbers, mode_of};

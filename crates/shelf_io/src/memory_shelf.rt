@@ -1,6 +1,6 @@
 //! Shelves in memory.
-ghost use Rattle.std.specs.Prelude.{◌≡◌, ◌+◌, ◌-◌, ◌^◌, ◌↔◌, ◌∷◌, ◌++◌, ◌≤◌, ◌<◌, ◌⊎◌, [], Some, IfSome, OnOk, OnErr, IsErrOf, drop, take, length, min};
-ghost use Rattle.admit_core.specs.Slots.{at};
+ghost use Rattle.std.specs.Prelude.{◌≡◌, ◌+◌, ◌-◌, ◌^◌, ◌↔◌, ◌∷◌, ◌++◌, ◌≤◌, ◌<◌, ◌⊎◌, [], Some};
+ghost use Rattle.std.specs.Prelude.{IfSome, OnOk, OnErr, IsErrOf, drop, take, length, min};
 ghost use Rattle.shelf_io.specs.Plans.{IsToFail};
 ghost use Rattle.slot_io.specs.Faults.{raised_by};
 
@@ -121,7 +121,8 @@ pub struct MemShelf {
 impl MemShelf {
     ghost use Rattle.admit_core.specs.declared.slot.Slot.{Slot};
     ghost use Rattle.slot_io.specs.Bytes.{OthersKept};
-    ghost use Rattle.shelf_io.specs.MemoryShelf.{mem_calls, mem_failing, mem_faults, mem_left, mem_plan_full, mem_taken};
+    ghost use Rattle.shelf_io.specs.MemoryShelf.{mem_calls, mem_failing, mem_faults, mem_left};
+    ghost use Rattle.shelf_io.specs.MemoryShelf.{mem_plan_full, mem_taken};
 
     /// A shelf with nothing in its slots.
     pub fn new(alloc: Global) -> MemShelf

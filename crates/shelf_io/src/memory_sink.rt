@@ -1,5 +1,6 @@
 //! Sinks in memory.
-ghost use Rattle.std.specs.Prelude.{◌≡◌, ◌+◌, ◌-◌, ◌^◌, ◌↔◌, ◌∷◌, ◌++◌, ◌≤◌, ◌<◌, ◌⊎◌, [], Some, IfOk, OnOk, OnErr, IsErrOf, length, min};
+ghost use Rattle.std.specs.Prelude.{◌≡◌, ◌+◌, ◌-◌, ◌^◌, ◌↔◌, ◌∷◌, ◌++◌, ◌<◌, ◌⊎◌, [], Some, IfOk};
+ghost use Rattle.std.specs.Prelude.{OnOk, OnErr, IsErrOf, length, min};
 ghost use Rattle.shelf_io.specs.Plans.{IsToFail};
 ghost use Rattle.shelf_io.specs.Rooms.{fitting};
 
@@ -69,7 +70,8 @@ pub struct MemSink {
 }
 
 impl MemSink {
-    ghost use Rattle.shelf_io.specs.MemorySink.{sink_calls, sink_failing, sink_faults, sink_held, sink_plan_full, sink_room};
+    ghost use Rattle.shelf_io.specs.MemorySink.{sink_calls, sink_failing, sink_faults, sink_held};
+    ghost use Rattle.shelf_io.specs.MemorySink.{sink_plan_full, sink_room};
 
     /// A sink that holds nothing, and takes `room` bytes in all, or any number.
     pub fn new(alloc: Global, room: Option<u64>) -> MemSink

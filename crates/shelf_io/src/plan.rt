@@ -1,5 +1,6 @@
 //! Calls that are to fail.
-ghost use Rattle.std.specs.Prelude.{◌≡◌, ◌+◌, ◌-◌, ◌^◌, ◌↔◌, ◌∷◌, ◌++◌, ◌≤◌, [], IsTrue, OnOk, OnErr, min, vec_capacity, vec_len};
+ghost use Rattle.std.specs.Prelude.{◌≡◌, ◌+◌, ◌-◌, ◌^◌, ◌↔◌, ◌∷◌, ◌++◌, ◌≤◌, [], IsTrue, OnOk};
+ghost use Rattle.std.specs.Prelude.{OnErr, min, vec_capacity, vec_len};
 ghost use Rattle.shelf_io.specs.Plans.{IsToFail};
 
 use admit_core::OutOfMemory;
