@@ -47,3 +47,12 @@ pub position-some : {X : Type 0} (p : X → Bool) (xs : List X) → list_any p x
     → option_map row_number (position p xs) ≡ None → ⊥
 position-some p xs h none = let lt = one_passes p xs h in
     let e : nat_lt (position_or_len p xs) (length xs) ≡ true = grind arith in cc (rw e at none)
+
+-- where no first one is found, none passes
+pub none_found : {X : Type 0} (p : X → Bool) (xs : List X) → option_map row_number (position p xs) ≡ None
+    → list_any p xs ≡ false
+none_found p xs none = by (list_any p xs) refl
+  where
+    by : (b : Bool) → list_any p xs ≡ b → list_any p xs ≡ false
+    by true e = absurd (position-some p xs e none)
+    by false e = e

@@ -1,5 +1,5 @@
 -- The keys of the rows before tell the first row with the key of the next one.
-use Rattle.std.proofs.Common.{◌≡◌, ℕ, ◌+◌, ◌<◌, Bool, true, false, not, nat_lt, List, map, length, position, option_map}
+use Rattle.std.proofs.Common.{◌≡◌, ℕ, ◌+◌, ◌<◌, Bool, true, false, not, nat_eq, nat_lt, List, map, length, position, option_map}
 use Rattle.std.proofs.Common.{Some, None, refl, sym, ap, ◌∙◌, arith}
 use Rattle.std.specs.List.{list_any, position_or_len}
 use Rattle.admit_core.specs.Faults.{row_number, first_row}
@@ -7,7 +7,7 @@ use Rattle.dossier_check.proofs.Firsts.{position-none, position-map, one_passes,
 
 module _ {R K : Type 0} (eq : K → K → Bool) (key : R → K) (before : List R) (row : R) (keys : List K)
     (same : keys ≡ map key before) where
-  first_of_keys : option_map row_number (position (eq (key row)) keys) ≡ first_row (λ r. eq (key row) (key r)) before
+  pub first_of_keys : option_map row_number (position (eq (key row)) keys) ≡ first_row (λ r. eq (key row) (key r)) before
   first_of_keys = ap (λ ks. option_map row_number (position (eq (key row)) ks)) same
       ∙ ap (option_map row_number) (position-map (eq (key row)) key before)
 
@@ -24,3 +24,12 @@ module _ {R K : Type 0} (eq : K → K → Bool) (key : R → K) (before : List R
       let within : nat_lt (position_or_len (eq (key row)) keys) (length keys) ≡ true = grind arith in
       let found : position (eq (key row)) keys ≡ Some place = rw (within, at) refl in
       sym (ap (option_map row_number) found) ∙ first_of_keys
+
+-- the same of an id that is that of the next row
+module _ {R : Type 0} (key : R → ℕ) (before : List R) (row : R) (ids : List ℕ) (id : ℕ) (own : id ≡ key row)
+    (same : ids ≡ map key before) where
+  pub id_found : option_map row_number (position (nat_eq id) ids) ≡ first_row (λ r. nat_eq (key row) (key r)) before
+  id_found = rw own (first_of_keys nat_eq key before row ids same)
+
+  pub id_is_new : list_any (nat_eq id) ids ≡ false → first_row (λ r. nat_eq (key row) (key r)) before ≡ None
+  id_is_new new = sym id_found ∙ ap (option_map row_number) (position-none (nat_eq id) ids new)

@@ -1,5 +1,5 @@
 //! What is kept of the rows so far: their keys by place, or the first row of each key.
-ghost use Rattle.std.specs.Prelude.{◌≡◌, ℕ, Bool, List, [], ◌∷◌, ◌++◌, map, find, nat_eq, position, Some, None, true, IfOk, IsSome, if◌then◌else◌};
+ghost use Rattle.std.specs.Prelude.{◌≡◌, ℕ, Bool, List, [], ◌∷◌, ◌++◌, map, find, nat_eq, position, Some, None, true, IfOk, IsSome, OnErr, if◌then◌else◌};
 ghost use Rattle.indexmap.specs.IndexMap.{get};
 ghost use Rattle.admit_core.specs.Faults.{first_row};
 ghost use Rattle.dossier_check.specs.Pairs.{pair_eq};
@@ -29,6 +29,8 @@ pub(crate) fn note<R, K: Hash + Eq + Copy + Drop, Q: Key<R, K>>(
         IfOk result (λ first. first ≡ first_row (λ r. K.eq (Q.key row.now) (Q.key r)) before) }
     ensures noted { (before : List R) → keys.old.keys ≡ map Q.key before →
         IfOk result (λ first. first ≡ None → keys.new.keys ≡ map Q.key (before ++ row.now ∷ [])) }
+    ensures told { (before : List R) → keys.old.keys ≡ map Q.key before →
+        OnErr result (first_row (λ r. K.eq (Q.key row.now) (Q.key r)) before ≡ None) }
 {
     let (place, is_new) = keys.insert_full(rule.key_of(row))?;
     let _ = keys.len();
@@ -110,6 +112,7 @@ pub(crate) fn note_first<K: Hash + Eq + Copy + Drop, V: Copy + Drop>(
         IsSome first → (k : K) → get K.eq firsts.new k ≡ get K.eq firsts.old k) }
     ensures noted { IfOk result (λ first. first ≡ None → (k : K) →
         get K.eq firsts.new k ≡ (if K.eq key k then Some value else get K.eq firsts.old k)) }
+    ensures told { OnErr result (get K.eq firsts.old key ≡ None) }
 {
     if let Some(first) = firsts.get(&key) {
         return Ok(Some(*first));

@@ -34,7 +34,7 @@ impl Drop for PreferenceMixed {
 }
 
 impl PreferenceMixed {
-    ghost use Rattle.std.specs.Prelude.{ℕ, if◌then◌else◌, IsSome, IfSome, None, Some};
+    ghost use Rattle.std.specs.Prelude.{ℕ, if◌then◌else◌, IsSome, IfSome, OnErr, None, Some};
     ghost use Rattle.dossier_check.specs.Seen.{IsLastCandidate};
 
     /// The first wish of a candidate who is that of the row before.
@@ -60,6 +60,7 @@ impl PreferenceMixed {
             (if nat_eq candidate k then Some own else get nat_eq self.old.firsts k)) }
         ensures last { IsLastCandidate (get nat_eq self.old.firsts) self.old.last →
             IfOk result (λ first. IsLastCandidate (get nat_eq self.new.firsts) self.new.last) }
+        ensures told { OnErr result (get nat_eq self.old.firsts candidate ≡ None) }
     {
         if let Some(first) = self.first_of_last(candidate) {
             return Ok(Some(first));

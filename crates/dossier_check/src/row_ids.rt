@@ -1,7 +1,7 @@
 //! The ids of a slot's rows: found by order where they rise, and by hash elsewhere.
-ghost use Rattle.std.specs.Prelude.{◌≡◌, ◌++◌, ◌∷◌, ◌<◌, [], List, nat_eq, position, is_some, length, slice_get, map, true, false, None, Some, IfOk, IfSome, IsOk, OnErr};
+ghost use Rattle.std.specs.Prelude.{◌≡◌, ◌++◌, ◌∷◌, ◌<◌, [], List, nat_eq, position, is_some, length, slice_get, map, option_map, true, false, None, Some, IfOk, IfSome, IsOk, OnErr};
 ghost use Rattle.std.specs.List.{IsDistinct, list_any};
-ghost use Rattle.admit_core.specs.Faults.{first_row};
+ghost use Rattle.admit_core.specs.Faults.{first_row, row_number};
 ghost use Rattle.dossier_check.specs.RowIds.{Rises};
 
 use crate::noted::{Key, note};
@@ -90,6 +90,7 @@ fn add_rising(ids: &mut Vec<u32>, id: u32) -> Result<bool, OutOfMemory>
         added ≡ true → list_any (nat_eq id) ids.old.items ≡ false) }
     ensures kept { IfOk result (λ added. added ≡ false → ids.new.items ≡ ids.old.items) }
     ensures failed { OnErr result (ids.new.items ≡ ids.old.items) }
+    ensures told { OnErr result (list_any (nat_eq id) ids.old.items ≡ false) }
 {
     if !comes_after(ids.as_slice(), id) {
         return Ok(false);
@@ -115,26 +116,29 @@ fn hashed(
     Ok(set)
 }
 
-/// Rising ids found by hash, with the id of the next row among them; and the number of the row of
-/// the same id where there is one.
-fn note_hashed<R, Q: Key<R, u32>>(
+/// Rising ids and one more, found by hash.
+fn hashed_with(
     alloc: Global,
     keyed: Keyed,
     ids: &Vec<u32>,
-    rule: &Q,
-    row: &R,
-) -> Result<(IndexSet<u32, Keyed>, Option<u64>), OutOfMemory>
-    requires { Rises ids.now.items }
-    ensures first { (before : List R) → ids.now.items ≡ map Q.key before →
-        IfOk result (λ found.
-        found.1 ≡ first_row (λ r. nat_eq (Q.key row.now) (Q.key r)) before) }
-    ensures noted { (before : List R) → ids.now.items ≡ map Q.key before →
-        IfOk result (λ found.
-        found.1 ≡ None → found.0.keys ≡ map Q.key (before ++ row.now ∷ [])) }
+    id: u32,
+) -> Result<IndexSet<u32, Keyed>, OutOfMemory>
+    requires rises { Rises ids.now.items }
+    requires new { list_any (nat_eq id) ids.now.items ≡ false }
+    ensures { IfOk result (λ set. set.keys ≡ ids.now.items ++ id ∷ []) }
 {
     let mut set = hashed(alloc, keyed, ids.as_slice(), ids.capacity())?;
-    let first = note(&mut set, rule, row)?;
-    Ok((set, first))
+    set.insert(id)?;
+    Ok(set)
+}
+
+/// The number of the row that has an id, where the ids are those of the rows by place.
+fn row_among(ids: &[u32], id: u32) -> Option<u64>
+    requires { Rises ids.now }
+    ensures { result ≡ option_map row_number (position (nat_eq id) ids.now) }
+{
+    let place = place_among(ids, id)?;
+    Some(place as u64 + 2)
 }
 
 impl RowIds {
@@ -158,8 +162,57 @@ impl RowIds {
         })
     }
 
+    /// Adds an id where ids are found by order and it comes after all of them.
+    #[inline(always)]
+    fn add_last(&mut self, id: u32) -> Result<bool, OutOfMemory>
+        ensures added { IfOk result (λ added.
+            added ≡ true → self.new.keys ≡ self.old.keys ++ id ∷ []) }
+        ensures is_new { IfOk result (λ added.
+            added ≡ true → list_any (nat_eq id) self.old.keys ≡ false) }
+        ensures kept { IfOk result (λ added. added ≡ false → self.new.keys ≡ self.old.keys) }
+        ensures told { OnErr result (list_any (nat_eq id) self.old.keys ≡ false) }
+    {
+        match &mut self.way {
+            Way::Rising(ids) => add_rising(ids, id),
+            Way::Hashed(_) => Ok(false),
+        }
+    }
+
+    /// Notes the id of the next row, which may be that of a row before. This is not inlined: where
+    /// ids rise, it is never called.
+    #[inline(never)]
+    fn note_any<R, Q: Key<R, u32>>(
+        &mut self,
+        alloc: Global,
+        keyed: Keyed,
+        rule: &Q,
+        row: &R,
+    ) -> Result<Option<u64>, OutOfMemory>
+        ensures first { (before : List R) → self.old.keys ≡ map Q.key before →
+            IfOk result (λ first.
+            first ≡ first_row (λ r. nat_eq (Q.key row.now) (Q.key r)) before) }
+        ensures noted { (before : List R) → self.old.keys ≡ map Q.key before →
+            IfOk result (λ first.
+            first ≡ None → self.new.keys ≡ map Q.key (before ++ row.now ∷ [])) }
+        ensures told { (before : List R) → self.old.keys ≡ map Q.key before →
+            OnErr result (first_row (λ r. nat_eq (Q.key row.now) (Q.key r)) before ≡ None) }
+    {
+        match &mut self.way {
+            Way::Rising(ids) => {
+                let id = rule.key_of(row);
+                if let Some(first) = row_among(ids.as_slice(), id) {
+                    return Ok(Some(first));
+                }
+                let set = hashed_with(alloc, keyed, ids, id)?;
+                self.way = Way::Hashed(set);
+                Ok(None)
+            }
+            Way::Hashed(ids) => note(ids, rule, row),
+        }
+    }
+
     /// Notes the id of the next row, and answers the number of the row of the same id where there
-    /// is one. This is inlined, as the tests that ask it are.
+    /// is one, whatever memory there is. This is inlined, as the tests that ask it are.
     #[inline(always)]
     pub(crate) fn note<R, Q: Key<R, u32>>(
         &mut self,
@@ -174,18 +227,13 @@ impl RowIds {
         ensures noted { (before : List R) → self.old.keys ≡ map Q.key before →
             IfOk result (λ first.
             first ≡ None → self.new.keys ≡ map Q.key (before ++ row.now ∷ [])) }
+        ensures told { (before : List R) → self.old.keys ≡ map Q.key before →
+            OnErr result (first_row (λ r. nat_eq (Q.key row.now) (Q.key r)) before ≡ None) }
     {
-        match &mut self.way {
-            Way::Rising(ids) => {
-                if add_rising(ids, rule.key_of(row))? {
-                    return Ok(None);
-                }
-                let (set, first) = note_hashed(alloc, keyed, ids, rule, row)?;
-                self.way = Way::Hashed(set);
-                Ok(first)
-            }
-            Way::Hashed(ids) => note(ids, rule, row),
+        if self.add_last(rule.key_of(row))? {
+            return Ok(None);
         }
+        self.note_any(alloc, keyed, rule, row)
     }
 
     /// The place of an id.

@@ -1,5 +1,5 @@
 //! Tests of rows, each on its own, and lists of them.
-ghost use Rattle.std.specs.Prelude.{◌≡◌, ◌⊎◌, ℕ, List, [], ◌∷◌, ◌++◌, Option, option_map, length, IfOk, OnErr, map, true};
+ghost use Rattle.std.specs.Prelude.{◌≡◌, ◌⊎◌, ℕ, List, [], ◌∷◌, ◌++◌, Option, option_map, length, IfOk, OnErr, None, map, true};
 ghost use Rattle.std.specs.Option.{option_map_or};
 ghost use Rattle.admit_core.specs.declared.refusal.Reason.TheVariants as reasons;
 ghost use Rattle.admit_core.specs.Faults.{Test, row_number, first_reason, repeats, names_unknown};
@@ -24,7 +24,7 @@ pub(crate) trait RowTest<R> {
     /// That the test takes memory, and so may run out of it.
     ghost takes_memory: { Type 0 };
 
-    /// The reason, where the test stands at the next row.
+    /// The reason, where the test stands at the next row. It is told whatever memory there is.
     fn stands(&mut self, row: &R, number: u64) -> Result<Option<Reason>, OutOfMemory>
         ensures reason { (before : List R) → has_seen self.old before →
             IfOk result (λ reason. reason ≡ test self.old before row.now) }
@@ -32,7 +32,9 @@ pub(crate) trait RowTest<R> {
             ≡ row_number (length before) →
             IfOk result (λ reason. reason ≡ None → has_seen self.new (before ++ row.now ∷ [])) }
         ensures same_test { test self.new ≡ test self.old }
-        ensures memory { OnErr result takes_memory };
+        ensures memory { OnErr result takes_memory }
+        ensures told { (before : List R) → has_seen self.old before →
+            OnErr result (test self.old before row.now ≡ None) };
 }
 
 /// No test.

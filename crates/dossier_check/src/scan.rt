@@ -1,5 +1,5 @@
 //! The rows of a slot, tested in turn.
-ghost use Rattle.std.specs.Prelude.{◌≡◌, List, [], ◌∷◌, ◌++◌, ◌<◌, ◌^◌, length, IfOk, OnErr, OnOk};
+ghost use Rattle.std.specs.Prelude.{◌≡◌, List, [], ◌∷◌, ◌++◌, ◌<◌, ◌^◌, length, take, None, IfOk, OnErr, OnOk};
 ghost use Rattle.admit_core.specs.Faults.{Test, row_number, first_reason, first_in};
 ghost use Rattle.dossier_check.specs.Outcome.{AnswersFault, MayLack};
 
@@ -16,7 +16,7 @@ pub(crate) trait RowChecks<R> {
     ghost takes_memory: { Type 0 };
 
     /// Tests the next row, which has this number, and answers the reason of the first test that
-    /// stands.
+    /// stands. Where that is the very first one, it is told whatever memory there is.
     fn next(&mut self, row: &R, number: u64) -> Result<Option<Reason>, OutOfMemory>
         ensures reason { (before : List R) → has_seen self.old before →
             IfOk result (λ reason. reason ≡ first_reason (tests self.old) before row.now) }
@@ -24,7 +24,9 @@ pub(crate) trait RowChecks<R> {
             ≡ row_number (length before) →
             IfOk result (λ reason. reason ≡ None → has_seen self.new (before ++ row.now ∷ [])) }
         ensures same_tests { tests self.new ≡ tests self.old }
-        ensures memory { OnErr result takes_memory };
+        ensures memory { OnErr result takes_memory }
+        ensures told { (before : List R) → has_seen self.old before →
+            OnErr result (first_reason (take 1 (tests self.old)) before row.now ≡ None) };
 }
 
 /// Tests rows in turn, and refuses the first at which a test stands.

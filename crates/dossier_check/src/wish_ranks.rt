@@ -1,11 +1,15 @@
 //! The test of whether the candidate of a wish may wish for what it names.
-ghost use Rattle.std.specs.Prelude.{◌≡◌, ◌||◌, ℕ, Some, is_some, nat_eq, position, true};
+ghost use Rattle.std.specs.Prelude.{◌≡◌, ◌||◌, ℕ, List, Some, is_some, nat_eq, position, true};
+ghost use Rattle.std.specs.Result.{result_err};
 ghost use Rattle.std.specs.Option.{option_map_or};
 ghost use Rattle.admit_core.specs.declared.tables.Tables.{Tables};
+ghost use Rattle.admit_core.specs.declared.tables.WishRow.{WishRow};
 ghost use Rattle.admit_core.specs.Lists.{is_among};
 ghost use Rattle.admit_core.specs.Relations.{is_boarded, is_ranked};
 ghost use Rattle.dossier_check.specs.Dealt.{SaysWhoIsRanked};
+ghost use Rattle.dossier_check.specs.Known.{IsKnown};
 ghost use Rattle.dossier_check.specs.Seen.{boarded_pairs};
+ghost use Rattle.dossier_check.specs.WishTests.{may_not_wish};
 
 use crate::known::Known;
 use crate::near::NamedPlaces;
@@ -59,6 +63,32 @@ fn rank_place(
     }
 }
 
+/// Where a wish has what it names, or why its candidate may not wish for that.
+#[inline(always)]
+fn places_named(
+    known: Known<'_>,
+    all_ranked: bool,
+    near: &mut [u32],
+    row: &WishRow,
+) -> Result<NamedPlaces, Reason>
+    ensures { (t : Tables) (before : List WishRow) → IsKnown t known.entry →
+        result_err result ≡ may_not_wish all_ranked t before row.now }
+{
+    let Some(programme) = known.programmes.get_index_of(row.programme) else {
+        return Err(Reason::Unknown(3));
+    };
+    let Some(school) = school_place(known.schools, row.school) else {
+        return Err(Reason::Unknown(4));
+    };
+    if !is_ranked(all_ranked, known.ranked, near, row.candidate, programme) {
+        return Err(Reason::Unranked);
+    }
+    let Some(rank) = rank_place(known.boarded, row.candidate, row.school) else {
+        return Err(Reason::NoBoardingRank);
+    };
+    Ok(NamedPlaces::of(programme, school, rank))
+}
+
 /// The candidate may not wish for what the wish names, or it isn't there.
 pub(crate) struct MayNotWish<'a> {
     pub(crate) tables: &'a Tables,
@@ -110,27 +140,13 @@ impl<'a> RowTest<WishRow> for MayNotWish<'a> {
 
     #[inline(always)]
     fn stands(&mut self, row: &WishRow, _number: u64) -> Result<Option<Reason>, OutOfMemory> {
-        let known = self.known;
-        let Some(programme) = known.programmes.get_index_of(row.programme) else {
-            return Ok(Some(Reason::Unknown(3)));
-        };
-        let Some(school) = school_place(known.schools, row.school) else {
-            return Ok(Some(Reason::Unknown(4)));
-        };
         let near = self.near.as_mut_slice();
-        if !is_ranked(
-            self.all_ranked,
-            known.ranked,
-            near,
-            row.candidate,
-            programme,
-        ) {
-            return Ok(Some(Reason::Unranked));
+        match places_named(self.known, self.all_ranked, near, row) {
+            Ok(places) => {
+                self.places.push(places)?;
+                Ok(None)
+            }
+            Err(reason) => Ok(Some(reason)),
         }
-        let Some(rank) = rank_place(known.boarded, row.candidate, row.school) else {
-            return Ok(Some(Reason::NoBoardingRank));
-        };
-        self.places.push(NamedPlaces::of(programme, school, rank))?;
-        Ok(None)
     }
 }

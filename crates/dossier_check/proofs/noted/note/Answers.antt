@@ -1,6 +1,12 @@
-use Rattle.std.proofs.Common.{sym, ◌∙◌}
+use Rattle.std.proofs.Common.{sym, not, ap, ◌∙◌}
+use Rattle.admit_core.proofs.Plain.{on_err}
 use Rattle.dossier_check.proofs.NotedKeys.{noted-new, noted-old}
 use Rattle.dossier_check.proofs.noted.note.Goals as goal
+
+pub returns-in_err-place-clause-told : goal.returns-in_err-place-clause-told
+returns-in_err-place-clause-told g c before same =
+    on_err _ (sym (noted-new g.K.PartialEq.eq g.Q.Key.key before c.args.row.now c.args.keys.now.keys same
+    (rw (← c.key_of.ensures) (ap not c.in_err-place.ensures.absent))))
 
 pub returns-then-is_new-clause-first : goal.returns-then-is_new-clause-first
 returns-then-is_new-clause-first g c before same =

@@ -1,4 +1,3 @@
-use Rattle.std.proofs.Common.{ap, ◌∙◌, sym}
 use Rattle.dossier_check.proofs.Found.{nothing_there, read_there}
 use Rattle.dossier_check.proofs.WhoIsRanked.{has_place, list_tells, no_list}
 use Rattle.dossier_check.proofs.who_is_ranked.WhoIsRanked.has.Goals as goal
