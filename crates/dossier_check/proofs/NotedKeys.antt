@@ -1,5 +1,6 @@
 -- The keys of the rows before tell the first row with the key of the next one.
-use Rattle.std.proofs.Common.{◌≡◌, ℕ, ◌+◌, ◌<◌, Bool, true, false, not, nat_eq, nat_lt, List, map, length, position, option_map}
+use Rattle.std.proofs.Common.{◌≡◌, ℕ, ◌+◌, ◌<◌, Bool, true, false, not, nat_eq, nat_lt, List, map, length, position}
+use Rattle.std.proofs.Common.{option_map}
 use Rattle.std.proofs.Common.{Some, None, refl, sym, ap, ◌∙◌, arith}
 use Rattle.std.specs.List.{list_any, position_or_len}
 use Rattle.admit_core.specs.Faults.{row_number, first_row}
@@ -7,7 +8,8 @@ use Rattle.dossier_check.proofs.Firsts.{position-none, position-map, one_passes,
 
 module _ {R K : Type 0} (eq : K → K → Bool) (key : R → K) (before : List R) (row : R) (keys : List K)
     (same : keys ≡ map key before) where
-  pub first_of_keys : option_map row_number (position (eq (key row)) keys) ≡ first_row (λ r. eq (key row) (key r)) before
+  pub first_of_keys : option_map row_number (position (eq (key row)) keys)
+      ≡ first_row (λ r. eq (key row) (key r)) before
   first_of_keys = ap (λ ks. option_map row_number (position (eq (key row)) ks)) same
       ∙ ap (option_map row_number) (position-map (eq (key row)) key before)
 

@@ -29,13 +29,17 @@ abbrev pub built : GroupRow → List Ranked → RankGroup
 built g list =
     record { id = g.id; scholar_pct = g.scholar_pct; resident_pct = g.resident_pct; list = list }
 
--- the places of the groups of rows; the number of groups where a row's group is none of them
-abbrev pub places_in : List ℕ → List RankRow → List ℕ
-places_in groups rows = map (λ r. place_of groups r.group) rows
+-- the places of what rows name; the number of ids where it is none of them
+abbrev pub places_by : {R : Type 0} → (R → ℕ) → List ℕ → List R → List ℕ
+places_by named ids rows = map (λ r. place_of ids (named r)) rows
 
--- the same of programmes
+-- the places of the groups of rankings
+abbrev pub places_in : List ℕ → List RankRow → List ℕ
+places_in groups rows = places_by (λ r. r.group) groups rows
+
+-- the places of the groups of programmes
 abbrev pub group_places : List ℕ → List ProgrammeRow → List ℕ
-group_places groups rows = map (λ p. place_of groups p.group) rows
+group_places groups rows = places_by (λ p. p.group) groups rows
 
 -- the group of a row is there
 abbrev pub HasItsGroup : List ℕ → RankRow → Type 0

@@ -1,10 +1,11 @@
 //! The places of what rows name, each found once.
 ghost use Rattle.std.specs.Prelude.{◌≡◌, ◌<◌, ◌^◌, All, IfOk, length, true};
 ghost use Rattle.admit_core.specs.Standing.{place_of};
-ghost use Rattle.dossier_check.specs.Dealt.{group_places, places_in};
+ghost use Rattle.dossier_check.specs.Dealt.{places_by};
 
+use crate::noted::Key;
 use crate::row_ids::RowIds;
-use admit_core::{OutOfMemory, ProgrammeRow, RankRow};
+use admit_core::OutOfMemory;
 use std::alloc::Global;
 
 /// The place of an id, and the number of ids where it is none of them. It's looked for first where
@@ -16,36 +17,20 @@ pub(crate) fn place_near(ids: &RowIds, id: u32, near: &mut usize) -> u32
     ids.find_near(id, near).unwrap_or(ids.len()) as u32
 }
 
-/// The places of the groups of rows, row by row. The rows of a group mostly stand together.
-pub(crate) fn places_in(
+/// The places of what rows name, row by row. Rows that name the same mostly stand together.
+pub(crate) fn places_of<R, Q: Key<R, u32>>(
     alloc: Global,
-    rows: &[RankRow],
-    groups: &RowIds,
+    rule: &Q,
+    rows: &[R],
+    ids: &RowIds,
 ) -> Result<Vec<u32>, OutOfMemory>
-    requires { length groups.now.keys < 2 ^ 32 }
-    ensures { IfOk result (λ places. places.items ≡ places_in groups.now.keys rows.now) }
+    requires { length ids.now.keys < 2 ^ 32 }
+    ensures { IfOk result (λ places. places.items ≡ places_by Q.key ids.now.keys rows.now) }
 {
     let mut places = Vec::with_capacity(alloc, rows.len())?;
     let mut near = 0;
     for row in rows {
-        places.push(place_near(groups, row.group, &mut near))?;
-    }
-    Ok(places)
-}
-
-/// The places of the groups of programmes, by the programmes' places.
-pub(crate) fn group_places(
-    alloc: Global,
-    rows: &[ProgrammeRow],
-    groups: &RowIds,
-) -> Result<Vec<u32>, OutOfMemory>
-    requires { length groups.now.keys < 2 ^ 32 }
-    ensures { IfOk result (λ places. places.items ≡ group_places groups.now.keys rows.now) }
-{
-    let mut places = Vec::with_capacity(alloc, rows.len())?;
-    let mut near = 0;
-    for row in rows {
-        places.push(place_near(groups, row.group, &mut near))?;
+        places.push(place_near(ids, rule.key_of(row), &mut near))?;
     }
     Ok(places)
 }

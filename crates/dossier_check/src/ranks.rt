@@ -8,8 +8,9 @@ ghost use Rattle.dossier_check.specs.Dealt.{AreDealt, ascending, places_in};
 ghost use Rattle.dossier_check.specs.Outcome.{AnswersFault, MayLack};
 
 use crate::groups::{lists_by_rank, rank_groups, ranked_lists};
-use crate::placed::{all_below, places_in};
+use crate::placed::{all_below, places_of};
 use crate::row_ids::RowIds;
+use crate::rules::ItsGroup;
 use crate::slots::find_rank_fault;
 use admit_core::{InFault, OutOfMemory, RankGroup, RankRow, Ranked, Tables};
 use std::alloc::Global;
@@ -157,7 +158,7 @@ pub(crate) fn check_ranks(alloc: Global, tables: &Tables, groups: &RowIds) -> Re
             candidates: Vec::new(alloc),
         });
     }
-    let places = places_in(alloc, tables.rankings.as_slice(), groups)?;
+    let places = places_of(alloc, &ItsGroup, tables.rankings.as_slice(), groups)?;
     let dealt = deal(alloc, tables, groups, places.as_slice())?;
     if shows_no_fault(tables, groups, places.as_slice(), &dealt) {
         return Ok(dealt);

@@ -20,10 +20,10 @@ use crate::hashing::hashing_of;
 use crate::index::Index;
 use crate::items::{Keys, answers_of, ceilings_of, programmes_of, schools_of, wishes_of};
 use crate::known::Known;
-use crate::placed::group_places;
+use crate::placed::places_of;
 use crate::ranks::{Dealt, check_ranks};
 use crate::row_ids::RowIds;
-use crate::rules::OwnId;
+use crate::rules::{ItsGroup, OwnId};
 use crate::slots::{check_boarding, check_ceilings, check_ids, check_programmes};
 use crate::state::check_state;
 use crate::statuses::statuses_of;
@@ -208,7 +208,12 @@ fn check_slots(alloc: Global, tables: &Tables) -> Result<(Keys, Vec<RankGroup>),
     let keyed = hashing_of(tables);
     let named = check_named(alloc, keyed, tables)?;
     let ranks = check_both_ranks(alloc, keyed, tables, &named)?;
-    let places = group_places(alloc, tables.programmes.as_slice(), &named.groups)?;
+    let places = places_of(
+        alloc,
+        &ItsGroup,
+        tables.programmes.as_slice(),
+        &named.groups,
+    )?;
     let ranked = WhoIsRanked {
         places: places.as_slice(),
         candidates: ranks.dealt.candidates.as_slice(),

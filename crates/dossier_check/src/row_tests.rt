@@ -1,6 +1,5 @@
 //! Tests of rows, each on its own, and lists of them.
-ghost use Rattle.std.specs.Prelude.{◌≡◌, ◌⊎◌, ℕ, List, [], ◌∷◌, ◌++◌, Option, option_map, length, IfOk, OnErr, None, map, true};
-ghost use Rattle.std.specs.Option.{option_map_or};
+ghost use Rattle.std.specs.Prelude.{◌≡◌, ◌⊎◌, List, [], ◌∷◌, ◌++◌, option_map, length, IfOk, OnErr, None, map};
 ghost use Rattle.admit_core.specs.declared.refusal.Reason.TheVariants as reasons;
 ghost use Rattle.admit_core.specs.Faults.{Test, row_number, first_reason, repeats, names_unknown};
 ghost use Rattle.admit_core.specs.Lists.{is_among};
@@ -198,14 +197,6 @@ impl<R, Q: Key<R, u32>> RowTest<R> for RepeatsId<Q> {
     }
 }
 
-/// What a row names, if anything.
-pub(crate) trait Names<R> {
-    ghost named: { R → Option ℕ };
-
-    fn named_by(&self, row: &R) -> Option<u32>
-        ensures { result ≡ named row.now };
-}
-
 /// What the row names in a field, counted from 1, is not among known ids.
 #[derive(Drop)]
 pub(crate) struct NamesUnknown<'a, Q> {
@@ -214,9 +205,8 @@ pub(crate) struct NamesUnknown<'a, Q> {
     pub(crate) rule: Q,
 }
 
-impl<'a, R, Q: Names<R>> RowTest<R> for NamesUnknown<'a, Q> {
-    ghost test = { λ c. names_unknown c.field
-        (λ row. option_map_or (λ id. is_among id c.ids.now.keys) (Q.named row) true) };
+impl<'a, R, Q: Key<R, u32>> RowTest<R> for NamesUnknown<'a, Q> {
+    ghost test = { λ c. names_unknown c.field (λ row. is_among (Q.key row) c.ids.now.keys) };
 
     ghost has_seen = { λ c before. Unit {0} };
 
@@ -224,11 +214,9 @@ impl<'a, R, Q: Names<R>> RowTest<R> for NamesUnknown<'a, Q> {
 
     #[inline(always)]
     fn stands(&mut self, row: &R, _number: u64) -> Result<Option<Reason>, OutOfMemory> {
-        if let Some(id) = self.rule.named_by(row) {
-            if !self.ids.contains(id) {
-                return Ok(Some(Reason::Unknown(self.field)));
-            }
+        if self.ids.contains(self.rule.key_of(row)) {
+            return Ok(None);
         }
-        Ok(None)
+        Ok(Some(Reason::Unknown(self.field)))
     }
 }

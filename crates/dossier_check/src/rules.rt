@@ -1,9 +1,8 @@
 //! What the rows of each slot must not share, and what they name.
 
-ghost use Rattle.std.specs.Prelude.{Some, unwrap_or};
+ghost use Rattle.std.specs.Prelude.{unwrap_or};
 
 use crate::noted::Key;
-use crate::row_tests::Names;
 use admit_core::{
     BoardRow, CeilingRow, GroupRow, ProgrammeRow, RankRow, SchoolRow, StateRow, WishRow,
 };
@@ -192,19 +191,19 @@ impl Key<CeilingRow, (u32, u32)> for DayAndSchool {
 #[derive(Drop)]
 pub(crate) struct ItsGroup;
 
-impl Names<ProgrammeRow> for ItsGroup {
-    ghost named = { λ r. Some r.group };
+impl Key<ProgrammeRow, u32> for ItsGroup {
+    ghost key = { λ r. r.group };
 
-    fn named_by(&self, row: &ProgrammeRow) -> Option<u32> {
-        Some(row.group)
+    fn key_of(&self, row: &ProgrammeRow) -> u32 {
+        row.group
     }
 }
 
-impl Names<RankRow> for ItsGroup {
-    ghost named = { λ r. Some r.group };
+impl Key<RankRow, u32> for ItsGroup {
+    ghost key = { λ r. r.group };
 
-    fn named_by(&self, row: &RankRow) -> Option<u32> {
-        Some(row.group)
+    fn key_of(&self, row: &RankRow) -> u32 {
+        row.group
     }
 }
 
@@ -212,26 +211,18 @@ impl Names<RankRow> for ItsGroup {
 #[derive(Drop)]
 pub(crate) struct ItsSchool;
 
-impl Names<BoardRow> for ItsSchool {
-    ghost named = { λ r. Some r.school };
+impl Key<BoardRow, u32> for ItsSchool {
+    ghost key = { λ r. r.school };
 
-    fn named_by(&self, row: &BoardRow) -> Option<u32> {
-        Some(row.school)
+    fn key_of(&self, row: &BoardRow) -> u32 {
+        row.school
     }
 }
 
-impl Names<CeilingRow> for ItsSchool {
-    ghost named = { λ r. Some r.school };
+impl Key<CeilingRow, u32> for ItsSchool {
+    ghost key = { λ r. r.school };
 
-    fn named_by(&self, row: &CeilingRow) -> Option<u32> {
-        Some(row.school)
-    }
-}
-
-impl Names<StateRow> for ItsWish {
-    ghost named = { λ r. Some r.wish };
-
-    fn named_by(&self, row: &StateRow) -> Option<u32> {
-        Some(row.wish)
+    fn key_of(&self, row: &CeilingRow) -> u32 {
+        row.school
     }
 }

@@ -1,4 +1,4 @@
-use Rattle.std.proofs.Common.{◌≡◌, ◌∙◌, None, arith, get_or, nat_eq, position, sym, ap}
+use Rattle.std.proofs.Common.{◌∙◌, None, arith, get_or, nat_eq, position, sym, ap}
 use Rattle.std.proofs.lemmas.List.Elements.{AllWithin-more, AllWithin-upto, All-from_all_within}
 use Rattle.admit_core.specs.declared.tables.WishRow.{WishRow}
 use Rattle.dossier_check.specs.WishTests.{IsRanked}

@@ -18,7 +18,8 @@ returns-in_err-scanned-clause-fault c =
 pub returns-clause-fault : goal.returns-clause-fault
 returns-clause-fault c =
     let h = c.in_ok-apart in
-    sym (found_same c.args.tables.now c.as_slice-rows.result.now h.apart.wishes c.in_ok-ranked.ranked h.apart.preferences _
+    sym (found_same c.args.tables.now c.as_slice-rows.result.now h.apart.wishes c.in_ok-ranked.ranked
+    h.apart.preferences _
     h.ensures.wishes (c.in_ok-ranked.ensures c.args.tables.now c.requires.known) h.ensures.preferences
     c.as_slice-rows.ensures c.in_ok-tests.ensures.tests)
     ∙ c.in_ok-scanned.ensures.fault
