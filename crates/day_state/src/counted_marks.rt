@@ -113,6 +113,13 @@ impl<'d> CountedMarks<'d> {
         &self.marks
     }
 
+    /// The marks of all wishes alone.
+    pub fn into_marks(self) -> Marks
+        ensures { result ≡ self.entry.marks }
+    {
+        self.marks
+    }
+
     /// Whether each wish waits, by place.
     pub fn waits(&self) -> &[bool]
         ensures { result.now ≡ map is_waiting self.now.marks }

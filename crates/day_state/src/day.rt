@@ -19,6 +19,7 @@ ghost use Rattle.day_state.specs.Applied.{answered, after_fitting, after_fitting
 use crate::counted_marks::CountedMarks;
 use crate::index::{CandidateIndex, candidate_at};
 use crate::mark::{OwnChange, changed_to, first_mark, kind_fits, lapses};
+use crate::marked::MarkedWishes;
 use crate::marks::Marks;
 use admit_core::{Answer, AnswerKind, Dossier, Freed, OutOfMemory, Stamp, Status, Terms};
 use std::alloc::Global;
@@ -108,6 +109,22 @@ impl<'d> DayState<'d> {
         ensures one_each { length result.now ≡ length self.now.dossier.wishes }
     {
         self.live.marks()
+    }
+
+    /// The dossier with the marks of its wishes.
+    pub fn marked(&self) -> MarkedWishes<'_>
+        ensures { result ≡ self.now }
+    {
+        MarkedWishes::of(self.dossier(), self.marks())
+    }
+
+    /// The marks of all wishes alone; the room of all else is given back.
+    pub fn into_marks(self) -> Marks
+        ensures marks { result ≡ self.entry.marks }
+        ensures one_each { length result ≡ length self.entry.dossier.wishes }
+    {
+        let DayState { index: _, live } = self;
+        live.into_marks()
     }
 
     /// Whether each wish waits, by place.

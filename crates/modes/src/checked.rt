@@ -23,7 +23,7 @@ use admit_core::{DayChain, Dossier, OutOfMemory, Terms};
 use certificate::{
     ChainRefusal, CheckDesk, CheckStop, Grounds, chain_fault_text, read_chain, verdict_text,
 };
-use day_state::DayState;
+use day_state::{DayState, MarkedWishes};
 use desk_day::ceilings_on;
 use intake::{DatedTerms, Input};
 use played::LastDesk;
@@ -110,20 +110,24 @@ fn check_days(
     Ok(())
 }
 
-/// The text where so many days are proved, and lead to this evening.
+/// The text where so many days are proved, and lead to this evening, of which the marks alone are
+/// kept while the text is made.
 fn proved_text(
     alloc: Global,
     number: usize,
-    evening: &DayState<'_>,
+    evening: DayState<'_>,
     dated: Option<&DatedTerms>,
 ) -> Result<Vec<u8>, OutOfMemory>
-    requires { CanBeDated (option_copied dated) evening.now }
-    ensures { IfOk result (λ text. text.items ≡ proved_text number evening.now
+    requires { CanBeDated (option_copied dated) evening }
+    ensures { IfOk result (λ text. text.items ≡ proved_text number evening.entry
         (option_copied dated.entry)) }
 {
+    let dossier = evening.dossier();
+    let marks = evening.into_marks();
+    let evening = MarkedWishes::of(dossier, &marks);
     let mut text = String::new(alloc);
     writeln!(text, "proved {number}")?;
-    push_final_lines(&mut text, evening, dated)?;
+    push_final_lines(&mut text, &evening, dated)?;
     Ok(text.into_bytes())
 }
 
@@ -178,7 +182,7 @@ fn check_chain(
     match check_days(alloc, &grounds, terms_in(dated), &mut desk, days) {
         Ok(()) => Ok(reply(
             Exit::Done,
-            proved_text(alloc, days.len(), desk.now(), dated)?,
+            proved_text(alloc, days.len(), desk.into_now(), dated)?,
         )),
         Err(why) => unproved(alloc, &input.dossier, why),
     }

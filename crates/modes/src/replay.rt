@@ -7,7 +7,7 @@ use crate::led::Led;
 use crate::order::push_orders;
 use crate::reply::{Reply, done};
 use admit_core::{CallOrder, DayRecord, Dossier, OutOfMemory};
-use day_state::DayState;
+use day_state::MarkedWishes;
 use intake::{DatedTerms, Input};
 use report::{push_dated_day, push_dated_final, push_day, push_final};
 use std::alloc::{AllocError, Global};
@@ -32,7 +32,7 @@ fn push_day_lines(
 /// Adds the lines of the final state, with the dates of offers where these have deadlines.
 pub(crate) fn push_final_lines(
     text: &mut String,
-    state: &DayState<'_>,
+    state: &MarkedWishes<'_>,
     dated: Option<&DatedTerms>,
 ) -> Result<(), AllocError>
     requires { CanBeDated (option_copied dated) state.now }
@@ -88,7 +88,7 @@ fn replay_text(
     dated: Option<&DatedTerms>,
     orders: &[CallOrder],
     days: &[DayRecord],
-    evening: &DayState<'_>,
+    evening: &MarkedWishes<'_>,
 ) -> Result<Vec<u8>, OutOfMemory>
     requires days { All (CanBeWritten dossier.now (option_copied dated)) days.now }
     requires offers { CanBeDated (option_copied dated) evening.now }
@@ -101,8 +101,8 @@ fn replay_text(
     Ok(text.into_bytes())
 }
 
-/// How the mode `replay` ends. All of the desk but its present state, and the roster, are given up
-/// before the text is made, which is the longest of all modes.
+/// How the mode `replay` ends. All of the desk but the marks of its present state, and the roster,
+/// are given up before the text is made, which is the longest of all modes.
 pub(crate) fn replayed(
     alloc: Global,
     input: &Input,
@@ -118,7 +118,8 @@ pub(crate) fn replayed(
 {
     let (days, last) = led.into_parts();
     let called = last.orders().orders.as_slice();
-    let evening = last.into_now(alloc)?;
+    let (dossier, marks) = last.into_marks(alloc)?;
+    let evening = MarkedWishes::of(dossier, &marks);
     let text = replay_text(
         alloc,
         &input.dossier,

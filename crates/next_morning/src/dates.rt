@@ -28,7 +28,7 @@ fn since_when(evening: &DayState<'_>, start: Civil, terms: &Terms, place: u32) -
     ensures { result ≡ since_when evening.now start terms.now.before place }
 {
     match evening.status(place) {
-        Status::Offered => Some(since_of(offer_date(evening, start, terms, place))),
+        Status::Offered => Some(since_of(offer_date(&evening.marked(), start, terms, place))),
         _ => None,
     }
 }

@@ -1,11 +1,11 @@
 //! What the days of a run leave.
-ghost use Rattle.std.specs.Prelude.{◌≡◌, true, false, IfOk, IsOk};
+ghost use Rattle.std.specs.Prelude.{◌≡◌, true, false, IfOk, IsOk, length};
 ghost use Rattle.admit_core.specs.CallOrder.{AreCallOrders};
 ghost use Rattle.admit_core.specs.Days.{first_evening};
 ghost use Rattle.played.specs.PlayedDays.{first_desk};
 
 use admit_core::{CallOrders, Dossier, OutOfMemory};
-use day_state::DayState;
+use day_state::{DayState, Marks};
 use desk_day::Desk;
 use linked_demand::Roster;
 use std::alloc::Global;
@@ -237,5 +237,17 @@ impl<'a, 'd> LastDesk<'a, 'd> {
             Some(along) => Ok(along.into_now().0),
             None => DayState::begin(alloc, dossier),
         }
+    }
+
+    /// The dossier, and of the present state the marks of its wishes alone. Where days were run both
+    /// are there, and no memory is taken.
+    pub fn into_marks(self, alloc: Global) -> Result<(&'d Dossier, Marks), OutOfMemory>
+        ensures dossier { IfOk result (λ parts. parts.0.now ≡ self.entry.desk.present.dossier) }
+        ensures marks { IfOk result (λ parts. parts.1 ≡ self.entry.desk.present.marks) }
+        ensures one_each { IfOk result (λ parts. length parts.1 ≡ length parts.0.now.wishes) }
+        ensures begun { self.entry.is_begun ≡ true → IsOk result }
+    {
+        let state = self.into_now(alloc)?;
+        Ok((state.dossier(), state.into_marks()))
     }
 }

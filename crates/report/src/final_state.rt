@@ -15,7 +15,7 @@ use crate::piece::{push_both, push_end, push_text};
 use crate::words::status_between;
 use admit_core::{OutOfMemory, Status, Terms, Wish};
 use calendar::{Civil, on_day};
-use day_state::DayState;
+use day_state::{DayState, MarkedWishes};
 use itoa::Buffer;
 use std::alloc::{AllocError, Global};
 
@@ -35,7 +35,7 @@ fn push_row(text: &mut String, id: u32, status: Status) -> Result<(), AllocError
 }
 
 /// Adds the final state: each wish with its status. What follows the first line is a state slot.
-pub fn push_final(text: &mut String, state: &DayState<'_>) -> Result<(), AllocError>
+pub fn push_final(text: &mut String, state: &MarkedWishes<'_>) -> Result<(), AllocError>
     ensures { Pushes result text.old text.new (final_text state.now) }
 {
     let wishes = state.dossier().wishes.as_slice();
@@ -52,12 +52,12 @@ pub fn final_text(alloc: Global, state: &DayState<'_>) -> Result<Vec<u8>, OutOfM
     ensures { IfOk result (λ text. text.items ≡ final_text state.now) }
 {
     let mut text = String::new(alloc);
-    push_final(&mut text, state)?;
+    push_final(&mut text, &state.marked())?;
     Ok(text.into_bytes())
 }
 
 /// The date of the offer of the wish at a place, which is offered; `start` is the date of day 1.
-pub fn offer_date(state: &DayState<'_>, start: Civil, terms: &Terms, place: u32) -> Civil
+pub fn offer_date(state: &MarkedWishes<'_>, start: Civil, terms: &Terms, place: u32) -> Civil
     requires start { IsCivil start }
     requires place { place < length state.now.dossier.wishes }
     requires before { place < length terms.now.before }
@@ -95,7 +95,7 @@ fn push_offered_row(text: &mut String, id: u32, since: Civil) -> Result<(), Allo
 /// offered.
 fn push_dated_row(
     text: &mut String,
-    state: &DayState<'_>,
+    state: &MarkedWishes<'_>,
     start: Civil,
     terms: &Terms,
     place: u32,
@@ -120,7 +120,7 @@ fn push_dated_row(
 /// state slot.
 pub fn push_dated_final(
     text: &mut String,
-    state: &DayState<'_>,
+    state: &MarkedWishes<'_>,
     start: Civil,
     terms: &Terms,
 ) -> Result<(), AllocError>
@@ -147,6 +147,6 @@ pub fn final_dated_text(
     ensures { IfOk result (λ text. text.items ≡ final_dated_text state.now start terms.now.before) }
 {
     let mut text = String::new(alloc);
-    push_dated_final(&mut text, state, start, terms)?;
+    push_dated_final(&mut text, &state.marked(), start, terms)?;
     Ok(text.into_bytes())
 }

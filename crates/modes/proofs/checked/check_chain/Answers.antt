@@ -45,7 +45,7 @@ proved_text-requires c =
     let stays = ap (λ (t : State). t.dossier) c.in-Ok.ensures.evening
     ∙ days_stay (option_copied c.terms_in.result) c.along-grounds.result.orders 1 c.begin-desk.result
     c.args.days.now in
-    subst (CanBeDated dated) (sym c.now.ensures)
+    subst (CanBeDated dated) (sym c.into_now.ensures)
     (evening_dated c.args.input.now.dossier dated c.begin-desk.result c.check_days.new.desk
     (c.begin-desk.ensures ∙ c.in_ok-first.ensures.now ∙ c.requires.first) stays c.in-Ok.ensures.stamps c.requires.dated)
 
@@ -66,7 +66,7 @@ returns-in-Ok c =
     (evening_after (terms_in dated) orders 1 (first_evening d) days) dated) _ _ none (
       c.reply.ensures.0,
       c.reply.ensures.1 ∙ c.in_ok-proved_text-in-Ok.ensures
-          ∙ ap (λ (s : State). proved_text (length days) s dated) (c.now.ensures ∙ evening),
+          ∙ ap (λ (s : State). proved_text (length days) s dated) (c.into_now.ensures ∙ evening),
     )
 
 pub returns : goal.returns

@@ -1,4 +1,4 @@
-use Rattle.std.proofs.Common.{◌∙◌, All, List, ap, subst, sym}
+use Rattle.std.proofs.Common.{◌≡◌, ◌∙◌, All, List, ap, subst, sym}
 use Rattle.std.specs.Option.{option_copied}
 use Rattle.admit_core.specs.State.{State}
 use Rattle.admit_core.specs.declared.records.DayRecord.{DayRecord}
@@ -15,8 +15,9 @@ replay_text-requires-clause-days c =
 
 pub replay_text-requires-clause-offers : goal.replay_text-requires-clause-offers
 replay_text-requires-clause-offers c =
-    let evening = c.in_ok-evening.ensures.now
-    ∙ ap (λ (x : DeskLeft). x.desk.present) c.into_parts-days.ensures.last in
+    let left = ap (λ (x : DeskLeft). x.desk.present) c.into_parts-days.ensures.last in
+    let evening : c.of-evening.result ≡ c.args.led.last.desk.present = c.of-evening.ensures
+    ∙ (λ i. record { dossier = c.in_ok-dossier.ensures.dossier i; marks = c.in_ok-dossier.ensures.marks i }) ∙ left in
     subst (λ (s : State). CanBeDated (option_copied c.args.dated) s) (sym evening) c.requires.offers
 
 pub returns : goal.returns
@@ -24,8 +25,9 @@ returns c =
     let orders = c.as_slice-called.ensures ∙ c.orders.ensures
     ∙ ap (λ (x : DeskLeft). x.orders) c.into_parts-days.ensures.last in
     let days = c.as_slice.ensures.value ∙ c.into_parts-days.ensures.days in
-    let evening = c.in_ok-evening.ensures.now
-    ∙ ap (λ (x : DeskLeft). x.desk.present) c.into_parts-days.ensures.last in (
+    let left = ap (λ (x : DeskLeft). x.desk.present) c.into_parts-days.ensures.last in
+    let evening : c.of-evening.result ≡ c.args.led.last.desk.present = c.of-evening.ensures
+    ∙ (λ i. record { dossier = c.in_ok-dossier.ensures.dossier i; marks = c.in_ok-dossier.ensures.marks i }) ∙ left in (
       c.done.ensures.exit,
       c.done.ensures.text ∙ c.in_ok-text.ensures
           ∙ (λ i. replay_text c.args.input.now.dossier (option_copied c.args.dated) (orders i) (days i) (evening i)),
