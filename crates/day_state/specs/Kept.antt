@@ -1,6 +1,6 @@
 -- What is kept beside the marks: an index of the candidates, and the numbers of those who are live.
 use Rattle.std.specs.Prelude.{◌≡◌, ℕ, ◌+◌, ◌-◌, ◌*◌, ◌%◌, ◌≤◌, ◌<◌, Bool, true, false, cond, ◌&&◌, List, map, length}
-use Rattle.std.specs.Prelude.{filter, Option, Some, None, ◌==◌, slice_get, slice_index, slice_set, unwrap_or, All}
+use Rattle.std.specs.Prelude.{[], filter, Option, Some, None, ◌==◌, slice_get, slice_index, slice_set, unwrap_or, All}
 use Rattle.std.specs.List.{list_any, range_with_len}
 use Rattle.std.specs.List.Sorted.{IsNonDecreasingBy}
 use Rattle.admit_core.specs.declared.dossier.Wish.{Wish}
@@ -114,9 +114,9 @@ pub record IsSpan (ws : List Wish) (order : List ℕ) (c : ℕ) (span : Span) : 
   pub within : IsWithin (length order) span
   pub own : part_of order span ≡ filter (λ k. candidate_in ws k == c) order
 
--- the span at a place
-abbrev pub span_in : List Span → ℕ → Span
-span_in spans k = unwrap_or (slice_get spans k) (record { from = 0; to = 0 })
+-- where in the order the wishes of the candidate with a number stand: up to where the next ones begin
+abbrev pub span_at : List ℕ → ℕ → Span
+span_at begins n = record { from = slice_index begins n; to = slice_index begins (n + 1) }
 
 -- from one place up to another an order by a key holds one key, and that key nowhere else from there on
 pub record HoldsOneKey (key : ℕ → ℕ) (order : List ℕ) (from to : ℕ) : Type 0 where
@@ -124,18 +124,29 @@ pub record HoldsOneKey (key : ℕ → ℕ) (order : List ℕ) (from to : ℕ) : 
       → key (slice_index order k) ≡ key (slice_index order from)
   pub ends : to < length order → ¬ (key (slice_index order to) ≡ key (slice_index order from))
 
--- some places hold a span, and the others what they held
-pub record IsSpanPut (places : List ℕ) (span : Span) (old new : List Span) : Type 0 where
+-- some places hold a number, and the others what they held
+pub record IsPut (places : List ℕ) (number : ℕ) (old new : List ℕ) : Type 0 where
   pub as_long : length new ≡ length old
-  pub here : (k : ℕ) → k < length old → is_among k places ≡ true → span_in new k ≡ span
-  pub others : (k : ℕ) → is_among k places ≡ false → span_in new k ≡ span_in old k
+  pub here : (k : ℕ) → k < length old → is_among k places ≡ true → slice_index new k ≡ number
+  pub others : (k : ℕ) → is_among k places ≡ false → slice_index new k ≡ slice_index old k
 
--- the first n wishes have each the span of its candidate
-pub record AreSpans (ws : List Wish) (order : List ℕ) (n : ℕ) (spans : List Span) : Type 0 where
-  pub count : length spans ≡ n
-  pub each : (k : ℕ) → k < n → IsSpan ws order (candidate_in ws k) (span_in spans k)
+-- a candidate has a number, by where their wishes begin in the order
+pub record IsNumber (ws : List Wish) (order begins : List ℕ) (c n : ℕ) : Type 0 where
+  pub ends : n + 1 < length begins
+  pub span : IsSpan ws order c (span_at begins n)
+
+-- each wish has the number of its candidate
+pub record AreNumbered (ws : List Wish) (order numbers begins : List ℕ) : Type 0 where
+  pub one_each : length numbers ≡ length ws
+  pub each : (k : ℕ) → k < length ws
+      → IsNumber ws order begins (candidate_in ws k) (slice_index numbers k)
+
+-- a wish of a candidate is found, where they have one in the order
+abbrev pub FindsOne : List Wish → List ℕ → ℕ → Option ℕ → Type 0
+FindsOne ws order c None = filter (λ k. candidate_in ws k == c) order ≡ []
+FindsOne ws order c (Some k) = (k < length ws) × (candidate_in ws k ≡ c)
 
 -- an index by candidate and by wish
-pub record IsIndexed (ws : List Wish) (order : List ℕ) (spans : List Span) : Type 0 where
+pub record IsIndexed (ws : List Wish) (order numbers begins : List ℕ) : Type 0 where
   pub by_candidate : IsIndex ws order
-  pub by_wish : AreSpans ws order (length ws) spans
+  pub by_wish : AreNumbered ws order numbers begins

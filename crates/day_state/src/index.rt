@@ -1,23 +1,32 @@
 //! An index from a candidate to their own wishes.
-ghost use Rattle.std.specs.Prelude.{◌≡◌, ◌<◌, ◌≤◌, ◌^◌, length, map, IfOk, All, nat_lt, nat_le, true, false};
+ghost use Rattle.std.specs.Prelude.{◌≡◌, ◌<◌, ◌≤◌, ◌+◌, ◌^◌, length, map, slice_index, IfOk, All, nat_lt, true, false};
 ghost use Rattle.std.specs.List.{range_with_len};
 ghost use Rattle.std.specs.List.Sorted.{IsNonDecreasingBy, IsPartitionPoint};
 ghost use Rattle.admit_core.specs.DossierRows.{DossierRows, candidate_of};
 ghost use Rattle.admit_core.specs.OwnWishes.{own_places};
-ghost use Rattle.day_state.specs.Kept.{candidate_in, key_at, place_in, all_keys, IsIndex, IsSpan, HoldsOneKey, IsSpanPut, AreSpans};
+ghost use Rattle.day_state.specs.Kept.{candidate_in, key_at, place_in, all_keys, span_at, IsIndex, HoldsOneKey, IsPut, AreNumbered, FindsOne};
 
 use crate::spans::{Span, part};
 use admit_core::{Dossier, OutOfMemory, Wish};
 use std::alloc::Global;
 use std::marker::Model;
 
-/// The places of a dossier's wishes in order by candidate, and for each wish where those of its
-/// candidate stand in it.
+/// The places of a dossier's wishes in order by candidate. Candidates are numbered from 0 on, by
+/// their ids. Each wish has its candidate's number, and each number the place of the order at which
+/// the candidate's wishes begin. They end where those of the next number begin.
 #[derive(Drop)]
 pub struct CandidateIndex<'d> {
     dossier: &'d Dossier,
     order: Vec<u32>,
-    spans: Vec<Span>,
+    candidates: Candidates,
+}
+
+/// The number of each wish's candidate, and where the wishes of each number begin in the order.
+/// Behind the last one stands where the order ends.
+#[derive(Drop)]
+struct Candidates {
+    numbers: Vec<u32>,
+    begins: Vec<u32>,
 }
 
 impl<'d> Model for CandidateIndex<'d> {
@@ -28,7 +37,8 @@ impl<'d> Model for CandidateIndex<'d> {
 
     ghost view = { λ s. s.dossier.now };
 
-    ghost invariant = { λ s. IsIndexed s.dossier.now.wishes s.order.items s.spans.items };
+    ghost invariant = { λ s. IsIndexed s.dossier.now.wishes s.order.items
+        s.candidates.numbers.items s.candidates.begins.items };
 }
 
 impl<'d> CandidateIndex<'d> {
@@ -38,11 +48,11 @@ impl<'d> CandidateIndex<'d> {
     {
         let wishes = dossier.wishes.as_slice();
         let order = order_of(alloc, wishes)?;
-        let spans = spans_of(alloc, wishes, order.as_slice())?;
+        let candidates = numbered(alloc, wishes, order.as_slice())?;
         Ok(CandidateIndex {
             dossier,
             order,
-            spans,
+            candidates,
         })
     }
 
@@ -58,8 +68,10 @@ impl<'d> CandidateIndex<'d> {
         ensures { result.now ≡ own_places self.now candidate }
     {
         let dossier = self.dossier;
-        let order = self.order.as_slice();
-        part(order, span_of(dossier.wishes.as_slice(), order, candidate))
+        match first_of(dossier.wishes.as_slice(), self.order.as_slice(), candidate) {
+            None => &[],
+            Some(wish) => self.own_of(wish),
+        }
     }
 
     /// The places of the wishes of a wish's candidate, ascending.
@@ -67,7 +79,23 @@ impl<'d> CandidateIndex<'d> {
         requires { wish < length self.now.wishes }
         ensures { result.now ≡ own_places self.now (candidate_of self.now wish) }
     {
-        part(self.order.as_slice(), self.spans[wish as usize])
+        let number = self.candidates.numbers[wish as usize];
+        part(
+            self.order.as_slice(),
+            span_at(&self.candidates.begins, number),
+        )
+    }
+}
+
+/// Where in an order by candidate the wishes of the candidate with a number stand.
+fn span_at(begins: &Vec<u32>, number: u32) -> Span
+    requires { number + 1 < length begins.now.items }
+    ensures { result ≡ span_at begins.now.items number }
+{
+    let number = number as usize;
+    Span {
+        from: begins[number],
+        to: begins[number + 1],
     }
 }
 
@@ -156,27 +184,16 @@ fn first_not_below(wishes: &[Wish], order: &[u32], candidate: u32) -> usize
     order.partition_point(|place| candidate_at(wishes, *place) < candidate)
 }
 
-/// The first of the places in order whose candidate is above this one.
-fn first_above(wishes: &[Wish], order: &[u32], candidate: u32) -> usize
-    requires { IsNonDecreasingBy (candidate_in wishes.now) order.now }
-    ensures within { result ≤ length order.now }
-    ensures point { IsPartitionPoint (λ k. nat_le (candidate_in wishes.now k) candidate ≡ true)
-        (λ k. nat_le (candidate_in wishes.now k) candidate ≡ false) order.now result }
+/// The first of a candidate's wishes in an order by candidate.
+fn first_of(wishes: &[Wish], order: &[u32], candidate: u32) -> Option<u32>
+    requires { IsIndex wishes.now order.now }
+    ensures { FindsOne wishes.now order.now candidate result }
 {
-    order.partition_point(|place| candidate_at(wishes, *place) <= candidate)
-}
-
-/// Where the wishes of a candidate stand in an order by candidate.
-fn span_of(wishes: &[Wish], order: &[u32], candidate: u32) -> Span
-    requires rises { IsNonDecreasingBy (candidate_in wishes.now) order.now }
-    requires count { length order.now < 2 ^ 32 }
-    ensures { IsSpan wishes.now order.now candidate result }
-{
-    let from = first_not_below(wishes, order, candidate);
-    let to = first_above(wishes, order, candidate);
-    Span {
-        from: from as u32,
-        to: to as u32,
+    let first = first_not_below(wishes, order, candidate);
+    if first < order.len() && candidate_at(wishes, order[first]) == candidate {
+        Some(order[first])
+    } else {
+        None
     }
 }
 
@@ -196,33 +213,33 @@ fn end_of_run(wishes: &[Wish], order: &[u32], from: usize) -> usize
     to
 }
 
-/// Puts a span at these places.
-fn put_span(spans: &mut Vec<Span>, places: &[u32], span: Span)
-    requires { All (λ k. k < length spans.old.items) places.now }
-    ensures { IsSpanPut places.now span spans.old.items spans.new.items }
+/// Puts a number at these places.
+fn put_number(numbers: &mut Vec<u32>, places: &[u32], number: u32)
+    requires { All (λ k. k < length numbers.old.items) places.now }
+    ensures { IsPut places.now number numbers.old.items numbers.new.items }
 {
     for place in places {
-        spans[*place as usize] = span;
+        numbers[*place as usize] = number;
     }
 }
 
-/// The span of each wish's candidate, in one walk along the order: the wishes of one candidate
-/// stand together in it.
-fn spans_of(alloc: Global, wishes: &[Wish], order: &[u32]) -> Result<Vec<Span>, OutOfMemory>
+/// Numbers the candidates, in one walk along the order: the wishes of one candidate stand together
+/// in it.
+fn numbered(alloc: Global, wishes: &[Wish], order: &[u32]) -> Result<Candidates, OutOfMemory>
     requires index { IsIndex wishes.now order.now }
     requires count { length order.now < 2 ^ 32 }
-    ensures { IfOk result (λ v. AreSpans wishes.now order.now (length wishes.now) v.items) }
+    ensures { IfOk result (λ c. AreNumbered wishes.now order.now c.numbers.items c.begins.items) }
 {
-    let mut spans = vec![in alloc; Span { from: 0, to: 0 }; wishes.len()]?;
+    let mut numbers = vec![in alloc; 0; wishes.len()]?;
+    let mut begins = vec![in alloc; 0; 1]?;
+    let mut number = 0;
     let mut from = 0;
     while from < order.len() {
         let to = end_of_run(wishes, order, from);
-        let span = Span {
-            from: from as u32,
-            to: to as u32,
-        };
-        put_span(&mut spans, part(order, span), span);
+        put_number(&mut numbers, &order[from..to], number);
+        begins.push(to as u32)?;
+        number += 1;
         from = to;
     }
-    Ok(spans)
+    Ok(Candidates { numbers, begins })
 }
