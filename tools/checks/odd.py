@@ -151,11 +151,12 @@ def why_it_waits(rules: Told, number: int, wish: Wish, day: int) -> list[str]:
         seats = "1 seat was left" if left == 1 else f"{left or 'no'} seat{'s were' if left else ' was'} left"
         came = "1 candidate" if ahead == 1 else f"{ahead} candidates" if ahead else "nobody"
         limit = [f"you are number {words[6]}."] if len(words) > 5 else []
-        return [f"In the last pass {seats} in the programme, and {came} came before you for one.", *limit]
+        bed = ["It takes a bed for you in the boarding school too."] if wish.school else []
+        return [f"In the last pass {seats} in the programme, and {came} came before you for one.", *limit, *bed]
     school, bar, beds = wish.school or 0, rules.bars[wish.school or 0], rules.beds[wish.school or 0]
     told = [f"your rank there is {rules.rank[school, wish.candidate]}."]
     if bar == rules.ceilings(day)[school]:
-        whom = f"ranked after {bar}" if bar else "else"
+        whom = f"ranked after {bar}" if bar else "in"
         return [*told, f"Boarding school {school} takes nobody {whom} on this day, by its ceiling",
                 "For an offer it takes a ceiling that reaches your rank"]
     is_taken = "has no beds." if beds == 0 else "is full: its only bed is taken." if beds == 1 else \

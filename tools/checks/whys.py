@@ -172,7 +172,7 @@ def check_stopped(tally: Tally) -> None:
             begun.rmdir()
 
 
-def expected(found: Explanation, calendar: Calendar, since: str, preference: int) -> dict[str, str]:
+def expected(found: Explanation, calendar: Calendar, since: str, school: object, preference: int) -> dict[str, str]:
     """The sentences of what one run of all days explains, with its days as those of the campaign."""
     def day_of(number: int) -> object:
         return calendar.today - timedelta(days=calendar.day - number) if calendar.today else number
@@ -182,7 +182,8 @@ def expected(found: Explanation, calendar: Calendar, since: str, preference: int
         limit = calendar.today.fromisoformat(since) + timedelta(days=calendar.term)
         deadline = Deadline(limit, limit <= calendar.today)
     setting = Setting(moment=lambda stamp: Moment(day_of(max(stamp.day, 1)), is_before=stamp.day == 0),
-                      deadline=deadline, may_lapse=calendar.today is not None, has_answerer=preference > 0)
+                      deadline=deadline, may_lapse=calendar.today is not None, has_answerer=preference > 0,
+                      has_boarding=bool(school))
     return {language: " ".join(sentences(found, setting, language)) for language in LANGUAGES}
 
 
@@ -200,15 +201,15 @@ def check_campaigns(tally: Tally, program: str) -> None:
                 next_day(place / "dossier", Calendar(1, FIRST_DAY, term) if is_dated else Calendar())
             last = kept_days(place / "dossier")[-1]
             dated = [] if term is None else ["--start", str(FIRST_DAY), "--term", str(term)]
-            preferences = {str(wish): preference for wish, *_, preference in dossier.rows["wishes"]}
-            told = {language: why(place / "dossier", *preferences, language).output.decode().split("\n\n")[1:]
+            wishes = {str(wish): (school, int(preference)) for wish, _, _, school, preference in dossier.rows["wishes"]}
+            told = {language: why(place / "dossier", *wishes, language).output.decode().split("\n\n")[1:]
                     for language in ("en", "fr")}
-            for place_of, (wish, preference) in enumerate(preferences.items()):
+            for place_of, (wish, (school, preference)) in enumerate(wishes.items()):
                 line = run(program, "explain", "--wish", wish, "--days", str(DAYS), *dated, folder=place / "whole")
                 found = explanation_of(line.output.decode().rstrip("\n"))
                 kinds.add(type(found).__name__)
                 since = last.after[int(wish)].since
-                for language, sentences in expected(found, last.calendar, since, int(preference)).items():
+                for language, sentences in expected(found, last.calendar, since, school, preference).items():
                     seen = told[language][place_of].rstrip("\n").partition("\n")[2]
                     tally.equal(f"campaign {number}, wish {wish}, {language}", seen, sentences)
     tally.check("each kind of explanation is among them", len(kinds) == 5, kinds)

@@ -110,7 +110,7 @@ class Evening:
         setting = Setting(
             lambda wish: self.names.spelled(Thing.WISH, wish), lambda school: self.names.spelled(Thing.SCHOOL, school),
             lambda _: moment, self.deadline(found.wish) if isinstance(found, OfferedWish) else None,
-            self.last.calendar.today is not None, wish.preference > 0)
+            self.last.calendar.today is not None, wish.preference > 0, bool(wish.school))
         return sentences(found, setting, language)
 
 

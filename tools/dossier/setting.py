@@ -33,7 +33,8 @@ def moment_of_run(stamp: Stamp) -> Moment:
 @dataclass(frozen=True)
 class Setting:
     """How wishes and schools are called, when a stamp was, by when an offer is to be answered, where that is known,
-    whether it may lapse at all, and whether the candidate uses the automatic answerer, where that is known."""
+    whether it may lapse at all; whether the candidate uses the automatic answerer, and whether the wish is with
+    boarding, where these are known."""
 
     wish: Callable[[int], str] = str
     school: Callable[[int], str] = str
@@ -41,6 +42,7 @@ class Setting:
     deadline: Deadline | None = None
     may_lapse: bool = True
     has_answerer: bool | None = None
+    has_boarding: bool | None = None
 
 
 OF_A_RUN = Setting()

@@ -26,9 +26,15 @@ NOTHING_TO_DO = {  # by whether the candidate uses the automatic answerer, where
     None: "There is nothing to do: your waiting wishes go on waiting. If another offer is accepted, by you or by the "
           "automatic answerer, you give this place up."}
 STILL_REFUSE = "You can still refuse this place, but a wish that is refused never comes back."
+STILL_REFUSE_ALL = ("You can still refuse this place, but a wish that is refused never comes back, nor do those that "
+                    "the automatic answerer gave up for you.")
 ANEW = "Each pass looks at your wish again."
-A_BED_AND_A_SEAT = ("a bed for you and, if you need one, a seat left in the programme. Who has a seat there already, "
-                    "or is within its call limit, needs none")
+A_BED_AND_A_SEAT = ("a bed for you and a seat left for you in the programme. You need no seat if you have one there "
+                    "already, or are within its call limit")
+A_BED_TOO = {  # by whether the wish is with boarding, where that is known
+    True: ["It takes a bed for you in the boarding school too."],
+    False: [],
+    None: ["A wish with boarding takes a bed too."]}
 
 
 def of_day(day: Day) -> str:
@@ -64,7 +70,8 @@ def offered(found: OfferedWish, setting: Setting) -> list[str]:
     told = [f"Wish {setting.wish(found.wish)} has an offer, which was made {when(setting.moment(found.stamp))}."]
     limit = setting.deadline
     if limit is not None and limit.is_over:
-        return [*told, f"It was to be answered by {of_day(limit.day)}; that day is over, and the offer lapses next."]
+        return [*told, f"It was to be answered by {of_day(limit.day)}; that day is over, and the offer lapses when the "
+                       "next day begins."]
     by = "by its deadline, if there is one" if limit is None else f"by {of_day(limit.day)}"
     lapse = f", {by}: after that it lapses, and is lost" if setting.may_lapse else ""
     return [*told, f"Accept it or refuse it{lapse}.",
@@ -76,15 +83,16 @@ def accepted(found: AcceptedWish, setting: Setting) -> list[str]:
     moment = when(setting.moment(found.stamp))
     by_whom = f"The automatic answerer accepted it for you {moment}." if found.is_by_answerer else \
         f"It was accepted {moment}."
+    has_answerer = True if found.is_by_answerer else setting.has_answerer
     return [f"Wish {setting.wish(found.wish)} is accepted: the place is yours.", by_whom,
-            NOTHING_TO_DO[True if found.is_by_answerer else setting.has_answerer], STILL_REFUSE]
+            NOTHING_TO_DO[has_answerer], STILL_REFUSE_ALL if has_answerer else STILL_REFUSE]
 
 
 def barred(found: BarredWish, setting: Setting) -> list[str]:
     told = [f"Wish {setting.wish(found.wish)} is waiting: there is no offer."]
     school = f"Boarding school {setting.school(found.school)}"
     if found.beds is None:
-        reach = "takes nobody else on this day" if found.bar == 0 else \
+        reach = "takes nobody in on this day" if found.bar == 0 else \
             f"takes nobody ranked after {found.bar} on this day"
         return [*told, f"{school} {reach}, by its ceiling, and your rank there is {found.rank}.",
                 f"{ANEW} For an offer it takes a ceiling that reaches your rank, {A_BED_AND_A_SEAT}.", WAIT_OR_WITHDRAW]
@@ -116,7 +124,7 @@ def seatless(found: SeatlessWish, setting: Setting) -> list[str]:
             f"The first {limit.limit} of its call order need"
         told.append(f"{first} no seat left, and you are number {limit.position}.")
     return [*told, "For an offer, more seats must be left than candidates come before you: seats come free when others "
-                   "refuse or leave.", WAIT_OR_WITHDRAW]
+                   "refuse or leave.", *A_BED_TOO[setting.has_boarding], WAIT_OR_WITHDRAW]
 
 
 def unknown(found: UnknownWish, setting: Setting) -> list[str]:

@@ -17,7 +17,7 @@ ENDED = {
                          "car vous aviez une proposition que vous préférez.",
     Gone.LAPSED: "Sa proposition est restée sans réponse à l'échéance : elle est devenue caduque {when}.",
 }
-OVER = "Il ne peut plus revenir, et vous n'avez rien à faire. Cela ne dit rien de vos autres vœux."
+OVER = "Il ne peut plus revenir : il n'y a plus rien à faire pour lui. Cela ne dit rien de vos autres vœux."
 OVER_WITH_ALL = "Une démission met fin à tous les vœux que l'on a encore, et celui-ci ne peut plus revenir."
 WAIT_OR_WITHDRAW = "Vous pouvez le laisser en attente ou le retirer."
 NOTHING_TO_DO = {  # selon que la personne candidate a le répondeur automatique, ou qu'on ne le sait pas
@@ -28,9 +28,15 @@ NOTHING_TO_DO = {  # selon que la personne candidate a le répondeur automatique
     None: "Il n'y a rien à faire : vos vœux en attente le restent. Si une autre proposition est acceptée, par vous ou "
           "par le répondeur automatique, vous perdez cette place."}
 STILL_REFUSE = "Vous pouvez encore refuser cette place, mais un vœu refusé ne revient jamais."
+STILL_REFUSE_ALL = ("Vous pouvez encore refuser cette place, mais un vœu refusé ne revient jamais, ni ceux auxquels le "
+                    "répondeur automatique a renoncé pour vous.")
 ANEW = "Chaque passage réexamine votre vœu."
-A_BED_AND_A_SEAT = ("un lit pour vous et, s'il vous en faut une, une place restante dans la formation. Qui y a déjà "
-                    "une place, ou ne dépasse pas son rang limite, n'en a pas besoin")
+A_BED_AND_A_SEAT = ("un lit pour vous et une place restante pour vous dans la formation. Aucune place restante n'est "
+                    "nécessaire si vous y avez déjà la vôtre, ou si votre position ne dépasse pas le rang limite")
+A_BED_TOO = {  # selon que le vœu est avec internat, ou qu'on ne le sait pas
+    True: ["Il faut aussi un lit pour vous à l'internat."],
+    False: [],
+    None: ["Pour un vœu avec internat, il faut aussi un lit."]}
 
 
 def of_day(day: Day) -> str:
@@ -81,15 +87,16 @@ def accepted(found: AcceptedWish, setting: Setting) -> list[str]:
     moment = when(setting.moment(found.stamp))
     by_whom = f"Le répondeur automatique l'a accepté pour vous {moment}." if found.is_by_answerer else \
         f"Il a été accepté {moment}."
+    has_answerer = True if found.is_by_answerer else setting.has_answerer
     return [f"Le vœu {setting.wish(found.wish)} est accepté : la place est à vous.", by_whom,
-            NOTHING_TO_DO[True if found.is_by_answerer else setting.has_answerer], STILL_REFUSE]
+            NOTHING_TO_DO[has_answerer], STILL_REFUSE_ALL if has_answerer else STILL_REFUSE]
 
 
 def barred(found: BarredWish, setting: Setting) -> list[str]:
     told = [f"Le vœu {setting.wish(found.wish)} est en attente : il n'a pas de proposition."]
     school = f"L'internat {setting.school(found.school)}"
     if found.beds is None:
-        reach = "ne prend plus personne ce jour-là" if found.bar == 0 else \
+        reach = "ne prend personne ce jour-là" if found.bar == 0 else \
             f"ne prend ce jour-là personne au-delà du rang {found.bar}"
         return [*told, f"{school} {reach} : c'est son plafond, et votre rang y est {found.rank}.",
                 f"{ANEW} Pour une proposition, il faut un plafond qui aille jusqu'à votre rang, {A_BED_AND_A_SEAT}.",
@@ -123,7 +130,8 @@ def seatless(found: SeatlessWish, setting: Setting) -> list[str]:
             f"Les {limit.limit} premières personnes de l'ordre d'appel n'ont"
         told.append(f"{first} pas besoin d'une place restante, et vous y êtes en position {limit.position}.")
     return [*told, "Pour une proposition, il faut qu'il reste plus de places qu'il n'y a de personnes avant vous : "
-                   "des places se libèrent quand d'autres refusent ou démissionnent.", WAIT_OR_WITHDRAW]
+                   "des places se libèrent quand d'autres refusent ou démissionnent.",
+            *A_BED_TOO[setting.has_boarding], WAIT_OR_WITHDRAW]
 
 
 def unknown(found: UnknownWish, setting: Setting) -> list[str]:
