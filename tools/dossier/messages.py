@@ -161,9 +161,9 @@ DAY_FALLS = Text("day {day} stands after day {before}.", "le jour {day} vient ap
 SORT_DAYS = Text("sort the rows by day; those of one day keep their order.",
                  "triez les lignes par jour ; celles d'un même jour gardent leur ordre.")
 ONE_OR_TWO = Text('the {things} "{one}" and "{other}" may be one or two.',
-                  'les {things} « {one} » et « {other} » sont peut-être un seul, ou deux.')
+                  'les {things} « {one} » et « {other} » ne font peut-être qu\'un.')
 WRITE_ALIKE = Text("write them alike where they are one, and otherwise make them differ in more.",
-                   "écrivez-les de même s'ils n'en font qu'un ; sinon, faites-les différer davantage.")
+                   "écrivez-les de la même façon si c'est le même identifiant ; sinon, faites-les différer davantage.")
 NO_NUMBERS = Text("no numbers are left for the {things} whose ids are no numbers.",
                   "il ne reste pas de numéros pour les {things} dont l'identifiant n'est pas un nombre.")
 LESSER_NUMBERS = Text("give lesser numbers to the other {things}.", "donnez de plus petits numéros aux autres.")
