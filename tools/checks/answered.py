@@ -57,7 +57,7 @@ def check_faults(tally: Tally) -> None:
             ("03/06/2026;E01;;V01;accepter", "V01 du candidat E01, pour MPSI, en est alors là\u00a0: en attente"),
             (";E06;;V10;retirer", "V10 du candidat E06, pour BTS CG, en est alors là\u00a0: proposition"),
             (";;;V07;accepter", "V07 du candidat E04, pour BTS CG, en est alors là\u00a0: refusé automatiquement"),
-            (";E05;;V12;refuser", "le vœu V12 est du candidat E07, et non de E05"),
+            (";E05;;V12;refuser", "le vœu V12 est du candidat E07, et non du candidat E05"),
             (";;;V99;refuser", "pas de vœu V99"),
             ("02/06/2026;;;V04;accepter", "2026-06-02 est passé\u00a0: le jour qui vient est 2026-06-03"),
             (";E99;;;démission", "aucun vœu n'est d'un candidat E99"), (";E01;;;accepter", "ne nomme pas de vœu"),

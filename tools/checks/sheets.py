@@ -193,6 +193,7 @@ def check_states(tally: Tally) -> None:
         ("offered", "02-06-26", "not a date in one reading"), ("offered", "02/06/99", "not a date in one reading"),
         ("offered", "2 jiun 2026", "not a date in one reading"), ("offered", "30/02/2026", "not a day of the calendar"),
         ("offered", "02/06/2026 14:30", "not a date in one reading"), ("renonc\u00e9", "", "two readings"),
+        ("given up", "", "two readings"),
     ):
         state = f"wish;status;since\n1;{status};{since}\n".encode()
         found, complaint = Sheets({**dossier, "state.csv": state}, DAY_FIRST).prepared("state.csv")

@@ -82,7 +82,7 @@ IN_FRENCH = {
     "auto_withdrawn": "retiré automatiquement", "lapsed": "caduc",
     "accept": "accepter", "refuse": "refuser", "withdraw": "retirer",
 }
-DOUBTFUL = ("renonce", "renoncer", "renoncement", "renonciation")
+DOUBTFUL = ("renonce", "renoncer", "renoncement", "renonciation", "give up", "gives up", "gave up", "given up")
 
 
 class DateOrder(Enum):

@@ -188,7 +188,7 @@ FAR_DAY = Text("{date} is more than a year from the coming day, {coming}.",
 NO_WISH_NAMED = Text("the answer names no wish.", "la réponse ne nomme pas de vœu.")
 NO_CANDIDATE_NAMED = Text("who quits is not named.", "la démission ne dit pas de qui.")
 OTHER_CANDIDATE = Text("the wish {wish} is of candidate {candidate}, and not of {other}.",
-                       "le vœu {wish} est du candidat {candidate}, et non de {other}.")
+                       "le vœu {wish} est du candidat {candidate}, et non du candidat {other}.")
 CORRECT_WISH = Text("correct the wish or the candidate.", "corrigez le vœu ou le candidat.")
 UNFIT = Text("the wish {wish} of candidate {candidate}, for {programme}, is then: {status}. It cannot be {done}.",
              "le vœu {wish} du candidat {candidate}, pour {programme}, en est alors là : {status}. "
