@@ -9,9 +9,10 @@ from functools import lru_cache
 
 from .decoding import Unreadable
 from .faults import shown
-from .messages import (BEGIN_WITH_NAMES, EMPTY_FILE, EXPORT_WITH_NAMES, MAY_BE, MISSING_COLUMN, NAME_COLUMN,
-                       NAME_COLUMNS, NAME_OR_LEAVE, NAMED_TWICE, NEAREST, NO_SLOT, SAY_TITLE)
-from .slots import Column, Content, Slot
+from .messages import (BEGIN_WITH_NAMES, EMPTY_FILE, EXPORT_WITH_NAMES, FOR_TAKE_IN, MAY_BE, MISSING_COLUMN,
+                       NAME_COLUMN, NAME_COLUMNS, NAME_OR_LEAVE, NAMED_TWICE, NEAREST, NO_SLOT, SAY_TITLE,
+                       TAKE_IN_LATER)
+from .slots import ANSWER_SHEET, WISHES, Column, Content, Slot
 from .texts import Filled, Language, said
 
 # Words of a title that tell nothing of which column it is.
@@ -142,12 +143,23 @@ def differing(slots: Sequence[Slot], titles: Sequence[str], chosen: Mapping[str,
     the columns that are not there as they should be."""
     if not any(title.strip() for title in titles):
         return Unreadable(EMPTY_FILE.of(), EXPORT_WITH_NAMES.of())
+    if len(slots) > 1 and is_for_take_in(titles, chosen):
+        return Unreadable(FOR_TAKE_IN.of(), TAKE_IN_LATER.of())
     slot = max(slots, key=lambda slot: (score_of(slot, titles, chosen), -len(slot.columns)))
     if score_of(slot, titles, chosen) == 0:
         return Unreadable(NO_SLOT.of(names=shown(" | ".join(titles))), BEGIN_WITH_NAMES.of())
     found = [difference for column in slot.columns if (difference := difference_of(column, slot, titles, chosen))]
     parts = Parts(tuple(part for part, _ in found))
     return Unreadable(NEAREST.of(slot=slot.name, parts=parts), found[0][1] if found else NAME_COLUMNS.of())
+
+
+def is_for_take_in(titles: Sequence[str], chosen: Mapping[str, str]) -> bool:
+    """Whether they are those of a day's answers, which have no day, or tell the wish and the candidate apart."""
+    header = matched(ANSWER_SHEET, titles, chosen)
+    named = set(header.places) if header else set()
+    is_wishes = bool(candidates_for(WISHES.column("programme"), [fold(title) for title in titles], chosen))
+    return not is_wishes and "target" not in named and ({"wish", "candidate"} <= named
+                                                        or "day" not in named and bool({"wish", "candidate"} & named))
 
 
 def difference_of(column: Column, slot: Slot, titles: Sequence[str],

@@ -38,6 +38,10 @@ NAME_COLUMN = Text('name each column as in examples/blank, or say which one it i
 SAY_TITLE = Text('name each column as in examples/blank, or say which title it has, as --column "TITLE={column}".',
                  'donnez à chaque colonne un titre de examples/blank, ou dites quel titre elle a, comme '
                  '--column "TITRE={column}".')
+FOR_TAKE_IN = Text("it is a sheet of answers as take_in reads them.",
+                   "c'est une feuille de réponses comme take_in les lit.")
+TAKE_IN_LATER = Text("take it out of the folder, and give it to take_in once the dossier is made.",
+                     "retirez-la du dossier, et donnez-la à take_in une fois le dossier fait.")
 NAME_COLUMNS = Text("name the columns as in examples/blank, each once.",
                     "donnez aux colonnes les titres de examples/blank, chacun une fois.")
 NO_NAMES = Text("{file} has no sheet with ids of candidates, programmes or schools beside their names.",
