@@ -17,7 +17,7 @@ ENDED = {
                          "car vous aviez une proposition que vous préférez.",
     Gone.LAPSED: "Sa proposition est restée sans réponse à l'échéance : elle est devenue caduque {when}.",
 }
-OVER = "Il ne peut plus revenir : il n'y a plus rien à faire pour lui. Cela ne dit rien de vos autres vœux."
+OVER = "Il ne peut plus revenir : il n'y a plus rien à faire pour ce vœu. Cela ne dit rien de vos autres vœux."
 OVER_WITH_ALL = "Une démission met fin à tous les vœux que l'on a encore, et celui-ci ne peut plus revenir."
 WAIT_OR_WITHDRAW = "Vous pouvez le laisser en attente ou le retirer."
 NOTHING_TO_DO = {  # selon que la personne candidate a le répondeur automatique, ou qu'on ne le sait pas
