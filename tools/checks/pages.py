@@ -32,6 +32,7 @@ LINK = re.compile(r"\]\(([^)#:]*)(?:#([^)]+))?\)")
 HEADING = re.compile(r"^#+ (.*)$", re.M)
 PATH = re.compile(r"`((?:crates|docs|examples|tools)/[\w./-]+)`")
 CRATE_PATH = re.compile(r"`(\w+/(?:src|specs|proofs|must-fail|data)/[\w./-]+)`")
+SHORT_PATH = re.compile(r"`((?:src|specs|proofs|must-fail|data)/[\w./-]+)`")
 ANY_NAME = "NAME"
 MOST_WORDS = 25
 # What is no word of a sentence: where a link leads, code, and the marks of lists, quotes and stress.
@@ -165,11 +166,14 @@ def check_page(tally: Tally, name: Path) -> None:
 
 
 def check_paths(tally: Tally, page: str, folder: Path) -> None:
-    """What the page links to, from its own folder, and the paths that it names, from the top or below `crates`."""
+    """What the page links to, from its own folder, and the paths that it names, from the top, below `crates`, or below
+    some crate."""
     paths = {folder / link for link, _ in LINK.findall(page) if link} | {TOP / path for path in PATH.findall(page)}
     paths |= {TOP / "crates" / path for path in CRATE_PATH.findall(page) if ANY_NAME not in path}
     for path in sorted(paths):
         tally.check(f"{os.path.relpath(path, TOP)} is there", path.exists())
+    for path in sorted(path for path in set(SHORT_PATH.findall(page)) if ANY_NAME not in path):
+        tally.check(f"some crate has {path}", any((TOP / "crates").glob(f"*/{path}")))
 
 
 def check_anchors(tally: Tally, page: str, path: Path) -> None:
