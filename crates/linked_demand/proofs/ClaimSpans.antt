@@ -20,7 +20,7 @@ use Rattle.day_state.proofs.Ordering.{between}
 use Rattle.day_state.specs.declared.spans.Span.{Span}
 use Rattle.day_state.specs.Spans.{IsWithin, part_of}
 use Rattle.linked_demand.specs.declared.wishing.Application.{Application}
-use Rattle.linked_demand.specs.Claims.{AreApplicantsIn, AreApplicationsFrom, AreApplicationsIn, AreWishesIn, IsSpanOf}
+use Rattle.linked_demand.specs.Claims.{AreApplicationsFrom, AreApplicationsIn, AreWishesIn, IsSpanOf}
 use Rattle.linked_demand.specs.Claims.{application_at, begins_at, candidates_of, lower_before, wishes_of}
 use Rattle.linked_demand.specs.Keyed.{AreRowsOf}
 use Rattle.std.proofs.lemmas.Simd.{map-map}
@@ -81,16 +81,13 @@ applications_from s order rows few index are = record {
   each = λ g row le at. applications_in s order g row.items few index (are.each g row at);
 }
 
--- the list that is taken out for a group, and its candidates
-pub applicants_taken : (s : DossierRows) (n : ℕ) (rows : List (Vec Application Global))
-    (row d : Vec Application Global) (own : List ℕ) → n < length s.groups
-    → row ≡ get_or rows n d → own ≡ candidates_of row.items → AreApplicationsFrom s n rows
-    → AreApplicantsIn s n row.items own
-applicants_taken s n rows row d own lt is own_is are = record {
-  applications_are = are.each n row (omega arith)
-      (slice_get-get_or rows n d (omega (arith, lt, are.one_each)) ∙ ap Some (sym is));
-  candidates_are = own_is;
-}
+-- the list that is taken out for a group
+pub applications_taken : (s : DossierRows) (n : ℕ) (rows : List (Vec Application Global))
+    (row d : Vec Application Global) → n < length s.groups → row ≡ get_or rows n d → AreApplicationsFrom s n rows
+    → AreApplicationsIn s n row.items
+applications_taken s n rows row d lt is are =
+    are.each n row (omega arith)
+    (slice_get-get_or rows n d (omega (arith, lt, are.one_each)) ∙ ap Some (sym is))
 
 -- once the list of a group is taken out, the later ones are left
 pub applications_later : (s : DossierRows) (n : ℕ) (rows : List (Vec Application Global))
@@ -103,18 +100,61 @@ applications_later s n rows row are = record {
 }
 
 -- the candidates of wishes are those that their places tell
-pub candidates_told : {s : DossierRows} {p : ℕ} {applications : List Application} {candidates : List ℕ}
-    → AreApplicantsIn s p applications candidates
-    → candidates ≡ map (candidate_in s.wishes) (wishes_of applications)
+candidates_told : {s : DossierRows} {p : ℕ} {applications : List Application} → AreApplicationsIn s p applications
+    → candidates_of applications ≡ map (candidate_in s.wishes) (wishes_of applications)
 candidates_told {s} {p} {applications} own =
-    own.candidates_are ∙ ap candidates_of own.applications_are.each
-    ∙ map-map (λ (a : Application). a.candidate) (application_at s) (wishes_of applications)
+    ap candidates_of own.each ∙ map-map (λ (a : Application). a.candidate) (application_at s) (wishes_of applications)
 
 -- the candidates of a list by candidate do not fall
-pub candidates_rise : (key : ℕ → ℕ) (xs : List ℕ) → IsNonDecreasingBy key xs → IsNonDecreasingBy (λ k. k) (map key xs)
-candidates_rise key xs rises i j d le lt =
+keys_rise : (key : ℕ → ℕ) (xs : List ℕ) → IsNonDecreasingBy key xs → IsNonDecreasingBy (λ k. k) (map key xs)
+keys_rise key xs rises i j d le lt =
     let j_in : j < length xs = omega (arith, lt, length-map xs key) in
     rw (get_or-map key xs i 0 d (omega (arith, le, j_in)), get_or-map key xs j 0 d j_in) (rises i j 0 le j_in)
+
+pub candidates_rise : {s : DossierRows} {p : ℕ} {applications : List Application} → AreApplicationsIn s p applications
+    → IsNonDecreasingBy (λ k. k) (candidates_of applications)
+candidates_rise {s} {p} {applications} own =
+    let P = λ (ks : List ℕ). IsNonDecreasingBy (λ k. k) ks in
+    subst P (sym (candidates_told own))
+    (keys_rise (candidate_in s.wishes) (wishes_of applications) own.of_group.rises)
+
+-- nor do the applications, by their candidates
+pub applications_rise : (applications : List Application) → IsNonDecreasingBy (λ k. k) (candidates_of applications)
+    → IsNonDecreasingBy (λ (a : Application). a.candidate) applications
+applications_rise applications rises i j d le lt =
+    let candidate = λ (a : Application). a.candidate in
+    let many = length-map applications candidate in
+    omega (
+      arith,
+      get_or-map candidate applications i d 0 (omega (arith, le, lt)),
+      get_or-map candidate applications j d 0 lt,
+      rises i j 0 le (omega (arith, lt, many)),
+    )
+
+pub many_candidates : (applications : List Application) → length (candidates_of applications) ≡ length applications
+many_candidates applications = length-map applications (λ (a : Application). a.candidate)
+
+-- what is read past the end
+abbrev pub nothing : Application
+nothing = record { wish = 0; programme = 0; candidate = 0 }
+
+-- the candidate at a place
+pub candidate_read : (applications : List Application) (k : ℕ) → k < length applications
+    → get_or (candidates_of applications) k 0 ≡ (get_or applications k nothing).candidate
+candidate_read applications k lt = get_or-map (λ (a : Application). a.candidate) applications k nothing 0 lt
+
+-- a point among applications by their candidates is one among the candidates
+pub point_of_candidates : (applications : List Application) (P Q : ℕ → Type 0) (i : ℕ) → i ≤ length applications
+    → IsPartitionPoint (λ (a : Application). P a.candidate) (λ (a : Application). Q a.candidate) applications i
+    → IsPartitionPoint P Q (candidates_of applications) i
+point_of_candidates applications P Q i le point =
+    let candidate = λ (a : Application). a.candidate in (
+      λ k d low high. subst P (sym (get_or-map candidate applications k nothing d (omega (arith, le, high))))
+          (point.0 k nothing low high),
+      λ k d low high.
+          let in_list : k < length applications = omega (arith, high, many_candidates applications) in
+          subst Q (sym (get_or-map candidate applications k nothing d in_list)) (point.1 k nothing low in_list),
+    )
 
 -- from one place up to another a list holds one number
 pub record IsAlike (xs : List ℕ) (c from to : ℕ) : Type 0 where
@@ -225,18 +265,16 @@ pub record IsClaimed (s : DossierRows) (p : ℕ) (applications : List Applicatio
   pub is : wishes_of claim ≡ group_claim s p c
   pub programmes : claim ≡ map (application_at s) (wishes_of claim)
 
-pub claim_there : {s : DossierRows} {p : ℕ} {applications : List Application} {candidates : List ℕ}
-    → AreApplicantsIn s p applications candidates
-    → (c : ℕ) (span : Span) (read : List ℕ) → read ≡ candidates → IsSpanOf read c span
-    → (list claim : List Application) → list ≡ applications → claim ≡ slice_range list span.from span.to
+pub claim_there : {s : DossierRows} {p : ℕ} {applications : List Application}
+    → AreApplicationsIn s p applications
+    → (c : ℕ) (span : Span) → IsSpanOf (candidates_of applications) c span
+    → (claim : List Application) → claim ≡ slice_range applications span.from span.to
     → IsClaimed s p applications c span claim
-claim_there {s} {p} {applications} own c span read read_is is list claim list_is claim_is =
+claim_there {s} {p} {applications} own c span is claim part =
     let ks = wishes_of applications in
     let show = λ (a : Application). a.wish in
     let part_at = λ (l : List Application). slice_range l span.from span.to in
-    let wishes = own.applications_are in
-    let found = span_is_claim s p ks read c span wishes.of_group (read_is ∙ candidates_told own) is in
-    let part : claim ≡ part_at applications = claim_is ∙ ap part_at list_is in
+    let found = span_is_claim s p ks (candidates_of applications) c span own.of_group (candidates_told own) is in
     let shown : wishes_of claim ≡ part_of ks span =
     ap wishes_of part ∙ sym (part_mapped show applications span.from span.to) in
     let P = λ (n : ℕ). IsWithin n span in
@@ -244,9 +282,9 @@ claim_there {s} {p} {applications} own c span read read_is is list claim list_is
     record {
       within = subst P (length-map applications show) found.0;
       places = subst (All Q) (sym shown)
-          (All-take Q (span.to - span.from) (drop span.from ks) (All-drop Q span.from ks wishes.of_group.within));
+          (All-take Q (span.to - span.from) (drop span.from ks) (All-drop Q span.from ks own.of_group.within));
       is = shown ∙ found.1;
-      programmes = part ∙ ap part_at wishes.each ∙ part_mapped (application_at s) ks span.from span.to
+      programmes = part ∙ ap part_at own.each ∙ part_mapped (application_at s) ks span.from span.to
           ∙ ap (map (application_at s)) (sym shown);
     }
 

@@ -40,6 +40,7 @@ pub mod Keyed
 pub mod Leaving
 pub mod Lent
 pub mod Lined
+pub mod LineWalk
 pub mod Lining
 pub mod Listing
 pub mod Lowered

@@ -1,13 +1,15 @@
--- A number is put at the places of a list, or their flags are set, one after another.
-use Rattle.std.proofs.Common.{ℕ, ◌+◌, ◌≤◌, ◌<◌, ◌≡◌, Bool, true, false, ◌&&◌, ◌||◌, List, length, take, get_or, inl, inr}
-use Rattle.std.proofs.Common.{refl, sym, ◌∙◌, ap, arith, nat_eq, subst}
-use Rattle.std.specs.Prelude.{if◌then◌else◌}
+-- A number is put at the places of a list, one after another, and what is read from it.
+use Rattle.std.proofs.Common.{ℕ, suc, ◌+◌, ◌≤◌, ◌<◌, ◌≡◌, Bool, true, false, ◌||◌, List, [], ◌∷◌, length, map, take}
+use Rattle.std.proofs.Common.{zero, get_or, inl, inr, refl, sym, ◌∙◌, ap, arith, nat_eq, subst}
+use Rattle.std.specs.Prelude.{◌%◌, nat_le, nat_lt, replicate, if◌then◌else◌}
 use Rattle.std.proofs.Math.ListN.{set}
-use Rattle.std.proofs.lemmas.Bool.{and_from, cases_Bool, eqb-true, eqb-false, or_right}
-use Rattle.std.proofs.lemmas.List.{length-set, get_or-set_same, get_or-set_other, take_all}
+use Rattle.std.proofs.lemmas.Bool.{cases_Bool, eqb-true, eqb-false, or_right}
+use Rattle.std.proofs.lemmas.List.{length-map, length-set, get_or-set_same, get_or-set_other, take_all}
+use Rattle.std.proofs.lemmas.Nat.{div-mul-add, mod-mul-add}
 use Rattle.admit_core.specs.Lists.{is_among}
 use Rattle.proposals.proofs.Front.{among_more}
-use Rattle.linked_demand.specs.Notes.{PutAt, SetAt}
+use Rattle.linked_demand.specs.Notes.{IsNoted, PutAt, called_in, doubled_in, flags_of, note_of, nothing_noted, place_in}
+use Rattle.linked_demand.specs.Notes.{read_from}
 
 pub put_none : (ks : List ℕ) (x : ℕ) (old : List ℕ) → PutAt (take 0 ks) x old old
 put_none ks x old = record { as_long = refl; each = λ k lt. refl }
@@ -48,54 +50,80 @@ put_all ks i x old new le put =
     let P = λ (js : List ℕ). PutAt js x old new in
     subst P (take_all i ks le) put
 
--- no flag is set yet
-pub set_none : (test : Bool) (ks : List ℕ) (old : List Bool) → SetAt test (take 0 ks) old old
-set_none test ks old = record {
-  as_long = refl;
-  each = λ k. sym (or_false (get_or old k false) (test && false) (never test));
-}
-  where
-    never : (b : Bool) → (b && false) ≡ false
-    never true = refl
-    never false = refl
+-- what is read of a number that is kept, also past the end
+pub read_at : {X : Type 0} (f : ℕ → X) (ns : List ℕ) (k : ℕ) → get_or (map f ns) k (f 0) ≡ f (get_or ns k 0)
+read_at f [] k = refl
+read_at f (n ∷ ns) zero = refl
+read_at f (n ∷ ns) (suc k) = read_at f ns k
 
--- none is set where the test fails
-pub set_nowhere : (test : Bool) → test ≡ false → (ks : List ℕ) (old : List Bool) → SetAt test ks old old
-set_nowhere test fails ks old = record {
-  as_long = refl;
-  each = λ k. sym (or_false (get_or old k false) (test && is_among k ks)
-      (ap (λ b. b && is_among k ks) fails));
-}
+all_zero : {X : Type 0} (f : ℕ → X) (n : ℕ) → map f (replicate n 0) ≡ replicate n (f 0)
+all_zero f zero = refl
+all_zero {X} f (suc n) = ap (λ (xs : List X). f 0 ∷ xs) (all_zero f n)
 
-pub set_more : (test : Bool) → test ≡ true → (ks : List ℕ) (i : ℕ) (old now new : List Bool) → i < length ks
-    → get_or ks i 0 < length old
-    → SetAt test (take i ks) old now → new ≡ set now (get_or ks i 0) true → SetAt test (take (i + 1) ks) old new
-set_more test passes ks i old now new lt within put is =
-    let p = get_or ks i 0 in
-    record {
-      as_long = ap length is ∙ length-set now p true ∙ put.as_long;
-      each = λ k.
-          let more : is_among k (take (i + 1) ks) ≡ (is_among k (take i ks) || nat_eq k p) = among_more k ks i lt in
-          elim (cases_Bool (nat_eq k p)) [
-            | inl here ↦
-                let same = eqb-true k p here in
-                ap (λ (ys : List Bool). get_or ys k false) is
-                ∙ ap (λ j. get_or (set now p true) j false) same
-                ∙ get_or-set_same now p true false (omega (arith, within, put.as_long))
-                ∙ sym (or_right (get_or old k false) (test && is_among k (take (i + 1) ks))
-                (and_from test (is_among k (take (i + 1) ks)) passes
-                (more ∙ or_right (is_among k (take i ks)) (nat_eq k p) here)))
-            | inr other ↦
-                ap (λ (ys : List Bool). get_or ys k false) is
-                ∙ get_or-set_other now p k true false (eqb-false k p other)
-                ∙ put.each k
-                ∙ sym (ap (λ b. get_or old k false || (test && b))
-                (more ∙ or_false (is_among k (take i ks)) (nat_eq k p) other))
-          ];
+-- of zeros nothing is known
+pub reads_nothing : (n : ℕ) → read_from (replicate n 0) ≡ nothing_noted n
+reads_nothing n =
+    λ i. record {
+      places = all_zero place_in n i;
+      called_by_limit = all_zero called_in n i;
+      doubled = all_zero doubled_in n i;
     }
 
-pub set_all : (test : Bool) (ks : List ℕ) (i : ℕ) (old new : List Bool) → length ks ≤ i
-    → SetAt test (take i ks) old new → SetAt test ks old new
-set_all test ks i old new le put =
-    let P = λ (js : List ℕ). SetAt test js old new in
-    subst P (take_all i ks le) put
+flags_fit : (a b : Bool) → flags_of a b < 4
+flags_fit false false = omega arith
+flags_fit false true = omega arith
+flags_fit true false = omega arith
+flags_fit true true = omega arith
+
+-- what was put in one number is read from it
+place_read : (p : ℕ) (a b : Bool) → place_in (note_of p a b) ≡ p
+place_read p a b = div-mul-add p 4 (flags_of a b) (flags_fit a b)
+
+flags_read : (p : ℕ) (a b : Bool) → note_of p a b % 4 ≡ flags_of a b
+flags_read p a b = mod-mul-add p 4 (flags_of a b) (flags_fit a b)
+
+called_read : (p : ℕ) (a b : Bool) → called_in (note_of p a b) ≡ a
+called_read p a b = ap (nat_le 2) (flags_read p a b) ∙ own a b
+  where
+    own : (a b : Bool) → nat_le 2 (flags_of a b) ≡ a
+    own false false = refl
+    own false true = refl
+    own true false = refl
+    own true true = refl
+
+doubled_read : (p : ℕ) (a b : Bool) → doubled_in (note_of p a b) ≡ b
+doubled_read p a b = ap (λ n. nat_eq (n % 2) 1) (flags_read p a b) ∙ own a b
+  where
+    own : (a b : Bool) → nat_eq (flags_of a b % 2) 1 ≡ b
+    own false false = refl
+    own false true = refl
+    own true false = refl
+    own true true = refl
+
+-- what is read where a number is put, by what is read from that
+read_put : {X : Type 0} (f : ℕ → X) (ks : List ℕ) (x : ℕ) (own : X) (old new : List ℕ) (k : ℕ) → k < length old
+    → PutAt ks x old new → f x ≡ own
+    → get_or (map f new) k (f 0) ≡ (if is_among k ks then own else get_or (map f old) k (f 0))
+read_put {X} f ks x own old new k lt put is =
+    read_at f new k ∙ ap f (put.each k lt) ∙ elim (cases_Bool (is_among k ks)) [
+      | inl here ↦ rw here is
+      | inr other ↦ rw other (sym (read_at f old k))
+    ]
+
+-- a claim is noted
+pub noted_by : (claim : List ℕ) (place : ℕ) (is_called : Bool) (old new : List ℕ)
+    → PutAt claim (note_of place is_called (nat_lt 1 (length claim))) old new
+    → IsNoted claim place is_called (read_from old) (read_from new)
+noted_by claim place is_called old new put =
+    let is_doubled = nat_lt 1 (length claim) in
+    let note = note_of place is_called is_doubled in
+    let many : length (map place_in old) ≡ length old = length-map old place_in in
+    record {
+      as_long = length-map new place_in ∙ put.as_long ∙ sym many;
+      places_are = λ k lt. read_put place_in claim note place old new k (omega (arith, lt, many)) put
+          (place_read place is_called is_doubled);
+      called_are = λ k lt. read_put called_in claim note is_called old new k (omega (arith, lt, many)) put
+          (called_read place is_called is_doubled);
+      doubled_are = λ k lt. read_put doubled_in claim note is_doubled old new k (omega (arith, lt, many)) put
+          (doubled_read place is_called is_doubled);
+    }

@@ -4,7 +4,8 @@ use Rattle.std.proofs.Common.{length, take, get_or, inl, inr, refl, sym, ◌∙�
 use Rattle.std.proofs.Common.{subst}
 use Rattle.std.specs.Prelude.{slice_get, All, if◌then◌else◌}
 use Rattle.std.specs.List.{before_first, list_any, range_with_len, IsDistinct}
-use Rattle.std.proofs.lemmas.Bool.{cases_Bool, cases_order, false≢true, eqb-true, eq-eqb, le-ltb, ltb-true, lt-ltb, ne_eqb}
+use Rattle.std.proofs.lemmas.Bool.{cases_Bool, cases_order, false≢true, eqb-true, eq-eqb, le-ltb, ltb-true, lt-ltb}
+use Rattle.std.proofs.lemmas.Bool.{ne_eqb}
 use Rattle.std.proofs.lemmas.Bool.{or_left, or_right, or_cases, or_from, and_parts, and_from}
 use Rattle.std.proofs.lemmas.List.FromFn.{map-range_with_len_more}
 use Rattle.std.proofs.lemmas.Map.Steps.{length-le_from_distinct_below}
@@ -52,25 +53,16 @@ one_more false true false false = refl
 one_more false false among true = refl
 one_more false false among false = refl
 
--- a flag that is set for one more
+-- a flag that is put for one more
 flag_more : (done own test holds : Bool) → (own ≡ true → test ≡ holds)
-    → ((done && holds) || (test && own)) ≡ ((done || own) && holds)
-flag_more done true test holds is = rw (is refl) (both done holds)
+    → (if own then test else (done && holds)) ≡ ((done || own) && holds)
+flag_more done true test holds is = is refl ∙ own_holds done holds
   where
-    both : (a b : Bool) → ((a && b) || (b && true)) ≡ ((a || true) && b)
-    both true true = refl
-    both true false = refl
-    both false true = refl
-    both false false = refl
-flag_more done false test holds is = neither done test holds
-  where
-    neither : (a b c : Bool) → ((a && c) || (b && false)) ≡ ((a || false) && c)
-    neither true true true = refl
-    neither true true false = refl
-    neither true false true = refl
-    neither true false false = refl
-    neither false true c = refl
-    neither false false c = refl
+    own_holds : (a b : Bool) → b ≡ ((a || true) && b)
+    own_holds true b = refl
+    own_holds false b = refl
+flag_more true false test holds is = refl
+flag_more false false test holds is = refl
 
 module _ (s : DossierRows) (orders : List CallOrder) (n : ℕ) (order : List ℕ) (i x : ℕ)
     (lt : i < length order) (x_is : x ≡ get_or order i 0) where
@@ -96,9 +88,11 @@ module _ (s : DossierRows) (orders : List CallOrder) (n : ℕ) (order : List ℕ
   seated_more notes new place is_called is apart called_is place_is are noted =
       let claim = claim_of s n x in
       let done = is_passed n (take i order) in
+      let within : (j : ℕ) (w : Wish) → slice_get s.wishes j ≡ Some w → j < length notes.places =
+      λ j w at. omega (arith, slice_get_within s.wishes j w at, are.one_each) in
       let put : (j : ℕ) (w : Wish) → slice_get s.wishes j ≡ Some w → get_or new.places j 0
       ≡ (if (nat_eq w.candidate x && nat_eq w.programme n) then place else get_or notes.places j 0) =
-      λ j w at. noted.places.each j (omega (arith, slice_get_within s.wishes j w at, are.one_each))
+      λ j w at. noted.places_are j (within j w at)
       ∙ ap (λ b. if b then place else get_or notes.places j 0) (among_claim s n x j w at) in
       let line_place : IsPlaceOf x (line_of s orders n) place =
       let P = λ (o : List ℕ). IsPlaceOf x o place in
@@ -106,7 +100,7 @@ module _ (s : DossierRows) (orders : List CallOrder) (n : ℕ) (order : List ℕ
       let R = λ (c : ℕ). IsPlaceOf c order i in
       subst P is (subst Q (sym place_is) (subst R (sym x_is) (place_at order i apart lt))) in
       record {
-        one_each = noted.places.as_long ∙ are.one_each;
+        one_each = noted.as_long ∙ are.one_each;
         place = λ j w at t. elim (cases_Bool (nat_eq w.candidate x && nat_eq w.programme n)) [
           | inl own ↦
               let parts = and_parts (nat_eq w.candidate x) (nat_eq w.programme n) own in
@@ -128,9 +122,9 @@ module _ (s : DossierRows) (orders : List CallOrder) (n : ℕ) (order : List ℕ
         ];
         called = λ j w at.
             let own = nat_eq w.candidate x && nat_eq w.programme n in
-            noted.called_by_limit.each j
-            ∙ ap (λ b. get_or notes.called_by_limit j false || (is_called && b)) (among_claim s n x j w at)
-            ∙ ap (λ b. b || (is_called && own)) (are.called j w at)
+            noted.called_are j (within j w at)
+            ∙ ap (λ b. if b then is_called else get_or notes.called_by_limit j false) (among_claim s n x j w at)
+            ∙ ap (λ b. if own then is_called else b) (are.called j w at)
             ∙ flag_more (done w.programme w.candidate) own is_called (is_called_by_limit s orders w) (λ t.
             let parts = and_parts (nat_eq w.candidate x) (nat_eq w.programme n) t in
             called_is
@@ -144,9 +138,9 @@ module _ (s : DossierRows) (orders : List CallOrder) (n : ℕ) (order : List ℕ
         doubled = λ j w at.
             let own = nat_eq w.candidate x && nat_eq w.programme n in
             let several = nat_lt 1 (length claim) in
-            noted.doubled.each j
-            ∙ ap (λ b. get_or notes.doubled j false || (several && b)) (among_claim s n x j w at)
-            ∙ ap (λ b. b || (several && own)) (are.doubled j w at)
+            noted.doubled_are j (within j w at)
+            ∙ ap (λ b. if b then several else get_or notes.doubled j false) (among_claim s n x j w at)
+            ∙ ap (λ b. if own then several else b) (are.doubled j w at)
             ∙ flag_more (done w.programme w.candidate) own several (is_doubled s j) (λ t.
             let parts = and_parts (nat_eq w.candidate x) (nat_eq w.programme n) t in
             ap (λ p. nat_lt 1 (length (claim_of s p x))) (sym (eqb-true w.programme n parts.1))

@@ -53,12 +53,6 @@ pub record AreApplicationsIn (d : DossierRows) (g : ℕ) (applications : List Ap
   pub of_group : AreWishesIn d g (wishes_of applications)
   pub each : applications ≡ map (application_at d) (wishes_of applications)
 
--- and beside each its candidate once more
-pub record AreApplicantsIn (d : DossierRows) (g : ℕ) (applications : List Application)
-    (candidates : List ℕ) : Type 0 where
-  pub applications_are : AreApplicationsIn d g applications
-  pub candidates_are : candidates ≡ candidates_of applications
-
 -- a list for each group; from one on they are the wishes for its programmes
 pub record AreApplicationsFrom (d : DossierRows) (n : ℕ)
     (rows : List (Vec Application Global)) : Type 0 where

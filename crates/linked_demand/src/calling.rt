@@ -6,7 +6,7 @@ ghost use Rattle.admit_core.specs.CallOrder.{AreCallOrders};
 ghost use Rattle.day_state.specs.Spans.{IsWithin};
 ghost use Rattle.linked_demand.specs.Called.{AreRowsFrom, before_at, called_by, order_at};
 ghost use Rattle.linked_demand.specs.CalledWishes.{called_wish_at, called_wishes_for};
-ghost use Rattle.linked_demand.specs.Claims.{AreApplicantsIn, application_at, candidates_of, wishes_of};
+ghost use Rattle.linked_demand.specs.Claims.{AreApplicationsIn, application_at, wishes_of};
 ghost use Rattle.linked_demand.specs.Keyed.{ArePutIn};
 ghost use Rattle.linked_demand.specs.Seats.{applies_at};
 
@@ -25,33 +25,6 @@ use std::mem;
 pub struct CalledWish {
     pub wish: u32,
     pub before: u32,
-}
-
-/// The wishes for the programmes of a group, by candidate, and beside them their candidates.
-struct Applicants {
-    wishes: Vec<Application>,
-    candidates: Vec<u32>,
-}
-
-// Not derived: so applicants are dropped in one step where they are held, and not list by list.
-impl Drop for Applicants {
-    fn drop(self) {
-        let Applicants {
-            wishes: _,
-            candidates: _,
-        } = self;
-    }
-}
-
-/// The candidates of wishes, beside them.
-fn candidates_of(alloc: Global, applications: &[Application]) -> Result<Vec<u32>, OutOfMemory>
-    ensures { IfOk result (λ v. v.items ≡ candidates_of applications.now) }
-{
-    let mut candidates = Vec::with_capacity(alloc, applications.len())?;
-    for application in applications {
-        candidates.push(application.candidate)?;
-    }
-    Ok(candidates)
 }
 
 /// No candidate stands twice in a call order. The call does nothing.
@@ -102,24 +75,21 @@ fn call_group(
     state: &DayState<'_>,
     orders: &CallOrders,
     group: u32,
-    applicants: &Applicants,
+    wishes: &[Application],
     guesses: &mut Guesses,
 ) -> Result<(), OutOfMemory>
     requires group { group < length orders.now.orders }
     requires once { IsDistinct nat_eq (order_at orders.now.orders group) }
-    requires applicants { AreApplicantsIn state.now.dossier group applicants.now.wishes.items
-        applicants.now.candidates.items }
+    requires wishes { AreApplicationsIn state.now.dossier group wishes.now }
     requires rows { length called.old.items ≡ length state.now.dossier.programmes }
     ensures { OnOk result (ArePutIn (called_wish_at state.now.dossier orders.now.orders)
         (applies_at state.now.dossier) (called_by state.now.dossier orders.now.orders group)
         called.old.items called.new.items) }
 {
     let order = orders.orders.as_slice()[group as usize].list.as_slice();
-    let wishes = applicants.wishes.as_slice();
-    let candidates = applicants.candidates.as_slice();
-    guesses.renew(candidates);
+    guesses.renew(wishes);
     for (before, candidate) in order.iter().enumerate() {
-        let span = span_of(candidates, *candidate, guesses.of(*candidate));
+        let span = span_of(wishes, *candidate, guesses.of(*candidate));
         deal(called, state, orders, claim_of(wishes, span), before as u32)?;
     }
     Ok(())
@@ -146,31 +116,7 @@ pub fn called_by_programme(
     let mut rows = wishes_by_group(alloc, state, &counts)?;
     for group in 0..group_count(state) {
         let wishes = mem::replace(&mut rows[group as usize], Vec::new(alloc));
-        let candidates = candidates_of(alloc, &wishes)?;
-        let applicants = Applicants { wishes, candidates };
-        call_group(&mut called, state, orders, group, &applicants, &mut guesses)?;
+        call_group(&mut called, state, orders, group, &wishes, &mut guesses)?;
     }
     Ok(called)
-}
-
-/// The places of wishes that are called.
-pub fn wish_places(alloc: Global, called: &[CalledWish]) -> Result<Vec<u32>, OutOfMemory>
-    ensures { IfOk result (λ v. v.items ≡ map (λ x. x.wish) called.now) }
-{
-    let mut wishes = Vec::with_capacity(alloc, called.len())?;
-    for one in called {
-        wishes.push(one.wish)?;
-    }
-    Ok(wishes)
-}
-
-/// How many stand before the candidate of each wish that is called.
-pub fn numbers_before(alloc: Global, called: &[CalledWish]) -> Result<Vec<u32>, OutOfMemory>
-    ensures { IfOk result (λ v. v.items ≡ map (λ x. x.before) called.now) }
-{
-    let mut numbers = Vec::with_capacity(alloc, called.len())?;
-    for one in called {
-        numbers.push(one.before)?;
-    }
-    Ok(numbers)
 }

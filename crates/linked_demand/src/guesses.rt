@@ -2,6 +2,7 @@
 ghost use Rattle.std.specs.Prelude.{◌<◌, ◌^◌, length};
 
 use crate::wishes::wish_count;
+use crate::wishing::Application;
 use admit_core::OutOfMemory;
 use day_state::DayState;
 use proposals::wish_at;
@@ -40,17 +41,17 @@ impl Guesses {
     }
 
     /// Guesses anew: the first place of each candidate in a list.
-    pub fn renew(&mut self, candidates: &[u32])
-        requires { length candidates.now < 2 ^ 32 }
+    pub fn renew(&mut self, applications: &[Application])
+        requires { length applications.now < 2 ^ 32 }
     {
         let count = self.places.len();
         if count == 0 {
             return;
         }
-        let mut place = candidates.len();
+        let mut place = applications.len();
         while place > 0 {
             place -= 1;
-            self.places[slot(candidates[place], count)] = place as u32;
+            self.places[slot(applications[place].candidate, count)] = place as u32;
         }
     }
 

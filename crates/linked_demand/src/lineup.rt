@@ -4,30 +4,31 @@ ghost use Rattle.std.specs.Prelude.{◌≡◌, ℕ, ◌<◌, ◌≤◌, ◌^◌,
 ghost use Rattle.std.specs.List.{IsDistinct};
 ghost use Rattle.admit_core.specs.CallOrder.{AreCallOrders};
 ghost use Rattle.day_state.specs.Kept.{HoldsOneKey};
-ghost use Rattle.linked_demand.specs.Called.{before_at, called_for};
+ghost use Rattle.linked_demand.specs.Called.{called_for};
+ghost use Rattle.linked_demand.specs.CalledWishes.{IsFrontOf, called_wishes_for, numbers_before};
 ghost use Rattle.linked_demand.specs.Links.{claim_of};
 ghost use Rattle.linked_demand.specs.Notes.{nothing_noted};
 ghost use Rattle.linked_demand.specs.Opens.{line_of};
 ghost use Rattle.linked_demand.specs.Seats.{AreSeated, IsLineup, is_below, is_passed};
 
 use crate::boarders::boarders_by_school;
-use crate::calling::{called_by_programme, numbers_before, wish_places};
+use crate::calling::{CalledWish, called_by_programme};
 use crate::claims::Claims;
 use crate::notes::Notes;
 use crate::rows::RowWish;
 use crate::wishes::wish_count;
 use admit_core::{CallOrders, OutOfMemory};
-use day_state::{DayState, Span, part};
+use day_state::DayState;
 use proposals::{call_everyone, limit_of, programme_count};
 use std::alloc::Global;
 use std::mem;
 
-/// No candidate stands twice in a line, and fewer than 2^32 wishes are for a programme. The call
+/// No candidate stands twice in a line, and fewer than 2^30 wishes are for a programme. The call
 /// does nothing.
 fn line_once(state: &DayState<'_>, orders: &CallOrders)
     requires { AreCallOrders state.now.dossier.groups orders.now.orders }
     ensures once { (p : ℕ) → IsDistinct nat_eq (line_of state.now.dossier orders.now.orders p) }
-    ensures few { (p : ℕ) → length (called_for state.now.dossier orders.now.orders p) < 2 ^ 32 }
+    ensures few { (p : ℕ) → length (called_for state.now.dossier orders.now.orders p) < 2 ^ 30 }
 {
     let dossier = state.dossier();
     let _ = &dossier.wishes; // learns the invariant
@@ -40,38 +41,37 @@ fn is_called_by_limit(before: u32, limit: u32) -> bool
     before < limit
 }
 
-/// Where the wishes of one candidate end that begin at a place of a line: as many stand before
+/// Takes the wishes of one candidate over, the next of those who are called: as many stand before
 /// each of them.
-fn end_of_claim(before: &[u32], from: usize) -> usize
-    requires { from < length before.now }
-    ensures further { from < result }
-    ensures within { result ≤ length before.now }
-    ensures run { HoldsOneKey (λ k. k) before.now from result }
+fn take_claim(wishes: &mut Vec<u32>, called: &[CalledWish]) -> Result<(), OutOfMemory>
+    requires some { length wishes.old.items < length called.now }
+    requires front { IsFrontOf called.now wishes.old.items }
+    ensures front { OnOk result (IsFrontOf called.now wishes.new.items) }
+    ensures run { OnOk result (HoldsOneKey (λ k. k) (numbers_before called.now)
+        (length wishes.old.items) (length wishes.new.items)) }
+    ensures further { OnOk result (length wishes.old.items < length wishes.new.items) }
 {
-    let mut to = from + 1;
-    while to < before.len() && before[to] == before[from] {
-        to += 1;
+    let first = called[wishes.len()];
+    wishes.push(first.wish)?;
+    while wishes.len() < called.len() && called[wishes.len()].before == first.before {
+        wishes.push(called[wishes.len()].wish)?;
     }
-    to
+    Ok(())
 }
 
-/// Goes along the wishes for a programme in call order, by how many stand before each in its order,
-/// and notes what is known of them.
+/// Goes along the wishes for a programme in call order, and notes what is known of them.
 fn line_up(
     alloc: Global,
     state: &DayState<'_>,
     orders: &CallOrders,
     programme: u32,
-    wishes: Vec<u32>,
-    before: &[u32],
+    called: &[CalledWish],
     notes: &mut Notes,
 ) -> Result<Claims, OutOfMemory>
     requires programme { programme < length state.now.dossier.programmes }
     requires once { IsDistinct nat_eq (line_of state.now.dossier orders.now.orders programme) }
-    requires few { length wishes.items < 2 ^ 32 }
-    requires wishes { wishes.items ≡ called_for state.now.dossier orders.now.orders programme }
-    requires before { before.now ≡ map (before_at state.now.dossier orders.now.orders)
-        wishes.items }
+    requires few { length called.now < 2 ^ 30 }
+    requires called { called.now ≡ called_wishes_for state.now.dossier orders.now.orders programme }
     requires seated { AreSeated state.now.dossier orders.now.orders (is_below programme)
         notes.old }
     ensures claims { IfOk result (λ x. x ≡ map (claim_of state.now.dossier programme)
@@ -79,22 +79,17 @@ fn line_up(
     ensures seated { OnOk result (AreSeated state.now.dossier orders.now.orders
         (is_passed programme (line_of state.now.dossier orders.now.orders programme)) notes.new) }
 {
-    let mut spans = Vec::with_capacity(alloc, wishes.len())?;
+    let mut wishes = Vec::with_capacity(alloc, called.len())?;
+    let mut ends = Vec::with_capacity(alloc, called.len())?;
     let limit = limit_of(state, programme);
-    let mut from = 0;
-    while from < before.len() {
-        let to = end_of_claim(before, from);
-        let span = Span {
-            from: from as u32,
-            to: to as u32,
-        };
-        let is_called = is_called_by_limit(before[from], limit);
-        notes.note(part(&wishes, span), spans.len() as u32, is_called);
-        spans.push(span)?;
-        from = to;
+    while wishes.len() < called.len() {
+        let from = wishes.len();
+        let is_called = is_called_by_limit(called[from].before, limit);
+        take_claim(&mut wishes, called)?;
+        notes.note(&wishes[from..], ends.len() as u32, is_called);
+        ends.push(wishes.len() as u32)?;
     }
-    let claims = Claims::new(wishes, spans);
-    Ok(claims)
+    Ok(Claims::new(wishes, ends))
 }
 
 /// For each programme those who wish for it, with their claims. What is known of wishes is noted.
@@ -115,9 +110,7 @@ fn claims_of(
     let mut claims = Vec::with_capacity(alloc, programmes as usize)?;
     for programme in 0..programmes {
         let row = mem::replace(&mut called[programme as usize], Vec::new(alloc));
-        let wishes = wish_places(alloc, &row)?;
-        let before = numbers_before(alloc, &row)?;
-        let own = line_up(alloc, state, orders, programme, wishes, &before, notes)?;
+        let own = line_up(alloc, state, orders, programme, &row, notes)?;
         claims.push(own)?;
     }
     Ok(claims)

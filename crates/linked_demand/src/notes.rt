@@ -1,43 +1,70 @@
 //! What is known of each wish from the line of its programme.
-ghost use Rattle.std.specs.Prelude.{◌≡◌, ◌<◌, false, filter, length, slice_index_or, All, IfOk};
+ghost use Rattle.std.specs.Prelude.{◌≡◌, ◌<◌, ◌^◌, false, filter, length, replicate, slice_index_or, All, IfOk};
 ghost use Rattle.std.specs.List.{range_with_len};
-ghost use Rattle.linked_demand.specs.Notes.{IsNoted, PutAt, SetAt, is_in_doubt, nothing_noted};
+ghost use Rattle.linked_demand.specs.Notes.{IsNoted, PutAt, flags_of, is_in_doubt, note_of, nothing_noted};
 
 use admit_core::OutOfMemory;
 use std::alloc::Global;
 use std::marker::Model;
 
-/// What is known of each wish, by place: the place of its candidate in the line of its programme,
-/// whether they are called by the programme's limit, and whether they have another wish there.
+/// What is known of each wish, by place, in one number: the place of its candidate in the line of
+/// its programme, whether they are called by the programme's limit, and whether they have another
+/// wish there.
 pub struct Notes {
-    places: Vec<u32>,
-    called_by_limit: Vec<bool>,
-    doubled: Vec<bool>,
+    notes: Vec<u32>,
 }
 
-// Not derived: so notes are dropped in one step where they are held, and not list by list.
+// Not derived: so notes are dropped in one step where they are held.
 impl Drop for Notes {
     fn drop(self) {
-        let Notes {
-            places: _,
-            called_by_limit: _,
-            doubled: _,
-        } = self;
+        let Notes { notes: _ } = self;
     }
 }
 
 impl Model for Notes {
-    ghost use Rattle.linked_demand.specs.Notes.{Noted, IsOneEach};
+    ghost use Rattle.linked_demand.specs.Notes.{Noted, read_from};
 
     ghost Value = { Noted };
 
-    ghost view = { λ n. record {
-      places = n.places.items;
-      called_by_limit = n.called_by_limit.items;
-      doubled = n.doubled.items;
-    } };
+    ghost view = { λ n. read_from n.notes.items };
+}
 
-    ghost invariant = { λ n. IsOneEach n.places.items n.called_by_limit.items n.doubled.items };
+/// So many zeros.
+fn zeros(alloc: Global, count: u32) -> Result<Vec<u32>, OutOfMemory>
+    ensures { IfOk result (λ v. v.items ≡ replicate count 0) }
+{
+    let zeros = vec![in alloc; 0u32; count as usize]?;
+    Ok(zeros)
+}
+
+/// Two flags in one number.
+fn flags_of(is_called: bool, is_doubled: bool) -> u32
+    ensures flags { result ≡ flags_of is_called is_doubled }
+    ensures few { result < 4 }
+{
+    if is_called {
+        if is_doubled { 3 } else { 2 }
+    } else {
+        if is_doubled { 1 } else { 0 }
+    }
+}
+
+/// A place with two flags in one number.
+fn note_of(place: u32, is_called: bool, is_doubled: bool) -> u32
+    requires { place < 2 ^ 30 }
+    ensures { result ≡ note_of place is_called is_doubled }
+{
+    place * 4 + flags_of(is_called, is_doubled)
+}
+
+/// The number that is kept of a wish, which is 0 where there is no such wish.
+fn note_at(notes: &[u32], wish: u32) -> u32
+    ensures { result ≡ slice_index_or notes.now wish 0 }
+{
+    match notes.get(wish as usize) {
+        None => 0,
+        Some(note) => *note,
+    }
 }
 
 /// Puts a number at the places of a claim.
@@ -50,54 +77,27 @@ fn put_at(numbers: &mut Vec<u32>, claim: &[u32], number: u32)
     }
 }
 
-/// Sets the flags at the places of a claim, where that is so.
-fn set_at(flags: &mut Vec<bool>, claim: &[u32], is_so: bool)
-    requires { All (λ k. k < length flags.old.items) claim.now }
-    ensures { SetAt is_so claim.now flags.old.items flags.new.items }
-{
-    if !is_so {
-        return;
-    }
-    for wish in claim {
-        flags[*wish as usize] = true;
-    }
-}
-
-/// The flag at a place, which is not set where there is no such place.
-fn is_set(flags: &[bool], place: u32) -> bool
-    ensures { result ≡ slice_index_or flags.now place false }
-{
-    match flags.get(place as usize) {
-        None => false,
-        Some(flag) => *flag,
-    }
-}
-
 impl Notes {
     /// Notes of so many wishes, of which nothing is known yet.
     pub fn none(alloc: Global, count: u32) -> Result<Notes, OutOfMemory>
         ensures { IfOk result (λ n. n ≡ nothing_noted count) }
     {
-        let count = count as usize;
-        let places = vec![in alloc; 0; count]?;
-        let called_by_limit = vec![in alloc; false; count]?;
-        let doubled = vec![in alloc; false; count]?;
-        Ok(Notes {
-            places,
-            called_by_limit,
-            doubled,
-        })
+        let notes = zeros(alloc, count)?;
+        Ok(Notes { notes })
     }
 
     /// Notes for the wishes of a claim their candidate's place in the line, and whether they are
     /// called by the programme's limit.
     pub fn note(&mut self, claim: &[u32], place: u32, is_called: bool)
-        requires { All (λ k. k < length self.old.places) claim.now }
+        requires within { All (λ k. k < length self.old.places) claim.now }
+        requires fits { place < 2 ^ 30 }
         ensures { IsNoted claim.now place is_called self.old self.new }
     {
-        put_at(&mut self.places, claim, place);
-        set_at(&mut self.called_by_limit, claim, is_called);
-        set_at(&mut self.doubled, claim, claim.len() > 1);
+        put_at(
+            &mut self.notes,
+            claim,
+            note_of(place, is_called, claim.len() > 1),
+        );
     }
 
     /// The place of a wish's candidate in the line of its programme.
@@ -105,21 +105,21 @@ impl Notes {
         requires { wish < length self.now.places }
         ensures { result ≡ slice_index_or self.now.places wish 0 }
     {
-        self.places[wish as usize]
+        note_at(&self.notes, wish) / 4
     }
 
     /// Whether a wish's candidate is called by the limit of its programme.
     pub fn is_called_by_limit(&self, wish: u32) -> bool
         ensures { result ≡ slice_index_or self.now.called_by_limit wish false }
     {
-        is_set(&self.called_by_limit, wish)
+        note_at(&self.notes, wish) % 4 >= 2
     }
 
     /// Whether a wish's candidate has another one in its programme.
     pub fn is_doubled(&self, wish: u32) -> bool
         ensures { result ≡ slice_index_or self.now.doubled wish false }
     {
-        is_set(&self.doubled, wish)
+        note_at(&self.notes, wish) % 4 % 2 == 1
     }
 
     /// Whether a wish may need no seat while it waits.

@@ -1,54 +1,37 @@
 use Rattle.std.proofs.Common.{ℕ, ◌≤◌, List, length, take, get_or, nat_eq, ◌+◌, refl, sym, ◌∙◌, ap, arith, subst}
 use Rattle.std.specs.Prelude.{◌^◌, slice_range}
 use Rattle.std.specs.List.{flat_map, IsDistinct}
-use Rattle.std.specs.List.Sorted.{IsNonDecreasingBy}
 use Rattle.admit_core.specs.declared.ranking.CallOrder.{CallOrder}
-use Rattle.day_state.specs.Kept.{candidate_in}
-use Rattle.day_state.specs.Spans.{IsWithin}
-use Rattle.linked_demand.specs.declared.wishing.Application.{Application}
 use Rattle.linked_demand.specs.Called.{group_claim}
 use Rattle.linked_demand.specs.CalledWishes.{called_wish_at}
 use Rattle.linked_demand.specs.Claims.{wishes_of}
 use Rattle.linked_demand.specs.Keyed.{ArePutIn}
 use Rattle.linked_demand.specs.Seats.{applies_at}
 use Rattle.linked_demand.proofs.CalledRows.{before_here, called_more, order_read}
-use Rattle.linked_demand.proofs.ClaimSpans.{candidates_rise, candidates_told, claim_there}
+use Rattle.linked_demand.proofs.ClaimSpans.{candidates_rise, claim_there}
 use Rattle.linked_demand.proofs.Dealing.{puts_on}
 use Rattle.linked_demand.proofs.Seating.{few_apart}
 use Rattle.std.proofs.lemmas.List.{take_all}
 use Rattle.linked_demand.proofs.calling.call_group.Goals as goal
 
 pub span_of-span-requires-clause-rises : goal.span_of-span-requires-clause-rises
-span_of-span-requires-clause-rises c =
-    let key = candidate_in c.args.state.now.dossier.wishes in
-    let own = c.requires.applicants in
-    let P = λ (ks : List ℕ). IsNonDecreasingBy (λ k. k) ks in
-    subst P (sym (c.as_slice-candidates.ensures.value ∙ candidates_told own))
-    (candidates_rise key (wishes_of c.args.applicants.now.wishes.items) own.applications_are.of_group.rises)
+span_of-span-requires-clause-rises c = candidates_rise c.requires.wishes
 
 pub claim_of-requires : goal.claim_of-requires
 claim_of-requires c =
-    let wishes = c.as_slice-wishes.result.now in
     let span = c.span_of-span.result in
-    let P = λ (l : List Application). IsWithin (length l) span in
-    subst P (sym c.as_slice-wishes.ensures.value)
-    (claim_there c.requires.applicants (get_or c.as_slice-order.result.now c.loop-before.before 0) span
-    c.as_slice-candidates.result.now c.as_slice-candidates.ensures.value c.span_of-span.ensures wishes
-    (slice_range wishes span.from span.to) c.as_slice-wishes.ensures.value refl).within
+    (claim_there c.requires.wishes (get_or c.as_slice-order.result.now c.loop-before.before 0) span
+    c.span_of-span.ensures (slice_range c.args.wishes.now span.from span.to) refl).within
 
 pub deal-requires-clause-within : goal.deal-requires-clause-within
 deal-requires-clause-within c =
-    (claim_there c.requires.applicants (get_or c.as_slice-order.result.now c.loop-before.before 0)
-    c.span_of-span.result c.as_slice-candidates.result.now c.as_slice-candidates.ensures.value
-    c.span_of-span.ensures c.as_slice-wishes.result.now c.claim_of.result.now c.as_slice-wishes.ensures.value
-    c.claim_of.ensures).places
+    (claim_there c.requires.wishes (get_or c.as_slice-order.result.now c.loop-before.before 0)
+    c.span_of-span.result c.span_of-span.ensures c.claim_of.result.now c.claim_of.ensures).places
 
 pub deal-requires-clause-programmes : goal.deal-requires-clause-programmes
 deal-requires-clause-programmes c =
-    (claim_there c.requires.applicants (get_or c.as_slice-order.result.now c.loop-before.before 0)
-    c.span_of-span.result c.as_slice-candidates.result.now c.as_slice-candidates.ensures.value
-    c.span_of-span.ensures c.as_slice-wishes.result.now c.claim_of.result.now c.as_slice-wishes.ensures.value
-    c.claim_of.ensures).programmes
+    (claim_there c.requires.wishes (get_or c.as_slice-order.result.now c.loop-before.before 0)
+    c.span_of-span.result c.span_of-span.ensures c.claim_of.result.now c.claim_of.ensures).programmes
 
 pub overflow_cast-before : goal.overflow_cast-before
 overflow_cast-before c =
@@ -71,10 +54,8 @@ deal-requires-clause-before c =
     c.as_slice.ensures
     c.requires.group c.index-as_slice-group.is
     (c.as_slice-order.ensures ∙ ap (λ (o : CallOrder). o.list) (sym c.index-as_slice-group.is)) in
-    let claimed = claim_there c.requires.applicants (get_or order c.loop-before.before 0)
-    c.span_of-span.result c.as_slice-candidates.result.now c.as_slice-candidates.ensures.value
-    c.span_of-span.ensures c.as_slice-wishes.result.now c.claim_of.result.now c.as_slice-wishes.ensures.value
-    c.claim_of.ensures in
+    let claimed = claim_there c.requires.wishes (get_or order c.loop-before.before 0)
+    c.span_of-span.result c.span_of-span.ensures c.claim_of.result.now c.claim_of.ensures in
     before_here c.args.state.now.dossier orders c.args.group c.loop-before.before c.loop-before.before order
     (wishes_of c.claim_of.result.now) order_is c.requires.once c.loop-before-test.true refl claimed.is
 
@@ -85,10 +66,8 @@ loop-before-preserved c =
     let order = c.as_slice-order.result.now in
     let i = c.loop-before.before in
     let claim = wishes_of c.claim_of.result.now in
-    let claimed = claim_there c.requires.applicants (get_or order i 0)
-    c.span_of-span.result c.as_slice-candidates.result.now c.as_slice-candidates.ensures.value
-    c.span_of-span.ensures c.as_slice-wishes.result.now c.claim_of.result.now c.as_slice-wishes.ensures.value
-    c.claim_of.ensures in
+    let claimed = claim_there c.requires.wishes (get_or order i 0)
+    c.span_of-span.result c.span_of-span.ensures c.claim_of.result.now c.claim_of.ensures in
     let f = group_claim d c.args.group in
     puts_on (called_wish_at d orders) (applies_at d) (flat_map f (take i order)) claim (flat_map f (take (i + 1) order))
     c.args.called.now.items c.loop-before.called.items c.deal.new.called.items

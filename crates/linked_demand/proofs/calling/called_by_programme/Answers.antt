@@ -1,23 +1,24 @@
-use Rattle.std.proofs.Common.{ℕ, ◌+◌, length, ◌∙◌, ap, arith, map, subst}
+use Rattle.std.proofs.Common.{ℕ, ◌+◌, List, length, sym, ◌∙◌, ap, arith, map, subst}
 use Rattle.admit_core.specs.DossierRows.{DossierRows}
 use Rattle.admit_core.specs.Validity.{IsValid}
 use Rattle.linked_demand.specs.Called.{called_all, called_by}
 use Rattle.linked_demand.specs.CalledWishes.{called_wish_at, called_wishes_for}
-use Rattle.linked_demand.specs.Claims.{candidates_of}
+use Rattle.linked_demand.specs.declared.wishing.Application.{Application}
+use Rattle.linked_demand.specs.Claims.{AreApplicationsIn}
 use Rattle.linked_demand.specs.Keyed.{AreEmpty}
 use Rattle.linked_demand.specs.Seats.{applies_at}
 use Rattle.linked_demand.proofs.CalledRows.{groups_more, group_in, row_called}
-use Rattle.linked_demand.proofs.ClaimSpans.{applications_later, applicants_taken}
+use Rattle.linked_demand.proofs.ClaimSpans.{applications_later, applications_taken}
 use Rattle.linked_demand.proofs.Dealing.{puts_begun, puts_on}
 use Rattle.linked_demand.proofs.calling.called_by_programme.Goals as goal
 
-pub call_group-requires-clause-applicants : goal.call_group-requires-clause-applicants
-call_group-requires-clause-applicants c =
-    applicants_taken c.args.state.now.dossier c.loop-group.group c.loop-group.rows.items c.replace-wishes.result _
-    c.in_ok-candidates.candidates.items (omega (arith, c.loop-group-test.true, c.group_count-group-end.ensures))
-    (c.replace-wishes.ensures.value ∙ c.index_mut.ensures.value)
-    (c.in_ok-candidates.ensures ∙ ap candidates_of c.deref-in-loop-group.ensures.value)
-    c.loop-group.invariant.of_groups
+pub call_group-requires-clause-wishes : goal.call_group-requires-clause-wishes
+call_group-requires-clause-wishes c =
+    let P = λ (xs : List Application). AreApplicationsIn c.args.state.now.dossier c.loop-group.group xs in
+    subst P (sym c.deref-in-loop-group.ensures.value)
+    (applications_taken c.args.state.now.dossier c.loop-group.group c.loop-group.rows.items c.replace-wishes.result _
+    (omega (arith, c.loop-group-test.true, c.group_count-group-end.ensures))
+    (c.replace-wishes.ensures.value ∙ c.index_mut.ensures.value) c.loop-group.invariant.of_groups)
 
 pub loop-group-preserved : goal.loop-group-preserved
 loop-group-preserved c =

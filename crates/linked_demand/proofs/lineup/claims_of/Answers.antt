@@ -1,10 +1,9 @@
-use Rattle.std.proofs.Common.{ℕ, ◌+◌, ◌<◌, List, length, map, ap, sym, ◌∙◌, arith, subst}
-use Rattle.std.specs.Prelude.{◌^◌}
+use Rattle.std.proofs.Common.{ℕ, ◌+◌, ◌<◌, List, length, ap, sym, ◌∙◌, arith, subst}
 use Rattle.linked_demand.proofs.Seating.{IsBuilt, built_none, built_more, built_all}
-use Rattle.linked_demand.specs.Called.{before_at, called_for}
+use Rattle.linked_demand.specs.Called.{called_for}
 use Rattle.linked_demand.specs.declared.calling.CalledWish.{CalledWish}
-use Rattle.linked_demand.specs.CalledWishes.{called_wishes_for}
-use Rattle.linked_demand.proofs.CalledRows.{shown_before, shown_places}
+use Rattle.linked_demand.specs.CalledWishes.{called_wish_at, called_wishes_for}
+use Rattle.std.proofs.lemmas.List.{length-map}
 use Rattle.linked_demand.proofs.Dealing.{row_taken, rows_later}
 use Rattle.linked_demand.proofs.lineup.claims_of.Goals as goal
 
@@ -23,8 +22,8 @@ line_up-requires-clause-programme c =
 pub line_up-requires-clause-once : goal.line_up-requires-clause-once
 line_up-requires-clause-once c = c.line_once.ensures.once c.loop-programme.programme
 
-pub line_up-requires-clause-wishes : goal.line_up-requires-clause-wishes
-line_up-requires-clause-wishes c =
+pub line_up-requires-clause-called : goal.line_up-requires-clause-called
+line_up-requires-clause-called c =
     let d = c.args.state.now.dossier in
     let orders = c.args.orders.now.orders in
     let n = c.loop-programme.programme in
@@ -32,8 +31,7 @@ line_up-requires-clause-wishes c =
     let row = row_taken n (length d.programmes) (called_wishes_for d orders) c.loop-programme.called.items
     c.replace-row.result _ (subst P c.programme_count-programmes.ensures.count c.loop-programme-test.true)
     (c.replace-row.ensures.value ∙ c.index_mut.ensures.value) c.loop-programme.invariant.called in
-    c.in_ok-wishes.ensures ∙ ap (map (λ (x : CalledWish). x.wish)) (c.deref.ensures.value ∙ row)
-    ∙ shown_places d orders (called_for d orders n)
+    c.deref.ensures.value ∙ row
 
 pub line_up-requires-clause-few : goal.line_up-requires-clause-few
 line_up-requires-clause-few c =
@@ -41,29 +39,15 @@ line_up-requires-clause-few c =
     let orders = c.args.orders.now.orders in
     let n = c.loop-programme.programme in
     let P = λ (count : ℕ). n < count in
-    let Q = λ (ks : List ℕ). length ks < 2 ^ 32 in
     let row = row_taken n (length d.programmes) (called_wishes_for d orders) c.loop-programme.called.items
     c.replace-row.result _ (subst P c.programme_count-programmes.ensures.count c.loop-programme-test.true)
     (c.replace-row.ensures.value ∙ c.index_mut.ensures.value) c.loop-programme.invariant.called in
-    subst Q (sym (c.in_ok-wishes.ensures ∙ ap (map (λ (x : CalledWish). x.wish)) (c.deref.ensures.value ∙ row)
-    ∙ shown_places d orders (called_for d orders n)))
-    (c.line_once.ensures.few n)
-
-pub line_up-requires-clause-before : goal.line_up-requires-clause-before
-line_up-requires-clause-before c =
-    let d = c.args.state.now.dossier in
-    let orders = c.args.orders.now.orders in
-    let n = c.loop-programme.programme in
-    let P = λ (count : ℕ). n < count in
-    let called = called_for d orders n in
-    let row = row_taken n (length d.programmes) (called_wishes_for d orders) c.loop-programme.called.items
-    c.replace-row.result _ (subst P c.programme_count-programmes.ensures.count c.loop-programme-test.true)
-    (c.replace-row.ensures.value ∙ c.index_mut.ensures.value) c.loop-programme.invariant.called in
-    c.deref-in-loop-programme-2.ensures.value ∙ c.in_ok-before.ensures
-    ∙ ap (map (λ (x : CalledWish). x.before)) (c.deref-in-loop-programme.ensures.value ∙ row)
-    ∙ shown_before d orders called
-    ∙ sym (ap (map (before_at d orders)) (c.in_ok-wishes.ensures
-    ∙ ap (map (λ (x : CalledWish). x.wish)) (c.deref.ensures.value ∙ row) ∙ shown_places d orders called))
+    omega (
+      arith,
+      ap (λ (l : List CalledWish). length l) (c.deref.ensures.value ∙ row),
+      length-map (called_for d orders n) (called_wish_at d orders),
+      c.line_once.ensures.few n,
+    )
 
 pub line_up-requires-clause-seated : goal.line_up-requires-clause-seated
 line_up-requires-clause-seated c = c.loop-programme.invariant.built.seated

@@ -1,116 +1,102 @@
-use Rattle.std.proofs.Common.{ℕ, ◌≡◌, ◌≤◌, ◌<◌, List, length, get_or, nat_lt, refl, sym, ◌∙◌, ap, arith}
-use Rattle.std.proofs.Common.{subst}
-use Rattle.std.specs.Prelude.{All}
-use Rattle.std.proofs.lemmas.List.{length-map}
-use Rattle.day_state.specs.declared.spans.Span.{Span}
-use Rattle.day_state.specs.Spans.{part_of}
-use Rattle.linked_demand.specs.Called.{before_at}
-use Rattle.linked_demand.specs.Opens.{line_of}
+use Rattle.std.proofs.Common.{ℕ, ◌<◌, ◌≤◌, ◌≡◌, ◌++◌, [], ◌∷◌, List, length, arith, get_or, sym, ap, subst, ◌∙◌}
+use Rattle.std.specs.Prelude.{All, nat_lt}
+use Rattle.linked_demand.specs.Ends.{spans_from}
 use Rattle.linked_demand.specs.Notes.{IsNoted}
-use Rattle.linked_demand.proofs.Lined.{lined_all, lined_more, lined_none, part_read, spans_fit}
+use Rattle.linked_demand.specs.Opens.{line_of}
 use Rattle.linked_demand.proofs.Lining.{claim_within}
+use Rattle.linked_demand.proofs.LineWalk.{claim_taken, few_ends, nobody, rest_read, walked_all, walked_more}
+use Rattle.linked_demand.proofs.LineWalk.{walked_none}
 use Rattle.linked_demand.proofs.lineup.line_up.Goals as goal
 
-pub loop-from-init : goal.loop-from-init
-loop-from-init c =
-    lined_none c.args.state.now.dossier c.args.orders.now.orders c.args.programme c.args.wishes.items
-    c.in_ok-spans.spans.items
-    c.args.notes.now c.in_ok-spans.ensures.items c.requires.seated
+pub loop-wishes-init : goal.loop-wishes-init
+loop-wishes-init c =
+    walked_none c.args.state.now.dossier c.args.orders.now.orders c.args.programme c.args.called.now
+    c.in_ok-wishes.wishes.items c.in_ok-ends.ends.items c.args.notes.now c.in_ok-wishes.ensures.items
+    c.in_ok-ends.ensures.items c.requires.seated
 
 pub overflow_cast-len : goal.overflow_cast-len
 overflow_cast-len c =
-    let lt : c.loop-from.from < length c.args.wishes.items = omega (
+    let lt : length c.loop-wishes.wishes.items < length c.args.called.now = omega (
       arith,
-      c.loop-from-test.true,
-      ap (λ (l : List ℕ). length l) c.requires.before,
-      length-map c.args.wishes.items (before_at c.args.state.now.dossier c.args.orders.now.orders),
+      c.loop-wishes-test.true,
+      c.len.ensures,
     ) in
-    let few = spans_fit c.args.state.now.dossier c.args.orders.now.orders c.args.programme c.args.wishes.items
-    c.args.before.now
-    c.requires.wishes c.requires.before c.requires.once
-    c.loop-from.from c.loop-from.spans.items c.loop-from.notes
-    c.loop-from.invariant
-    lt in
-    omega (arith, c.len-in-loop-from.ensures, few, lt, c.requires.few)
+    let few = few_ends c.args.state.now.dossier c.args.orders.now.orders c.args.programme c.args.called.now
+    c.requires.called c.requires.once c.loop-wishes.invariant lt in
+    omega (arith, c.len-in-loop-wishes.ensures, few, lt, c.requires.few)
 
-pub note-requires : goal.note-requires
-note-requires c =
+pub note-requires-clause-fits : goal.note-requires-clause-fits
+note-requires-clause-fits c =
+    let lt : length c.loop-wishes.wishes.items < length c.args.called.now = omega (
+      arith,
+      c.loop-wishes-test.true,
+      c.len.ensures,
+    ) in
+    let few = few_ends c.args.state.now.dossier c.args.orders.now.orders c.args.programme c.args.called.now
+    c.requires.called c.requires.once c.loop-wishes.invariant lt in
+    omega (arith, c.len-in-loop-wishes.ensures, few, lt, c.requires.few)
+
+pub note-requires-clause-within : goal.note-requires-clause-within
+note-requires-clause-within c =
     let d = c.args.state.now.dossier in
+    let orders = c.args.orders.now.orders in
     let p = c.args.programme in
-    let wishes = c.args.wishes.items in
-    let span : Span = record { from = c.loop-from.from; to = c.end_of_claim-to.result } in
-    let lt : c.loop-from.from < length c.args.wishes.items = omega (
+    let lt : length c.loop-wishes.wishes.items < length c.args.called.now = omega (
       arith,
-      c.loop-from-test.true,
-      ap (λ (l : List ℕ). length l) c.requires.before,
-      length-map c.args.wishes.items (before_at c.args.state.now.dossier c.args.orders.now.orders),
+      c.loop-wishes-test.true,
+      c.len.ensures,
     ) in
-    let part = part_read c.args.state.now.dossier c.args.orders.now.orders c.args.programme c.args.wishes.items
-    c.args.before.now
-    c.requires.wishes c.requires.before c.requires.once
-    c.loop-from.from c.end_of_claim-to.result span c.loop-from.spans.items c.loop-from.notes
-    c.loop-from.invariant lt c.end_of_claim-to.ensures.further c.end_of_claim-to.ensures.within
-    c.end_of_claim-to.ensures.run refl refl in
-    let read : c.part.result.now ≡ part_of wishes span =
-    c.part.ensures ∙ ap (λ (l : List ℕ). part_of l span) c.deref.ensures.value in
-    let n = length c.loop-from.notes.places in
+    let n = length c.loop-wishes.notes.places in
+    let taken = claim_taken d orders p c.args.called.now c.requires.called c.requires.once c.loop-wishes.invariant lt
+    c.in_ok-take_claim.ensures.front c.in_ok-take_claim.ensures.further c.in_ok-take_claim.ensures.run in
+    let read = rest_read c.deref.result.now c.take_claim.new.wishes.items c.len-from.result
+    (length c.loop-wishes.wishes.items) c.deref.ensures.value (omega (arith, c.len-from.ensures)) in
     let P = λ (ks : List ℕ). All (λ k. k < n) ks in
-    subst P (sym (read ∙ part))
-    (claim_within d p (get_or (line_of d c.args.orders.now.orders p) (length c.loop-from.spans.items) 0) n
-    c.loop-from.invariant.seated.one_each)
+    subst P (sym (read ∙ taken))
+    (claim_within d p (get_or (line_of d orders p) (length (spans_from 0 c.loop-wishes.ends.items)) 0) n
+    c.loop-wishes.invariant.lined.seated.one_each)
 
-pub loop-from-preserved : goal.loop-from-preserved
-loop-from-preserved c =
+pub loop-wishes-preserved : goal.loop-wishes-preserved
+loop-wishes-preserved c =
     let d = c.args.state.now.dossier in
-    let wishes = c.args.wishes.items in
-    let span : Span = record { from = c.loop-from.from; to = c.end_of_claim-to.result } in
-    let lt : c.loop-from.from < length c.args.wishes.items = omega (
+    let called = c.args.called.now in
+    let next = c.take_claim.new.wishes.items in
+    let lt : length c.loop-wishes.wishes.items < length called = omega (
       arith,
-      c.loop-from-test.true,
-      ap (λ (l : List ℕ). length l) c.requires.before,
-      length-map c.args.wishes.items (before_at c.args.state.now.dossier c.args.orders.now.orders),
+      c.loop-wishes-test.true,
+      c.len.ensures,
     ) in
-    let read : c.part.result.now ≡ part_of wishes span =
-    c.part.ensures ∙ ap (λ (l : List ℕ). part_of l span) c.deref.ensures.value in
-    let Q = λ (ks : List ℕ). IsNoted ks c.len-in-loop-from.result c.is_called_by_limit-is_called.result
-    c.loop-from.notes c.note.new.self in
-    lined_more c.args.state.now.dossier c.args.orders.now.orders c.args.programme c.args.wishes.items c.args.before.now
-    c.requires.wishes c.requires.before c.requires.once
-    c.loop-from.from c.end_of_claim-to.result span c.loop-from.spans.items c.push.new.self.items
-    c.loop-from.notes c.note.new.self c.len-in-loop-from.result c.is_called_by_limit-is_called.result
-    c.loop-from.invariant lt c.end_of_claim-to.ensures.further c.end_of_claim-to.ensures.within
-    c.end_of_claim-to.ensures.run refl refl
-    c.in_ok-push.ensures.items (omega (arith, c.len-in-loop-from.ensures))
-    (c.is_called_by_limit-is_called.ensures ∙ ap (nat_lt (get_or c.args.before.now c.loop-from.from 0))
-    c.limit_of-limit.ensures)
+    let read = rest_read c.deref.result.now next c.len-from.result (length c.loop-wishes.wishes.items)
+    c.deref.ensures.value (omega (arith, c.len-from.ensures)) in
+    let end : c.len-in-loop-wishes-2.result ≡ length next = omega (arith, c.len-in-loop-wishes-2.ensures) in
+    let is_called = c.is_called_by_limit-is_called.result in
+    let Q = λ (ks : List ℕ). IsNoted ks c.len-in-loop-wishes.result is_called c.loop-wishes.notes c.note.new.self in
+    walked_more d c.args.orders.now.orders c.args.programme called c.requires.called c.requires.once
+    c.loop-wishes.invariant lt c.in_ok-take_claim.ensures.front c.in_ok-take_claim.ensures.further
+    c.in_ok-take_claim.ensures.run c.push.new.self.items c.note.new.self c.len-in-loop-wishes.result is_called
+    c.len-from.result (c.in_ok-push.ensures.items ∙ ap (λ k. c.loop-wishes.ends.items ++ k ∷ []) end)
+    (omega (arith, c.len-in-loop-wishes.ensures)) (omega (arith, c.len-from.ensures))
+    (c.is_called_by_limit-is_called.ensures
+    ∙ ap (nat_lt (get_or called c.len-from.result nobody).before) c.limit_of-limit.ensures)
     (subst Q read c.note.ensures)
 
 pub returns-clause-claims : goal.returns-clause-claims
 returns-clause-claims c =
-    let le : length c.args.wishes.items ≤ c.loop-from.from = omega (
+    let le : length c.args.called.now ≤ length c.loop-wishes.wishes.items = omega (
       arith,
-      c.loop-from-test.false,
-      ap (λ (l : List ℕ). length l) c.requires.before,
-      length-map c.args.wishes.items (before_at c.args.state.now.dossier c.args.orders.now.orders),
+      c.loop-wishes-test.false,
+      c.len.ensures,
     ) in
-    c.new-claims.ensures
-    ∙ (lined_all c.args.state.now.dossier c.args.orders.now.orders c.args.programme c.args.wishes.items
-    c.args.before.now
-    c.requires.wishes c.requires.before c.requires.once
-    c.loop-from.from c.loop-from.spans.items c.loop-from.notes
-    c.loop-from.invariant
-    le).0
+    c.new.ensures
+    ∙ (walked_all c.args.state.now.dossier c.args.orders.now.orders c.args.programme c.args.called.now
+    c.requires.called c.requires.once c.loop-wishes.invariant le).0
 
 pub returns-clause-seated : goal.returns-clause-seated
 returns-clause-seated c =
-    let le : length c.args.wishes.items ≤ c.loop-from.from = omega (
+    let le : length c.args.called.now ≤ length c.loop-wishes.wishes.items = omega (
       arith,
-      c.loop-from-test.false,
-      ap (λ (l : List ℕ). length l) c.requires.before,
-      length-map c.args.wishes.items (before_at c.args.state.now.dossier c.args.orders.now.orders),
+      c.loop-wishes-test.false,
+      c.len.ensures,
     ) in
-    (lined_all c.args.state.now.dossier c.args.orders.now.orders c.args.programme c.args.wishes.items c.args.before.now
-    c.requires.wishes c.requires.before c.requires.once
-    c.loop-from.from c.loop-from.spans.items c.loop-from.notes
-    c.loop-from.invariant
-    le).1
+    (walked_all c.args.state.now.dossier c.args.orders.now.orders c.args.programme c.args.called.now
+    c.requires.called c.requires.once c.loop-wishes.invariant le).1

@@ -1,10 +1,10 @@
 use Rattle.std.proofs.Common.{◌-◌, length}
-use Rattle.linked_demand.proofs.Lined.{IsLined}
+use Rattle.linked_demand.proofs.LineWalk.{IsWalked}
 use Rattle.linked_demand.proofs.lineup.line_up.Given as goal
 
-abbrev pub invariant-loop-from : goal.invariant-loop-from
-invariant-loop-from l = IsLined l.state.dossier l.orders.orders l.programme l.wishes.items l.from l.spans.items
+abbrev pub invariant-loop-wishes : goal.invariant-loop-wishes
+invariant-loop-wishes l = IsWalked l.state.dossier l.orders.orders l.programme l.called l.wishes.items l.ends.items
     l.notes
 
-abbrev pub decreases-loop-from : goal.decreases-loop-from
-decreases-loop-from l = length l.before - l.from
+abbrev pub decreases-loop-wishes : goal.decreases-loop-wishes
+decreases-loop-wishes l = length l.called - length l.wishes.items
