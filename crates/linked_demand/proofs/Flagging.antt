@@ -136,10 +136,12 @@ linked s orders opens lines claims notes sure n marks long lineup n_is lines_are
       sure_each = ap length sure_are ∙ length-map-range_with_len (sure_at s notes.called_by_limit) 0 (length ws);
       sure_are = λ i w at.
           ap (λ (fs : List Bool). get_or fs i false) sure_are
-          ∙ get_or-map-range_with_len (sure_at s notes.called_by_limit) 0 (length ws) i i false (slice_get_within ws i w at)
+          ∙ get_or-map-range_with_len (sure_at s notes.called_by_limit) 0 (length ws) i i false
+          (slice_get_within ws i w at)
           (omega arith)
           ∙ or_comm (get_or notes.called_by_limit i false) (has_seat_there s i)
-          ∙ ap (λ (v : Wish). holds_seat s v.candidate v.programme || get_or notes.called_by_limit i false) (wish_in_is ws i w at)
+          ∙ ap (λ (v : Wish). holds_seat s v.candidate v.programme || get_or notes.called_by_limit i false)
+          (wish_in_is ws i w at)
           ∙ ap (λ b. holds_seat s w.candidate w.programme || b) (lineup.notes_are.called_are i w at);
     }
 

@@ -173,7 +173,8 @@ module _ {s : State} {orders : List CallOrder} {opens : List Bool} {claims : Lis
       flags sure flags_are refl count ticked old marked sum marks
 
   pub told_front : Moves k place at now (last_new after was now) → (bars : List ℕ) (count ticked : ℕ)
-      (old marked flags : List Bool) (claim : List ℕ) → flags ≡ set opens i false → claim ≡ claim_at row (last_new after was now)
+      (old marked flags : List Bool) (claim : List ℕ) → flags ≡ set opens i false
+      → claim ≡ claim_at row (last_new after was now)
       → ticked ≡ count + count_by (is_fresh s bars flags sure) claim
       → MarksWishes s (λ x. is_among x.0 claim && is_fresh s bars flags sure x.0) old marked
       → Told seen (before s orders (set opens i false)) bars count ticked old marked

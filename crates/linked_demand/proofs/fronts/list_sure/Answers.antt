@@ -32,6 +32,7 @@ loop-wish-preserved c =
 
 pub returns : goal.returns
 returns c =
-    lists_all (sure_open c.args.opens.now (all_sure c.args.state.now c.args.notes.now.called_by_limit)) c.args.wishes.now
+    lists_all (sure_open c.args.opens.now (all_sure c.args.state.now c.args.notes.now.called_by_limit))
+    c.args.wishes.now
     c.loop-wish.wish-index
     c.args.found.now.items c.loop-wish.found.items c.loop-wish-test.false c.loop-wish.invariant

@@ -132,7 +132,8 @@ invariant_of-self g c =
     let before : ℕ = c.index-before.result.now in
     let now : ℕ = c.reached_after-now.result in
     let opened = c.leaves_by_closing-leaves.ensures.opens in
-    let moved = front_moved reads now (last_new (wants_along s (slice_set r.opens c.args.item.wish false) row) before now)
+    let moved = front_moved reads now (last_new (wants_along s (slice_set r.opens c.args.item.wish false) row) before
+    now)
     (c.reached_after-now.ensures.place
     ∙ ap (λ (fs : List Bool). if c.leaves_by_closing-leaves.result
     then before + next (drop before (wants_along s fs row)) else before) opened) refl in
@@ -156,7 +157,8 @@ returns g c =
     let before : ℕ = c.index-before.result.now in
     let now : ℕ = c.reached_after-now.result in
     let opened = c.leaves_by_closing-leaves.ensures.opens in
-    let moved = front_moved reads now (last_new (wants_along s (slice_set r.opens c.args.item.wish false) row) before now)
+    let moved = front_moved reads now (last_new (wants_along s (slice_set r.opens c.args.item.wish false) row) before
+    now)
     (c.reached_after-now.ensures.place
     ∙ ap (λ (fs : List Bool). if c.leaves_by_closing-leaves.result
     then before + next (drop before (wants_along s fs row)) else before) opened) refl in

@@ -48,7 +48,8 @@ returns c =
     in_order_once (is_proposed_at row) (length row.state.dossier.wishes) found c.sort_unstable.new.self.items
     c.dedup.new.self.items
     (found_right right row c.self.view_is c.requires listed
-    (listed_sure s right.links.marks_each r.orders.now.orders limited kept.notes_are.called_are listed kept.in_doubt_are opens)
+    (listed_sure s right.links.marks_each r.orders.now.orders limited kept.notes_are.called_are listed kept.in_doubt_are
+    opens)
     now found first second)
     c.sort_unstable.ensures.permutation c.sort_unstable.ensures.sorted
     (dedup_is eqb c.sort_unstable.new.self.items c.dedup.new.self.items c.dedup.ensures.filtered)
