@@ -20,7 +20,6 @@ use Rattle.linked_demand.specs.Links.{AllOpenWait, LinksRow, WaitsAt, claim_of}
 use Rattle.linked_demand.specs.Opens.{line_of, seat_row, wants_by}
 use Rattle.linked_demand.specs.Wants.{IsReached, reach_in, seat_rows}
 use Rattle.linked_demand.proofs.Closing.{Closes, programme_within, proposed_at_is, proposed_right, wish_of}
-use Rattle.linked_demand.proofs.Flagging.{row_within}
 use Rattle.linked_demand.proofs.Fronting.{any_reached, closed_at, gathered}
 use Rattle.linked_demand.proofs.Leaving.{reached_is, row_there}
 use Rattle.linked_demand.proofs.Reach.{reach_within}
@@ -79,7 +78,7 @@ module _ {s : State} {orders : List CallOrder} {opens : List Bool} {reached : Li
       )
 
   -- the fronts of the lines
-  pub fronts : AreFronts (length opens) claims reached
+  pub fronts : AreFronts claims reached
   fronts = record {
     one_each =
         ap length right.reached_are
@@ -95,9 +94,6 @@ module _ {s : State} {orders : List CallOrder} {opens : List Bool} {reached : Li
           length-map (line_of s.dossier orders p)
               (claim_of s.dossier p),
         );
-    below = λ p lt.
-        let here : p < length s.dossier.programmes = omega (arith, lt, many) in
-        row_within s.dossier orders p (length opens) (get_or claims p []) (row_at p here) right.links.opens_each;
   }
 
   -- the list of those who need no seat, and then of those who are reached

@@ -21,7 +21,6 @@ use Rattle.linked_demand.specs.Demand.{is_proposed_at}
 use Rattle.linked_demand.specs.Fronts.{AreFronts, claimed_open, front_of, reached_open}
 use Rattle.linked_demand.specs.Links.{LinksRow, IsPlaceOf, IsSeatPlace, claim_of}
 use Rattle.linked_demand.specs.Opens.{ahead_by, is_proposed_by, line_of}
-use Rattle.linked_demand.specs.Wants.{AreBelow}
 use Rattle.linked_demand.proofs.Flagging.{share}
 use Rattle.linked_demand.proofs.Lining.{among_claim}
 
@@ -42,17 +41,11 @@ any_range_more g n =
     ∙ list_any-append g (range_with_len 0 n) (n ∷ [])
     ∙ ap (λ b. list_any g (range_with_len 0 n) || b) (or_false (g n))
 
-module _ {n : ℕ} {lines : List (List (List ℕ))} {reached : List ℕ} (are : AreFronts n lines reached) (p : ℕ)
+module _ {lines : List (List (List ℕ))} {reached : List ℕ} (are : AreFronts lines reached) (p : ℕ)
     (lt : p < length lines)
     (claims : List (List ℕ)) (claims_read : claims ≡ get_or lines p claims) where
   line_is : claims ≡ get_or lines p []
   line_is = get_or_read lines p claims lt claims_read []
-
-  -- the claims of a line that are read
-  pub front_below : AreBelow n claims
-  front_below =
-      let P = λ (row : List (List ℕ)). AreBelow n row in
-      subst P (sym line_is) (are.below p lt)
 
   module _ (front : ℕ) (number_is : front ≡ slice_index reached p) where
     pub front_within : front ≤ length claims

@@ -3,7 +3,6 @@ use Rattle.std.specs.Prelude.{◌≡◌, ℕ, ◌≤◌, ◌<◌, Bool, false, �
 use Rattle.std.specs.Prelude.{slice_index_or}
 use Rattle.std.specs.List.{list_any, range_with_len}
 use Rattle.admit_core.specs.Lists.{is_among}
-use Rattle.linked_demand.specs.Wants.{AreBelow}
 
 -- the wish at a place is open and needs no seat, by flags
 abbrev pub sure_open : List Bool → List Bool → ℕ → Bool
@@ -31,9 +30,8 @@ reached_open opens lines reached n k =
 abbrev pub ListsAlso : (ℕ → Bool) → List ℕ → List ℕ → Type 0
 ListsAlso test old new = (k : ℕ) → is_among k new ≡ (is_among k old || test k)
 
--- in each line no more claims are reached than there are, and they are wishes below a number
-pub record AreFronts (n : ℕ) (lines : List (List (List ℕ))) (reached : List ℕ) : Type 0 where
+-- in each line no more claims are reached than there are
+pub record AreFronts (lines : List (List (List ℕ))) (reached : List ℕ) : Type 0 where
   pub one_each : length reached ≡ length lines
   pub within : (p : ℕ) → p < length lines
       → slice_index reached p ≤ length (slice_index_or lines p [])
-  pub below : (p : ℕ) → p < length lines → AreBelow n (slice_index_or lines p [])

@@ -19,8 +19,7 @@ fn stops_by_closing(
     opens: &mut OpenWishes,
     wish: u32,
 ) -> bool
-    requires wish { wish < length opens.old }
-    requires claim { All (λ k. k < length opens.old) claim.now }
+    requires { wish < length opens.old }
     ensures opens { opens.new ≡ slice_set opens.old wish false }
     ensures stops { result ≡ stops_wanting is_live opens.old opens.new claim.now }
 {
@@ -54,7 +53,6 @@ pub fn leaves_by_closing(
     requires wish { item.wish < length state.now.dossier.wishes }
     requires opens { length opens.old ≡ length state.now.dossier.wishes }
     requires place { item.place < length claims.now }
-    requires claim { All (λ k. k < length opens.old) (slice_index_or claims.now item.place []) }
     requires alone { length (slice_index_or claims.now item.place []) ≡ 1
         → has_seat_there state.now item.wish ≡ false }
     ensures opens { opens.new ≡ slice_set opens.old item.wish false }

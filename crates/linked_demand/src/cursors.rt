@@ -16,9 +16,8 @@ pub struct Cursors {
 
 /// The place of the first open wish of a claim from a place on, or how many there are.
 fn next_open(opens: &OpenWishes, claim: &[u32], from: usize) -> usize
-    requires claim { All (λ k. k < length opens.now) claim.now }
-    requires from { from ≤ length claim.now }
-    ensures open { nat_lt result (length claim.now)
+    requires { from ≤ length claim.now }
+    ensures { nat_lt result (length claim.now)
         ≡ list_any (λ k. slice_index_or opens.now k false) (drop from claim.now) }
 {
     let mut at = from;
@@ -67,7 +66,6 @@ impl Cursors {
 
     /// Whether a wish of a claim is open.
     fn is_any_open(&mut self, opens: &OpenWishes, beside: &[u32], claim: &[u32]) -> bool
-        requires { All (λ k. k < length opens.now) claim.now }
         ensures { result ≡ list_any (λ k. slice_index_or opens.now k false) claim.now }
     {
         let slot = slot_of(beside, claim);
@@ -88,7 +86,6 @@ impl Cursors {
         beside: &[u32],
         claim: &[u32],
     ) -> bool
-        requires { All (λ k. k < length opens.now) claim.now }
         ensures { result ≡ (not is_live && list_any (λ k. slice_index_or opens.now k false)
             claim.now) }
     {

@@ -25,7 +25,6 @@ fn is_fresh(
 ) -> bool
     requires wish { wish < length state.now.dossier.wishes }
     requires bars { length bars.now ≡ length state.now.dossier.schools }
-    requires opens { length opens.now ≡ length state.now.dossier.wishes }
     ensures { result ≡ is_fresh state.now bars.now opens.now
         (all_sure state.now notes.now.called_by_limit) wish }
 {
@@ -44,7 +43,6 @@ pub fn note_fresh<L: Ledger>(
 )
     requires claim { All (λ v. v < length state.now.dossier.wishes) claim.now }
     requires bars { length bars.now ≡ length state.now.dossier.schools }
-    requires opens { length opens.now ≡ length state.now.dossier.wishes }
     requires marked { length marked.old ≡ length state.now.dossier.wishes }
     ensures steps { steps.new
         ≡ steps.old + count_by (is_fresh state.now bars.now opens.now

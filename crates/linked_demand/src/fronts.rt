@@ -15,8 +15,7 @@ use day_state::DayState;
 
 /// Whether the wish at a place is open and needs no seat.
 fn is_sure_open(state: &DayState<'_>, opens: &OpenWishes, notes: &Notes, place: u32) -> bool
-    requires place { place < length state.now.dossier.wishes }
-    requires opens { length opens.now ≡ length state.now.dossier.wishes }
+    requires { place < length state.now.dossier.wishes }
     ensures { result ≡ sure_open opens.now (all_sure state.now notes.now.called_by_limit) place }
 {
     opens.get(place) && needs_no_seat(state, notes, place)
@@ -30,8 +29,7 @@ pub fn list_sure(
     wishes: &[u32],
     found: &mut Vec<u32>,
 ) -> Result<(), OutOfMemory>
-    requires wishes { All (λ k. k < length state.now.dossier.wishes) wishes.now }
-    requires opens { length opens.now ≡ length state.now.dossier.wishes }
+    requires { All (λ k. k < length state.now.dossier.wishes) wishes.now }
     ensures { OnOk result (ListsAlso (listed_open opens.now
         (all_sure state.now notes.now.called_by_limit) wishes.now) found.old.items found.new.items) }
 {
@@ -45,7 +43,6 @@ pub fn list_sure(
 
 /// Lists those wishes of a claim that are open.
 fn list_claim(opens: &OpenWishes, claim: &[u32], found: &mut Vec<u32>) -> Result<(), OutOfMemory>
-    requires { All (λ k. k < length opens.now) claim.now }
     ensures { OnOk result (ListsAlso (λ k. is_among k claim.now && slice_index_or opens.now k false)
         found.old.items found.new.items) }
 {
@@ -64,8 +61,7 @@ fn list_front(
     reached: usize,
     found: &mut Vec<u32>,
 ) -> Result<(), OutOfMemory>
-    requires reached { reached ≤ length claims.now }
-    requires claims { AreBelow (length opens.now) claims.now }
+    requires { reached ≤ length claims.now }
     ensures { OnOk result (ListsAlso (claimed_open opens.now (take reached claims.now))
         found.old.items found.new.items) }
 {
@@ -82,7 +78,7 @@ pub fn list_fronts(
     reached: &[usize],
     found: &mut Vec<u32>,
 ) -> Result<(), OutOfMemory>
-    requires { AreFronts (length opens.now) lines.now reached.now }
+    requires { AreFronts lines.now reached.now }
     ensures { OnOk result (ListsAlso (reached_open opens.now lines.now reached.now
         (length lines.now)) found.old.items found.new.items) }
 {

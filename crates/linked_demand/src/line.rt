@@ -15,8 +15,7 @@ use day_state::DayState;
 /// Whether the wish at a place is open, by its flag, and its candidate is not live in its
 /// programme.
 fn is_wanting(state: &DayState<'_>, opens: &OpenWishes, place: u32) -> bool
-    requires place { place < length state.now.dossier.wishes }
-    requires opens { length opens.now ≡ length state.now.dossier.wishes }
+    requires { place < length state.now.dossier.wishes }
     ensures { result ≡ wanting_at state.now opens.now place }
 {
     opens.get(place) && !state.is_live_in_its_programme(place)
@@ -24,8 +23,7 @@ fn is_wanting(state: &DayState<'_>, opens: &OpenWishes, place: u32) -> bool
 
 /// Whether one with this claim wants a seat.
 fn wants_seat(state: &DayState<'_>, opens: &OpenWishes, claim: &[u32]) -> bool
-    requires claim { All (λ k. k < length state.now.dossier.wishes) claim.now }
-    requires opens { length opens.now ≡ length state.now.dossier.wishes }
+    requires { All (λ k. k < length state.now.dossier.wishes) claim.now }
     ensures { result ≡ list_any (wanting_at state.now opens.now) claim.now }
 {
     claim.iter().any(|place| is_wanting(state, opens, *place))
@@ -35,7 +33,6 @@ fn wants_seat(state: &DayState<'_>, opens: &OpenWishes, claim: &[u32]) -> bool
 /// then not asked who is live.
 fn wants_alone(state: &DayState<'_>, opens: &OpenWishes, claim: &[u32]) -> bool
     requires claim { All (λ k. k < length state.now.dossier.wishes) claim.now }
-    requires opens { length opens.now ≡ length state.now.dossier.wishes }
     requires alone { NeedsSeatAlone state.now opens.now claim.now }
     ensures { result ≡ list_any (wanting_at state.now opens.now) claim.now }
 {
@@ -50,7 +47,6 @@ fn wants_alone(state: &DayState<'_>, opens: &OpenWishes, claim: &[u32]) -> bool
 /// are seats.
 pub fn reach_of(state: &DayState<'_>, opens: &OpenWishes, claims: &Claims, seats: usize) -> usize
     requires claims { AreBelow (length state.now.dossier.wishes) claims.now }
-    requires opens { length opens.now ≡ length state.now.dossier.wishes }
     requires alone { AllNeedSeatAlone state.now opens.now claims.now }
     ensures { result ≡ reach seats (wants_along state.now opens.now claims.now) }
 {
@@ -72,7 +68,6 @@ pub fn reach_of(state: &DayState<'_>, opens: &OpenWishes, claims: &Claims, seats
 pub fn next_wanting(state: &DayState<'_>, opens: &OpenWishes, claims: &Claims, from: usize) -> usize
     requires from { from ≤ length claims.now }
     requires claims { AreBelow (length state.now.dossier.wishes) claims.now }
-    requires opens { length opens.now ≡ length state.now.dossier.wishes }
     requires alone { AllNeedSeatAlone state.now opens.now claims.now }
     ensures place { result ≡ from + next (drop from (wants_along state.now opens.now claims.now)) }
     ensures within { result ≤ length claims.now }
@@ -98,7 +93,6 @@ pub fn reached_after(
 ) -> usize
     requires from { before ≤ length claims.now }
     requires claims { AreBelow (length state.now.dossier.wishes) claims.now }
-    requires opens { length opens.now ≡ length state.now.dossier.wishes }
     requires alone { AllNeedSeatAlone state.now opens.now claims.now }
     ensures place { result ≡ (if leaves
         then before + next (drop before (wants_along state.now opens.now claims.now)) else before) }
@@ -120,7 +114,6 @@ fn last_wanting(
 ) -> Option<usize>
     requires reached { reached ≤ length claims.now }
     requires claims { AreBelow (length state.now.dossier.wishes) claims.now }
-    requires opens { length opens.now ≡ length state.now.dossier.wishes }
     requires alone { AllNeedSeatAlone state.now opens.now claims.now }
     ensures place { result ≡ last_new (wants_along state.now opens.now claims.now) before reached }
     ensures within { IfSome result (λ n. n < length claims.now) }
@@ -142,7 +135,6 @@ pub fn fresh_claim<'a>(
 ) -> &'a [u32]
     requires reached { reached ≤ length claims.now }
     requires claims { AreBelow (length state.now.dossier.wishes) claims.now }
-    requires opens { length opens.now ≡ length state.now.dossier.wishes }
     requires alone { AllNeedSeatAlone state.now opens.now claims.now }
     ensures { result.now ≡ claim_at claims.now
         (last_new (wants_along state.now opens.now claims.now) before reached) }

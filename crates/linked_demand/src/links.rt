@@ -246,7 +246,6 @@ impl<'a, 'd> SeatLinks<'a, 'd> {
 
     /// Whether a wish is open.
     pub fn is_open(&self, wish: u32) -> bool
-        requires { wish < length self.now.state.dossier.wishes }
         ensures { result ≡ slice_index_or self.now.opens wish false }
     {
         self.opens.get(wish)

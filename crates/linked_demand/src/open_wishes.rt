@@ -37,12 +37,14 @@ impl OpenWishes {
         self.open.len()
     }
 
-    /// Whether a wish is open.
+    /// Whether a wish is open: none is past the last one.
     pub fn get(&self, place: u32) -> bool
-        requires { place < length self.now }
         ensures { result ≡ slice_index_or self.now place false }
     {
-        self.open[place as usize]
+        match self.open.get(place as usize) {
+            None => false,
+            Some(open) => *open,
+        }
     }
 
     /// Closes a wish.

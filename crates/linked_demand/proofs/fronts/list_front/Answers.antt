@@ -3,19 +3,11 @@ use Rattle.admit_core.specs.Lists.{is_among}
 use Rattle.linked_demand.specs.Fronts.{claimed_open, ListsAlso}
 use Rattle.linked_demand.proofs.Fronting.{claimed_more}
 use Rattle.linked_demand.proofs.Listing.{lists_none, lists_then}
-use Rattle.linked_demand.proofs.Walking.{below_read}
 use Rattle.linked_demand.proofs.fronts.list_front.Goals as goal
 
 pub loop-place-init : goal.loop-place-init
 loop-place-init c = lists_none (claimed_open c.args.opens.now (take 0 c.args.claims.now)) c.args.found.now.items
     (λ k. refl)
-
-pub list_claim-requires : goal.list_claim-requires
-list_claim-requires c =
-    let lt : c.loop-place.place < length c.args.claims.now = omega
-    (arith, c.loop-place-test.true, c.loop-place.auto.place-end, c.requires.reached) in
-    below_read (length c.args.opens.now) c.args.claims.now c.requires.claims c.loop-place.place
-    c.at.result.now lt c.at.ensures
 
 pub loop-place-preserved : goal.loop-place-preserved
 loop-place-preserved c =
@@ -26,7 +18,7 @@ loop-place-preserved c =
       arith,
       c.loop-place-test.true,
       c.loop-place.auto.place-end,
-      c.requires.reached,
+      c.requires,
     ) in
     lists_then (claimed_open opens (take i claims)) (λ k. is_among k c.at.result.now && get_or opens k false)
     (claimed_open opens (take (i + 1) claims))

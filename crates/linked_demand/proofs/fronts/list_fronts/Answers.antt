@@ -1,6 +1,6 @@
 use Rattle.std.proofs.Common.{ℕ, ◌+◌, ◌<◌, ◌≡◌, get_or, length, take, refl, arith, subst}
 use Rattle.linked_demand.specs.Fronts.{claimed_open, reached_open, ListsAlso}
-use Rattle.linked_demand.proofs.Fronting.{front_within, front_below, reached_more}
+use Rattle.linked_demand.proofs.Fronting.{front_within, reached_more}
 use Rattle.linked_demand.proofs.Listing.{lists_none, lists_then}
 use Rattle.linked_demand.proofs.fronts.list_fronts.Goals as goal
 
@@ -14,10 +14,7 @@ list_front-requires c =
     (arith, c.loop-programme-test.true, c.loop-programme.auto.programme-end) in
     let claims = c.index-lines-programme.result in
     let front : ℕ = get_or c.args.reached.now c.loop-programme.programme 0 in
-    record {
-      reached = front_within c.requires c.loop-programme.programme lt claims c.index-lines-programme.is front refl;
-      claims = front_below c.requires c.loop-programme.programme lt claims c.index-lines-programme.is;
-    }
+    front_within c.requires c.loop-programme.programme lt claims c.index-lines-programme.is front refl
 
 pub loop-programme-preserved : goal.loop-programme-preserved
 loop-programme-preserved c =

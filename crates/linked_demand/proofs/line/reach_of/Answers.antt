@@ -17,7 +17,6 @@ wants_alone-requires c =
       claim = below_read (length c.args.state.now.dossier.wishes) c.args.claims.now c.requires.claims
           c.loop-place.place c.at.result.now
           (omega (arith, c.loop-place-test.true, c.loop-place.auto.place-end, c.count-count.ensures)) c.at.ensures;
-      opens = c.requires.opens;
       alone = subst P (sym read) (c.requires.alone c.loop-place.place within);
     }
 

@@ -31,7 +31,6 @@ reach_of-requires c =
     record {
       claims = row_within s.dossier orders p (length s.dossier.wishes) c.index-claims.result.now row
           refl;
-      opens = c.requires.opens;
       alone =
           row_alone s (rw c.marks.ensures.marks at c.marks.ensures.one_each) c.args.opens.now c.requires.waits
           orders p c.index-claims.result.now row;

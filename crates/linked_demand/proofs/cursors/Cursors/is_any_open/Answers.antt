@@ -8,4 +8,4 @@ returns-then-at-claim c =
     let claim = c.args.claim.now in
     let at = c.next_open-at.result in
     sym (any_behind (λ k. get_or c.args.opens.now k false) claim c.from-from.result
-    (sym c.next_open-at.ensures.open ∙ lt-ltb at (length claim) c.if-at-claim.true))
+    (sym c.next_open-at.ensures ∙ lt-ltb at (length claim) c.if-at-claim.true))

@@ -1,12 +1,11 @@
-use Rattle.std.proofs.Common.{◌≡◌, ℕ, ◌+◌, ◌<◌, Bool, List, [], arith, ap, length, drop, refl, sym, ◌∙◌, get_or, false}
+use Rattle.std.proofs.Common.{◌≡◌, ℕ, ◌+◌, Bool, List, [], arith, ap, length, drop, refl, sym, ◌∙◌, get_or, false}
 use Rattle.std.proofs.Common.{slice_set, subst}
-use Rattle.std.specs.Prelude.{All, if◌then◌else◌}
-use Rattle.std.proofs.lemmas.List.{length-set}
+use Rattle.std.specs.Prelude.{if◌then◌else◌}
 use Rattle.linked_demand.specs.Line.{last_new, next}
 use Rattle.linked_demand.specs.Links.{AllOpenWait, LinksRow}
 use Rattle.linked_demand.specs.Wants.{claim_at, wants_along, AllNeedSeatAlone}
 use Rattle.linked_demand.proofs.Closing.{wish_within, programme_within, claims_each, row_within}
-use Rattle.linked_demand.proofs.Items.{closes_item, item_claim, item_reads, item_single, item_stands}
+use Rattle.linked_demand.proofs.Items.{closes_item, item_reads, item_single, item_stands}
 use Rattle.linked_demand.proofs.Leaving.{before_within, front_moved, reached_each, reach_put, row_below, row_still}
 use Rattle.linked_demand.proofs.Ticking.{fresh_fits, told_front}
 use Rattle.linked_demand.proofs.links.SeatLinks.close.Goals as goal
@@ -18,14 +17,10 @@ leaves_by_closing-leaves-requires g c =
     let at = item_stands links c.args.self.now c.self.view_is c.args.item c.requires.waits c.requires.item in
     let row = c.index-claims.result.now in
     let claim = get_or row c.args.item.place [] in
-    let P = λ (n : ℕ). All (λ v. v < n) claim in
     record {
       wish = wish_within k;
       opens = links.opens_each;
       place = row_within k c.args.item.place at row c.index-claims.ensures;
-      claim = subst P (sym links.opens_each)
-          (item_claim links c.args.self.now c.self.view_is c.args.item c.requires.waits c.requires.item
-          row c.index-claims.ensures claim refl);
       alone = item_single links c.args.self.now c.self.view_is c.args.item c.requires.waits c.requires.item row
           c.index-claims.ensures claim refl;
     }
@@ -59,12 +54,6 @@ reached_after-now-requires g c =
     record {
       from = before_within reads;
       claims = row_below reads;
-      opens = omega (
-        arith,
-        ap length c.leaves_by_closing-leaves.ensures.opens,
-        length-set c.self.inside.opens c.args.item.wish false,
-        c.self.invariant.reach.links.opens_each,
-      );
       alone = subst Q (sym c.leaves_by_closing-leaves.ensures.opens)
           (row_still reads (subst P (sym c.self.view_is) c.requires.open_wait));
     }
@@ -80,12 +69,6 @@ fresh_claim-fresh-requires g c =
     record {
       reached = c.reached_after-now.ensures.within;
       claims = row_below reads;
-      opens = omega (
-        arith,
-        ap length c.leaves_by_closing-leaves.ensures.opens,
-        length-set c.self.inside.opens c.args.item.wish false,
-        c.self.invariant.reach.links.opens_each,
-      );
       alone = subst Q (sym c.leaves_by_closing-leaves.ensures.opens)
           (row_still reads (subst P (sym c.self.view_is) c.requires.open_wait));
     }
@@ -109,12 +92,6 @@ note_fresh-requires g c =
           c.reached_after-now.ensures.within flags c.fresh_claim-fresh.result.now c.fresh_claim-fresh.ensures
           (length s.dossier.wishes) refl;
       bars = c.requires.bars ∙ schools;
-      opens = omega (
-        arith,
-        ap length c.leaves_by_closing-leaves.ensures.opens,
-        length-set r.opens c.args.item.wish false,
-        c.self.invariant.reach.links.opens_each,
-      );
       marked = c.requires.marked ∙ ap (λ (l : LinksRow). length l.state.dossier.wishes) (sym c.self.view_is);
     }
 

@@ -15,12 +15,8 @@ list_sure-requires c =
     let r = c.self.inside in
     let d = r.state.now.dossier in
     let kept = c.self.invariant in
-    record {
-      wishes =
-          passing_within (may_need_no_seat d r.orders.now.orders) (length d.wishes) c.deref.result.now
-          (c.deref.ensures.value ∙ kept.in_doubt_are);
-      opens = kept.reach.links.opens_each;
-    }
+    passing_within (may_need_no_seat d r.orders.now.orders) (length d.wishes) c.deref.result.now
+    (c.deref.ensures.value ∙ kept.in_doubt_are)
 
 pub list_fronts-requires : goal.list_fronts-requires
 list_fronts-requires c = rw (c.deref-2.ensures.value, c.deref-3.ensures.value) (fronts c.self.invariant.reach)
