@@ -101,6 +101,6 @@ pub stops_school : {X : Type 0} (orders : List CallOrder) (ceilings : List ℕ) 
     → IfErr result (StopsAt (length morning.dossier.schools))
 stops_school orders ceilings day morning chain (Ok x) as_many found = tt
 stops_school orders ceilings day morning chain (Err stop.OutOfMemory) as_many found = tt
-stops_school orders ceilings day morning chain (Err (stop.Rejected row reason)) as_many found =
-    subst (λ n. KeepsSchool n reason) as_many (subst (Tells (length ceilings)) found
+stops_school orders ceilings day morning chain (Err (stop.Rejected told)) as_many found =
+    subst (λ n. KeepsSchool n told.reason) as_many (subst (Tells (length ceilings)) found
     (passes_tell orders ceilings day chain.next_row 1 morning chain.passes))

@@ -326,7 +326,7 @@ stops_unknown s orders ceilings bars index line are as_many none =
 pub stops_at : (found : CheckStop) (fault rest all : Option (ℕ × CheckReason)) → all ≡ option_or fault rest
     → Stops found fault → Stops found all
 stops_at stop.OutOfMemory fault rest all is stops = tt
-stops_at (stop.Rejected row reason) fault rest all is stops = is ∙ ap (λ o. option_or o rest) stops
+stops_at (stop.Rejected told) fault rest all is stops = is ∙ ap (λ o. option_or o rest) stops
 
 pub goes_on : (fault rest all : Option (ℕ × CheckReason)) → all ≡ option_or fault rest → fault ≡ None → all ≡ rest
 goes_on fault rest all is none = is ∙ ap (λ o. option_or o rest) none

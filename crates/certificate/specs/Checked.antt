@@ -18,7 +18,7 @@ ids_in d = record { wishes = map (λ w. w.id) d.wishes; schools = map (λ h. h.i
 -- a check that stopped found this fault, unless memory ran out
 abbrev pub Stops : CheckStop → Option (ℕ × CheckReason) → Type 0
 Stops stop.OutOfMemory fault = Unit {0}
-Stops (stop.Rejected row reason) fault = fault ≡ Some (row, reason)
+Stops (stop.Rejected found) fault = fault ≡ Some (found.row, found.reason)
 
 -- a check that went through found none
 abbrev pub Finds : {X : Type 0} → Result X CheckStop → Option (ℕ × CheckReason) → Type 0

@@ -8,7 +8,6 @@ pub mod ChainText
 pub mod Written
 pub mod ProvedDays
 pub mod Checked
-pub mod Desks
 pub mod PassTests
 pub mod Counted
 pub mod Verdicts

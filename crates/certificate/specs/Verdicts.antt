@@ -1,6 +1,7 @@
 -- What a verdict tells.
-use Rattle.std.specs.Prelude.{ℕ, ◌<◌, Option, Some, None}
+use Rattle.std.specs.Prelude.{ℕ, ◌<◌, Option, Some, None, length, nat_eq, cond}
 use Rattle.admit_core.specs.declared.chain.CheckReason.{CheckReason}
+use Rattle.admit_core.specs.declared.chain.DayChain.{DayChain}
 use Rattle.admit_core.specs.declared.chain.CheckReason.TheVariants.{NotOver, WrongWishes, WrongBar, StillOver}
 use Rattle.admit_core.specs.declared.chain.CheckReason.TheVariants.{PassMissing, PassExtra}
 use Rattle.admit_core.specs.State.{State}
@@ -13,6 +14,12 @@ use Rattle.certificate.specs.declared.stop.CheckStop.TheVariants as stop
 abbrev pub fault_told : Verdict → Option (ℕ × CheckReason)
 fault_told (Proved evening) = None
 fault_told (Rejected row reason) = Some (row, reason)
+
+-- the verdict on a day that has no pass
+abbrev pub missing : DayChain → Option Verdict
+missing chain =
+    cond (nat_eq (length chain.passes) 0)
+    (Some (Rejected chain.next_row PassMissing)) None
 
 -- where a day is proved, its evening is one of these
 abbrev pub IfProved : Verdict → (State → Type 0) → Type 0
@@ -35,5 +42,5 @@ IfRejected (Rejected row reason) P = P reason
 
 -- a school that a check keeps where it stops is one of so many
 abbrev pub StopsAt : ℕ → CheckStop → Type 0
-StopsAt schools (stop.Rejected row reason) = KeepsSchool schools reason
+StopsAt schools (stop.Rejected found) = KeepsSchool schools found.reason
 StopsAt schools stop.OutOfMemory = Unit {0}

@@ -1,17 +1,19 @@
 //! Whether the chain of a day is valid.
-ghost use Rattle.std.specs.Prelude.{◌≡◌, ◌<◌, ◌^◌, IfErr, IfOk, OnOk, length};
+ghost use Rattle.std.specs.Prelude.{◌≡◌, ◌≢◌, ◌<◌, ◌^◌, [], Err, IfErr, IfOk, IsOk, OnOk, length};
 ghost use Rattle.admit_core.specs.CallOrder.{AreCallOrders};
 ghost use Rattle.admit_core.specs.ChainLaws.{passes_told};
 ghost use Rattle.admit_core.specs.Chains.{IsDayChain, day_fault};
 ghost use Rattle.admit_core.specs.Days.{Passes};
 ghost use Rattle.certificate.specs.Checked.{Finds, ids_in};
-ghost use Rattle.certificate.specs.Verdicts.{IfProved, IfRejected, KeepsSchool, StopsAt, fault_told};
+ghost use Rattle.certificate.specs.Verdicts.{IfProved, IfRejected, KeepsSchool, StopsAt, fault_told, missing};
+ghost use Rattle.certificate.specs.declared.stop.CheckStop.TheVariants as stops;
 
-use crate::desk::CheckDesk;
 use crate::grounds::Grounds;
+use crate::passes::check_passes;
 use crate::stop::CheckStop;
 use admit_core::{CallOrders, CheckReason, DayChain, OutOfMemory, laws_of_chains};
 use day_state::DayState;
+use desk_day::Present;
 use dossier_check::Index;
 use linked_demand::Roster;
 use std::alloc::Global;
@@ -49,11 +51,17 @@ pub fn check_day<'d>(
     ensures valid { IfOk result (λ v.
         IfProved v (IsDayChain orders.now.orders ceilings.now day morning.now chain.now)) }
 
+    // A day without a pass is rejected without memory.
+    ensures always { chain.now.passes ≡ [] → IsOk result }
+
     // The chain tells the passes of the rules: the last bars of each are the greatest.
     ensures greatest { IfOk result (λ v.
         IfProved v (Passes orders.now.orders ceilings.now day 1 morning.now
         (passes_told orders.now.orders ceilings.now day 1 morning.now chain.now.passes))) }
 {
+    if let Some(verdict) = missing(chain) {
+        return Ok(verdict);
+    }
     let roster = Roster::build(alloc, morning, orders)?;
     let grounds = Grounds::along(&roster, index);
     check_day_along(alloc, &grounds, morning, ceilings, day, chain)
@@ -78,47 +86,66 @@ pub fn check_day_along<'d>(
         IfRejected v (KeepsSchool (length morning.now.dossier.schools))) }
     ensures valid { IfOk result (λ v.
         IfProved v (IsDayChain grounds.now.orders ceilings.now day morning.now chain.now)) }
+    ensures always { chain.now.passes ≡ [] → IsOk result }
     ensures greatest { IfOk result (λ v.
         IfProved v (Passes grounds.now.orders ceilings.now day 1 morning.now
         (passes_told grounds.now.orders ceilings.now day 1 morning.now chain.now.passes))) }
 {
-    let state = morning.copy(alloc)?;
-    let mut desk = CheckDesk::begin(alloc, state);
-    match desk.check_day(alloc, grounds, ceilings, day, chain) {
+    if let Some(verdict) = missing(chain) {
+        return Ok(verdict);
+    }
+    let mut present = Present::begin(morning.copy(alloc)?);
+    match check_day_on(alloc, grounds, &mut present, ceilings, day, chain) {
         Ok(()) => Ok(Verdict::Proved {
-            evening: desk.into_now(),
+            evening: present.into_now(),
         }),
-        Err(CheckStop::Rejected(row, reason)) => Ok(Verdict::Rejected { row, reason }),
+        Err(CheckStop::Rejected(found)) => Ok(Verdict::Rejected {
+            row: found.row,
+            reason: found.reason,
+        }),
         Err(CheckStop::OutOfMemory) => Err(OutOfMemory),
     }
 }
 
-impl CheckDesk<'_> {
-    /// Tests the chain of a day from its morning on, in which the desk is, and leaves the evening
-    /// of the day. Where the check stops, the desk may be in the midst of the day.
-    pub fn check_day(
-        &mut self,
-        alloc: Global,
-        grounds: &Grounds<'_, '_>,
-        ceilings: &[u32],
-        day: u32,
-        chain: &DayChain,
-    ) -> Result<(), CheckStop>
-        requires same { grounds.now.dossier ≡ self.old.dossier }
-        requires ceilings { length ceilings.now ≡ length self.old.dossier.schools }
-        requires passes { length chain.now.passes < 2 ^ 32 }
-
-        ensures found { Finds result
-            (day_fault grounds.now.orders ceilings.now day self.old chain.now) }
-        ensures valid { OnOk result
-            (IsDayChain grounds.now.orders ceilings.now day self.old chain.now self.new) }
-        ensures greatest { OnOk result (Passes grounds.now.orders ceilings.now day 1 self.old
-            (passes_told grounds.now.orders ceilings.now day 1 self.old chain.now.passes)
-            self.new) }
-        ensures school { IfErr result (StopsAt (length self.old.dossier.schools)) }
-        ensures dossier { self.new.dossier ≡ self.old.dossier }
-    {
-        laws_of_chains();
-        self.check_passes(alloc, grounds, ceilings, day, chain)
+/// The verdict on a day that has no pass.
+fn missing<'d>(chain: &DayChain) -> Option<Verdict<'d>>
+    ensures { result ≡ missing chain.now }
+{
+    if chain.passes.is_empty() {
+        Some(Verdict::Rejected {
+            row: chain.next_row,
+            reason: CheckReason::PassMissing,
+        })
+    } else {
+        None
     }
+}
+
+/// Tests the chain of a day from its morning on, which is the present state, and leaves the evening
+/// of the day. Where the check stops, the state may be in the midst of the day.
+pub fn check_day_on(
+    alloc: Global,
+    grounds: &Grounds<'_, '_>,
+    present: &mut Present<'_>,
+    ceilings: &[u32],
+    day: u32,
+    chain: &DayChain,
+) -> Result<(), CheckStop>
+    requires same { grounds.now.dossier ≡ present.old.dossier }
+    requires ceilings { length ceilings.now ≡ length present.old.dossier.schools }
+    requires passes { length chain.now.passes < 2 ^ 32 }
+
+    ensures found { Finds result
+        (day_fault grounds.now.orders ceilings.now day present.old chain.now) }
+    ensures valid { OnOk result
+        (IsDayChain grounds.now.orders ceilings.now day present.old chain.now present.new) }
+    ensures greatest { OnOk result (Passes grounds.now.orders ceilings.now day 1 present.old
+        (passes_told grounds.now.orders ceilings.now day 1 present.old chain.now.passes)
+        present.new) }
+    ensures memory { result ≡ Err stops.OutOfMemory → chain.now.passes ≢ [] }
+    ensures school { IfErr result (StopsAt (length present.old.dossier.schools)) }
+    ensures dossier { present.new.dossier ≡ present.old.dossier }
+{
+    laws_of_chains();
+    check_passes(alloc, grounds, present, ceilings, day, chain)
 }

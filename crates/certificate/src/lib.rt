@@ -4,14 +4,13 @@
 //!
 //! `let verdict = check_day(alloc, &index, &orders, &morning, ceilings, day, chain)?;`, or for many
 //! days `let grounds = Grounds::along(&roster, &index);` and
-//! `let mut desk = CheckDesk::begin(alloc, first);`, and then, day by day,
-//! `desk.make_morning(alloc, terms, day)?;` and
-//! `desk.check_day(alloc, &grounds, ceilings, day, chain)?;`.
+//! `let mut present = Present::begin(first);`, and then, day by day,
+//! `present.begin_day(alloc, terms, day)?;` and
+//! `check_day_on(alloc, &grounds, &mut present, ceilings, day, chain)?;`.
 #![tactic(auto)]
 
 mod check;
 mod cut;
-mod desk;
 mod falls;
 mod fault;
 mod grounds;
@@ -27,12 +26,11 @@ mod texts;
 mod worked;
 mod write;
 
-pub use check::{Verdict, check_day, check_day_along};
-pub use desk::CheckDesk;
+pub use check::{Verdict, check_day, check_day_along, check_day_on};
 pub use grounds::Grounds;
 pub use read::read_chain;
 pub use refusal::ChainRefusal;
-pub use stop::CheckStop;
+pub use stop::{CheckStop, Rejection};
 pub use texts::{chain_fault_text, verdict_text};
 pub use worked::worked_chain_texts;
 pub use write::write_chain;

@@ -2,11 +2,19 @@
 use admit_core::{CheckReason, OutOfMemory};
 use std::alloc::AllocError;
 
+/// The first fault of a day's chain.
+#[derive(Clone, Copy)]
+pub struct Rejection {
+    /// The row of the chain where it stands.
+    pub row: u64,
+    pub reason: CheckReason,
+}
+
 /// Why a check ends early.
 #[derive(Clone, Copy)]
 pub enum CheckStop {
-    /// The row of the first fault, and its reason.
-    Rejected(u64, CheckReason),
+    /// The chain is not valid.
+    Rejected(Rejection),
     /// There was no memory.
     OutOfMemory,
 }

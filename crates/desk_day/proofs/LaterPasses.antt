@@ -16,7 +16,7 @@ use Rattle.admit_core.specs.Lists.{is_among}
 use Rattle.admit_core.specs.State.{State, entries, changed_to}
 use Rattle.admit_core.specs.Proposals.{is_proposed, proposed}
 use Rattle.admit_core.specs.AutoAnswer.{auto_all}
-use Rattle.admit_core.specs.Days.{offered, closing}
+use Rattle.admit_core.specs.Days.{offered}
 use Rattle.admit_core.proofs.Tests.{among-map}
 use Rattle.day_state.specs.Kept.{mark_in}
 use Rattle.day_state.specs.Along.{change_along}
@@ -24,7 +24,6 @@ use Rattle.day_state.proofs.Along.{along_at, length-with_marks, same_marks, same
 use Rattle.day_state.proofs.Independence.{Agrees}
 use Rattle.day_state.proofs.Places.{candidate_in}
 use Rattle.auto_answer.specs.Laws.{SameOthers, AreAnsweredBut, SameOwnMarks}
-use Rattle.auto_answer.proofs.Again.{answered_once}
 use Rattle.auto_answer.proofs.Answering.{all_mark, turned, joined, all_both}
 use Rattle.auto_answer.proofs.LawsOfAnswers.{agrees, same_own}
 use Rattle.round.proofs.Offering.{apart_places, offers_made, proposed_are_wishes}
@@ -90,10 +89,6 @@ module _ (s : State) (orders : List CallOrder) (bars : List ℕ) (stamp : Stamp)
         let parts = in_neither (candidate_of s.dossier) c beside (proposed s orders bars) none in
         same_own c s (auto_all after stamp) (not_changed c (answered c parts.0) parts.1)
 
-  -- after the automatic answers all have been answered for
-  pub closing_answered : IsAnswered (closing s orders bars stamp)
-  closing_answered again = answered_once after stamp (length-with_marks offer s long ∙ long) again
-
 -- the same of the states and the offers that a pass has left
 pub offers_within : (s t : State) (orders : List CallOrder) (bars offers : List ℕ) → t.dossier ≡ s.dossier
     → offers ≡ proposed s orders bars
@@ -119,27 +114,11 @@ same_but s off close opening orders bars beside offers asked stamp long off_is c
     rw (opening_is, close_is, off_is, asked_are, are) (others_same s orders bars stamp long beside answered)
 
 -- the opening of a pass, and what its steps lead to
-offered_there : (s opening : State) (orders : List CallOrder) (bars offers : List ℕ) (stamp : Stamp)
+pub offered_there : (s opening : State) (orders : List CallOrder) (bars offers : List ℕ) (stamp : Stamp)
     → length s.marks ≡ length s.dossier.wishes
     → opening ≡ s → offers ≡ proposed s orders bars → offered_along offers stamp opening ≡ offered s orders bars stamp
 offered_there s opening orders bars offers stamp long opening_is are =
     rw (opening_is, are) (offers_made s orders bars stamp long)
-
-pub steps_taken : (s opening close : State) (orders : List CallOrder) (bars offers : List ℕ) (stamp : Stamp)
-    → length s.marks ≡ length s.dossier.wishes
-    → opening ≡ s → close ≡ closing s orders bars stamp → offers ≡ proposed s orders bars
-    → close ≡ auto_all (offered_along offers stamp opening) stamp
-steps_taken s opening close orders bars offers stamp long opening_is close_is are =
-    close_is ∙ ap (λ (t : State). auto_all t stamp)
-    (sym (offered_there s opening orders bars offers stamp long opening_is are))
-
-pub answered_along : (s opening : State) (orders : List CallOrder) (bars beside offers asked : List ℕ) (stamp : Stamp)
-    → length s.marks ≡ length s.dossier.wishes
-    → opening ≡ s → offers ≡ proposed s orders bars → asked ≡ beside ++ offers → AreAnsweredBut beside s stamp
-    → AreAnsweredBut asked (offered_along offers stamp opening) stamp
-answered_along s opening orders bars beside offers asked stamp long opening_is are asked_are answered =
-    answered_but s (offered_along offers stamp opening) orders bars beside offers asked stamp long
-    (offered_there s opening orders bars offers stamp long opening_is are) are asked_are answered
 
 -- where all have been answered for, no wish has to be named
 pub answered_all : (s : State) → IsAnswered s → (none : List ℕ) → IsAnsweredBut none s

@@ -1,7 +1,7 @@
 -- Reading order. Each file says in its first line what it shows.
 -- The morning: LatestCeilings, LastBars, DaysAnswers, Listed, LapsedOffers, Touching.
 -- A pass and its answers: OnePass, ChangedMarks, BesideChanges, OnceEach, MarkPairs.
--- Passes one after another: LaterPasses (who need not be asked again), PassesSoFar, PassEnds.
+-- Passes one after another: LaterPasses (who need not be asked again), WhoIsAsked, PassesSoFar, PassEnds.
 -- The whole day: DayEnds, DayPlaces, Stamps, SameDossier, IdleDays (nothing happens).
 -- What is kept of passes and of days: KeptPasses, KeptDays. Where memory ran out: ToldPasses.
 -- Laws of days: SameDays, DayLaws.
@@ -29,3 +29,4 @@ pub mod IdleDays
 pub mod KeptPasses
 pub mod ToldPasses
 pub mod KeptDays
+pub mod WhoIsAsked

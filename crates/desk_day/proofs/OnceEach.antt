@@ -1,5 +1,5 @@
 -- Lists that have wishes of the same candidates.
-use Rattle.std.proofs.Common.{ℕ, ◌<◌, ◌≡◌, Bool, true, List, [], ◌∷◌, ◌++◌, filter, map, length, get_or, sym}
+use Rattle.std.proofs.Common.{ℕ, ◌<◌, ◌≡◌, Bool, true, List, [], ◌∷◌, filter, map, length, get_or, sym}
 use Rattle.std.proofs.Common.{◌+◌, ◌∙◌, ap, arith, nat_eq, inl, inr, eqb, refl, subst}
 use Rattle.std.specs.Prelude.{All, Contains, ◌==◌, slice_index}
 use Rattle.std.specs.List.{list_any, dedup, range_with_len}
@@ -9,7 +9,7 @@ use Rattle.std.specs.Ordering.{nat_cmp}
 use Rattle.std.proofs.Math.ListN.{set}
 use Rattle.std.proofs.Math.Seq.{map-set_same}
 use Rattle.std.proofs.lemmas.List.{get_or-set_other, get_or-set_same, length-set}
-use Rattle.std.proofs.lemmas.List.Elements.{All-append, All-cons}
+use Rattle.std.proofs.lemmas.List.Elements.{All-cons}
 use Rattle.std.proofs.lemmas.List.Filters.{All-dedup}
 use Rattle.std.proofs.lemmas.List.Folds.{Any-from_list_any, list_any_at}
 use Rattle.std.proofs.lemmas.List.Kept.{AllPairs-from_increasing, Contains-dedup_nat, Contains-from_dedup}
@@ -164,29 +164,6 @@ of_one_each d firsts sorted once are moved in_order once_is =
       all j e within,
       ap (λ c. slice_index (own_places d c) 0) same,
     ))
-
--- the same of the wishes of a pass
-pub names_itself : (d : DossierRows) (old offers now : List ℕ) → AreWishesOf d old → AreWishesOf d offers
-    → now ≡ old ++ offers
-    → NamesSame d (old ++ offers) now
-names_itself d old offers now within offers_within is = record {
-  within = rw is (All-append (λ (k : ℕ). k < length d.wishes) old offers within offers_within);
-  same = λ c. ap (λ (l : List ℕ). is_among c (map (candidate_of d) l)) is;
-}
-
--- the same where the list is read again, in the words of another state of the dossier
-pub names_there : (d e : DossierRows) (old new read : List ℕ) → d ≡ e → read ≡ new → NamesSame d old new
-    → NamesSame e old read
-names_there d e old new read same is names =
-    let P = λ (c : DossierRows). NamesSame c old read in
-    subst P same (rw is names)
-
-pub names_of_offers : (d e : DossierRows) (beside offers made new : List ℕ) → d ≡ e → offers ≡ made
-    → NamesSame d (beside ++ offers) new
-    → NamesSame e (beside ++ made) new
-names_of_offers d e beside offers made new same are names =
-    let P = λ (c : DossierRows). NamesSame c (beside ++ made) new in
-    subst P same (rw are at names)
 
 -- and in the state that offers lead to
 pub names_along : (s : State) (offers : List ℕ) (stamp : Stamp) (old new : List ℕ) → NamesSame s.dossier old new

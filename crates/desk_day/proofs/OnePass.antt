@@ -33,11 +33,6 @@ pub closed : (s off close : State) (orders : List CallOrder) (bars : List ℕ) (
     → off ≡ offered s orders bars stamp → close ≡ auto_all off stamp → close ≡ closing s orders bars stamp
 closed s off close orders bars stamp off_is close_is = close_is ∙ ap (λ t. auto_all t stamp) off_is
 
-pub closed_dossier : (s off close : State) (orders : List CallOrder) (bars : List ℕ) (stamp : Stamp)
-    → off ≡ offered s orders bars stamp → close ≡ auto_all off stamp → close.dossier ≡ s.dossier
-closed_dossier s off close orders bars stamp off_is close_is =
-    ap (λ (t : State). t.dossier) (closed s off close orders bars stamp off_is close_is)
-
 pub pass_ended : (s off close opening : State) (orders : List CallOrder) (ceilings : List ℕ) (stamp : Stamp)
     (pass : PassRecord)
     (autos : List Change) (all : Freed)

@@ -102,12 +102,12 @@ module _ (orders : List CallOrder) (ceilings : List ℕ) (day : ℕ) (choice : L
       subst P (sym told_of) (told_all 1 s told passes evening are chosen)
 
 -- the same of a state that is seen as this one
-pub told_seen : (seen now : RunningStates) → seen ≡ now → (orders : List CallOrder) (ceilings : List ℕ)
+pub told_seen : (seen now : State) → seen ≡ now → (orders : List CallOrder) (ceilings : List ℕ)
     (choice : List ℕ → List ℕ → ℕ) (told told_after : List ℕ)
-    → TellsOfFalls (boarding seen.present orders ceilings) choice told told_after
-    → TellsOfFalls (boarding now.present orders ceilings) choice told told_after
+    → TellsOfFalls (boarding seen orders ceilings) choice told told_after
+    → TellsOfFalls (boarding now orders ceilings) choice told told_after
 told_seen seen now same orders ceilings choice told told_after =
-    subst (λ (r : RunningStates). TellsOfFalls (boarding r.present orders ceilings) choice told told_after) same
+    subst (λ (s : State). TellsOfFalls (boarding s orders ceilings) choice told told_after) same
 
 pub told_there : (s t : State) → s ≡ t → (orders : List CallOrder) (ceilings : List ℕ) (day : ℕ)
     (choice : List ℕ → List ℕ → ℕ) (told told_after : List ℕ)

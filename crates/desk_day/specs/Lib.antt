@@ -2,6 +2,7 @@ pub mod AnswersOn
 pub mod Changes
 pub mod DayPasses
 pub mod Touched
+pub mod Unanswered
 pub mod DeskStates
 pub mod Evening
 pub mod Ceilings

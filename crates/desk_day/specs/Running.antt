@@ -19,13 +19,9 @@ pub record RunningStates : Type 0 where
   pub present : State
   pub opening : State
 
--- both are of one dossier, and so are some wishes. Where that is known, all have been answered for
--- in the present state but maybe those who have one of these wishes, or the opening is that state
-pub record IsRunning (is_answered is_alike : Bool) (beside : List ℕ)
-    (s : RunningStates) : Type 0 where
+-- both are of one dossier, and the same where that is known
+pub record IsRunning (is_alike : Bool) (s : RunningStates) : Type 0 where
   pub dossier : s.opening.dossier ≡ s.present.dossier
-  pub within : AreWishesOf s.present.dossier beside
-  pub answered : is_answered ≡ true → IsAnsweredBut beside s.present
   pub alike : is_alike ≡ true → s.opening ≡ s.present
 
 -- the opening after a pass: its own where it freed nothing, since it is the last one then, and
@@ -59,16 +55,18 @@ moment_on running evening told choice = record {
   choice = choice;
 }
 
--- the lapse and the answers of a day have been made: these offers lapsed, and only those who have
--- one of these wishes may have changed
-pub record IsBegun (terms : Option Terms) (day : ℕ) (old new : State) (lapsed : List Lapse)
-    (beside : List ℕ) : Type 0 where
+-- the lapse and the answers of a day have been made, and these offers lapsed
+pub record IsBegun (terms : Option Terms) (day : ℕ) (old new : State)
+    (lapsed : List Lapse) : Type 0 where
   pub lapses : lapsed ≡ lapsed_on terms day old
   pub fits : unfit_on terms day old ≡ None
   pub state : new ≡ morning terms day old
-  pub within : AreWishesOf new.dossier beside
-  pub answered : IsAnswered old → IsAnsweredBut beside new
-  pub alike : beside ≡ [] → new ≡ old
+
+-- only those who have one of these wishes may have changed, and have to be answered for
+pub record TouchesOnly (touched : List ℕ) (old new : State) : Type 0 where
+  pub within : AreWishesOf new.dossier touched
+  pub answered : IsAnswered old → IsAnsweredBut touched new
+  pub alike : touched ≡ [] → new ≡ old
 
 -- why a day has not come about, and what its picker told and its last pass opened with by then
 pub record IsUndone (terms : Option Terms) (orders : List CallOrder) (ceilings : List ℕ) (day : ℕ)

@@ -7,21 +7,18 @@ ghost use Rattle.admit_core.specs.Lapses.{AreTermsFor};
 ghost use Rattle.desk_day.specs.AnswersOn.{IsUnfitOf};
 ghost use Rattle.desk_day.specs.KeptDays.{EndsDayKept, kept_day};
 ghost use Rattle.desk_day.specs.RunDay.{EndsDay, IsDayDone};
-ghost use Rattle.desk_day.specs.Running.{IsBegun, IsUndone, moment_on};
+ghost use Rattle.desk_day.specs.Running.{IsUndone, moment_on};
 ghost use Rattle.round.specs.KeptFalls.{IsKeptOf, are_kept};
 
 use crate::desk::{Desk, keep_evening};
 use crate::evening::record_day;
 use crate::idle::is_idle;
-use crate::lapses::lapses_by;
-use crate::morning::make_morning;
 use crate::plan::DayPlan;
+use crate::present::Begun;
 use crate::refusal::DayRefusal;
 use crate::running::Running;
-use crate::touched::list_touched;
 use admit_core::{DayRecord, Lapse, Terms};
 use bar_fixpoint::Picker;
-use day_state::DayState;
 use linked_demand::Roster;
 use round::Falls;
 use std::alloc::Global;
@@ -149,48 +146,10 @@ impl Running<'_> {
         ensures opening { self.new.opening ≡ self.old.opening }
         ensures dossier { self.new.present.dossier ≡ self.old.present.dossier }
     {
-        let was_settled = self.is_settled();
         let was_alike = self.is_alike;
-        self.is_answered = false;
         self.is_alike = false;
-        let Begun { lapsed, beside } = begin_day(alloc, &mut self.present, terms, day)?;
-        self.is_alike = was_alike & beside.as_slice().is_empty();
-        self.is_answered = was_settled;
-        self.beside = beside;
+        let Begun { lapsed, is_alike } = self.present.begin_day(alloc, terms, day)?;
+        self.is_alike = was_alike & is_alike;
         Ok(lapsed)
     }
-}
-
-/// What the lapse and the answers of a day did.
-#[derive(Drop)]
-pub struct Begun {
-    /// The offers that lapsed.
-    pub lapsed: Vec<Lapse>,
-    /// Wishes of those whom the lapse and the answers may have changed.
-    pub beside: Vec<u32>,
-}
-
-/// Makes the lapse and the answers of a day. A refusal may come in the midst of the answers.
-/// Whether they fit is found without memory: one that does not is never told as want of it.
-pub fn begin_day(
-    alloc: Global,
-    state: &mut DayState<'_>,
-    terms: Option<&Terms>,
-    day: u32,
-) -> Result<Begun, DayRefusal>
-    requires before { AreTermsFor state.old.dossier (option_copied terms) }
-    requires day { IsDayNumber day }
-
-    ensures begun { IfOk result (λ begun. IsBegun (option_copied terms.entry) day state.old
-        state.new begun.lapsed.items begun.beside.items) }
-    ensures unfit { IfErr result
-        (IsUnfitOf state.old.dossier day (unfit_on (option_copied terms.entry) day state.old)) }
-    ensures dossier { state.new.dossier ≡ state.old.dossier }
-{
-    let _ = state.marks(); // one for each wish
-    let lapsed = lapses_by(alloc, state, terms, day);
-    make_morning(state, terms, day)?;
-    let lapsed = lapsed?;
-    let beside = list_touched(alloc, state, lapsed.as_slice(), day)?;
-    Ok(Begun { lapsed, beside })
 }

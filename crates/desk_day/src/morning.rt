@@ -1,15 +1,20 @@
 //! The state in which the passes of a day begin.
-ghost use Rattle.std.specs.Prelude.{◌≡◌, None, OnOk, IfErr};
+ghost use Rattle.std.specs.Prelude.{◌≡◌, None, OnOk, IfErr, IfOk};
 ghost use Rattle.std.specs.Option.{option_copied, IsSomeAnd};
 ghost use Rattle.admit_core.specs.Days.{after_lapse, morning, unfit_on};
 ghost use Rattle.admit_core.specs.Lapses.{AreTermsFor};
-ghost use Rattle.desk_day.specs.AnswersOn.{unfit_refusal};
+ghost use Rattle.admit_core.specs.Ranges.{IsDay as IsDayNumber};
+ghost use Rattle.desk_day.specs.AnswersOn.{IsUnfitOf, unfit_refusal};
+ghost use Rattle.desk_day.specs.Running.{IsBegun, TouchesOnly};
 ghost use Rattle.desk_day.specs.declared.refusal.DayRefusal.TheVariants as refusals;
 
 use crate::answers_on::answer;
+use crate::lapses::lapses_by;
 use crate::refusal::DayRefusal;
-use admit_core::Terms;
+use crate::touched::list_touched;
+use admit_core::{Lapse, Terms};
 use day_state::DayState;
+use std::alloc::Global;
 
 /// Ends the offers whose deadline has passed, where terms are given.
 fn lapse(state: &mut DayState<'_>, terms: Option<&Terms>, day: u32)
@@ -41,4 +46,31 @@ pub fn make_morning(
 {
     lapse(state, terms, day);
     answer(state, day)
+}
+
+/// The same, with the offers that lapsed, and wishes of all whom the lapse and the answers may have
+/// changed. Whether the answers fit is found without memory: one that does not is never told as
+/// want of it.
+pub(crate) fn touch_morning(
+    alloc: Global,
+    state: &mut DayState<'_>,
+    terms: Option<&Terms>,
+    day: u32,
+) -> Result<(Vec<Lapse>, Vec<u32>), DayRefusal>
+    requires before { AreTermsFor state.old.dossier (option_copied terms) }
+    requires day { IsDayNumber day }
+
+    ensures begun { IfOk result (λ parts. IsBegun (option_copied terms.entry) day state.old
+        state.new parts.0.items) }
+    ensures touched { IfOk result (λ parts. TouchesOnly parts.1.items state.old state.new) }
+    ensures unfit { IfErr result
+        (IsUnfitOf state.old.dossier day (unfit_on (option_copied terms.entry) day state.old)) }
+    ensures dossier { state.new.dossier ≡ state.old.dossier }
+{
+    let _ = state.marks(); // one for each wish
+    let lapsed = lapses_by(alloc, state, terms, day);
+    make_morning(state, terms, day)?;
+    let lapsed = lapsed?;
+    let touched = list_touched(alloc, state, lapsed.as_slice(), day)?;
+    Ok((lapsed, touched))
 }

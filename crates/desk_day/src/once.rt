@@ -1,5 +1,5 @@
 //! Each candidate once, however many of their wishes are named.
-ghost use Rattle.std.specs.Prelude.{◌≡◌, ◌<◌, ◌+◌, ◌++◌, length, true, All, OnErr, OnOk, vec_capacity, vec_len};
+ghost use Rattle.std.specs.Prelude.{◌≡◌, ◌<◌, ◌+◌, ◌++◌, length, All, IfOk, OnErr, vec_capacity, vec_len};
 ghost use Rattle.admit_core.specs.DossierRows.{candidate_of};
 ghost use Rattle.desk_day.specs.DayPlaces.{AreWishesOf};
 ghost use Rattle.desk_day.specs.Once.{AreOfOneEach, NamesSame, first_own};
@@ -41,27 +41,22 @@ fn keep_once(places: &mut Vec<u32>, state: &DayState<'_>)
     places.dedup();
 }
 
-/// Adds the offers of a pass to the wishes of those whom it asks. Where they are to be gone
-/// through, one wish of each candidate is left.
-pub fn ask_beside(
-    places: &mut Vec<u32>,
+/// Adds the offers of a pass to the wishes of those whom it asks. One wish of each candidate is
+/// left.
+pub(crate) fn beside_offers(
+    places: Vec<u32>,
     state: &DayState<'_>,
     offers: &[u32],
-    is_answered: bool,
-) -> Result<(), AllocError>
-    requires places { AreWishesOf state.now.dossier places.old.items }
+) -> Result<Vec<u32>, AllocError>
+    requires places { AreWishesOf state.now.dossier places.items }
     requires offers { AreWishesOf state.now.dossier offers.now }
-    ensures names { OnOk result (NamesSame state.now.dossier (places.old.items ++ offers.now)
-        places.new.items) }
-    ensures once { is_answered ≡ true → OnOk result (AreOfOneEach state.now.dossier
-        places.new.items) }
-    ensures within { AreWishesOf state.now.dossier places.new.items }
-    ensures full { OnErr result
-        (vec_capacity places.old < vec_len places.old + length offers.now) }
+    ensures names { IfOk result (λ asked. NamesSame state.now.dossier (places.items ++ offers.now)
+        asked.items) }
+    ensures once { IfOk result (λ asked. AreOfOneEach state.now.dossier asked.items) }
+    ensures full { OnErr result (vec_capacity places < vec_len places + length offers.now) }
 {
-    places.extend_from_slice(offers)?;
-    if is_answered {
-        keep_once(places, state);
-    }
-    Ok(())
+    let mut asked = places;
+    asked.extend_from_slice(offers)?;
+    keep_once(&mut asked, state);
+    Ok(asked)
 }

@@ -6,7 +6,6 @@ ghost use Rattle.admit_core.specs.Lapses.{AreTermsFor};
 ghost use Rattle.desk_day.specs.AnswersOn.{IsUnfitOf};
 
 use crate::desk::{Desk, keep_evening};
-use crate::morning::make_morning;
 use crate::refusal::DayRefusal;
 use crate::running::Running;
 use admit_core::Terms;
@@ -21,12 +20,8 @@ impl Running<'_> {
         ensures opening { self.new.opening ≡ self.old.opening }
         ensures dossier { self.new.present.dossier ≡ self.old.present.dossier }
     {
-        self.is_answered = false;
         self.is_alike = false;
-        match make_morning(&mut self.present, terms, day) {
-            Ok(()) => DayRefusal::OutOfMemory,
-            Err(refusal) => refusal,
-        }
+        self.present.refuse(terms, day)
     }
 }
 

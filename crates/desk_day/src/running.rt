@@ -4,6 +4,7 @@ ghost use Rattle.admit_core.specs.Days.{first_evening};
 ghost use Rattle.desk_day.specs.DayPasses.{IsAnswered};
 ghost use Rattle.desk_day.specs.Running.{RunningStates};
 
+use crate::present::Present;
 use admit_core::{Dossier, OutOfMemory};
 use day_state::DayState;
 use std::alloc::Global;
@@ -11,15 +12,11 @@ use std::marker::Model;
 
 /// The present state of a dossier's wishes, and the opening of the last pass.
 ///
-/// Where `is_answered`, all have been answered for in the present state but those who have a wish
-/// in `beside`: the next pass then asks them and those with an offer, and no others. Where
-/// `is_alike`, the opening is the present state, and need not be copied from it. Neither is said
-/// while a pass is made.
+/// Where `is_alike`, the opening is the present state, and need not be copied from it. It is not
+/// said while a pass is made.
 pub(crate) struct Running<'d> {
-    pub(crate) present: DayState<'d>,
+    pub(crate) present: Present<'d>,
     pub(crate) opening: DayState<'d>,
-    pub(crate) beside: Vec<u32>,
-    pub(crate) is_answered: bool,
     pub(crate) is_alike: bool,
 }
 
@@ -29,8 +26,6 @@ impl Drop for Running<'_> {
         let Running {
             present: _,
             opening: _,
-            beside: _,
-            is_answered: _,
             is_alike: _,
         } = self;
     }
@@ -43,7 +38,7 @@ impl<'d> Model for Running<'d> {
 
     ghost view = { λ s. record { present = s.present; opening = s.opening } };
 
-    ghost invariant = { λ s. IsRunning s.is_answered s.is_alike s.beside.items
+    ghost invariant = { λ s. IsRunning s.is_alike
         (record { present = s.present; opening = s.opening }) };
 }
 
@@ -56,10 +51,8 @@ impl<'d> Running<'d> {
         let present = DayState::begin(alloc, dossier)?;
         let opening = present.copy(alloc)?;
         Ok(Running {
-            present,
+            present: Present::begin(present),
             opening,
-            beside: Vec::new(alloc),
-            is_answered: false,
             is_alike: true,
         })
     }
@@ -68,7 +61,7 @@ impl<'d> Running<'d> {
     pub(crate) fn now(&self) -> &DayState<'d>
         ensures { result.now ≡ self.now.present }
     {
-        &self.present
+        self.present.now()
     }
 
     /// The state in which the last pass began.
@@ -85,19 +78,16 @@ impl<'d> Running<'d> {
         let Running {
             present,
             opening: _,
-            beside: _,
-            is_answered: _,
             is_alike: _,
         } = self;
-        present
+        present.into_now()
     }
 
     /// Whether all are known to have been answered for.
     pub(crate) fn is_settled(&self) -> bool
         ensures { result ≡ true → IsAnswered self.now.present }
     {
-        let _ = self.present.marks(); // one for each wish
-        self.is_answered & self.beside.as_slice().is_empty()
+        self.present.is_settled()
     }
 
     /// Notes whether the opening is the present state.
@@ -108,15 +98,14 @@ impl<'d> Running<'d> {
         self.is_alike = is_alike;
     }
 
-    /// Brings the present state back to an evening. Nothing is known of it then.
+    /// Brings the present state back to an evening.
     pub(crate) fn restore(&mut self, evening: &DayState<'d>)
         requires { evening.now.dossier ≡ self.old.present.dossier }
         ensures present { self.new.present ≡ evening.now }
         ensures opening { self.new.opening ≡ self.old.opening }
     {
-        self.is_answered = false;
         self.is_alike = false;
-        self.present.set_from(evening);
+        self.present.restore(evening);
     }
 
     /// Opens a pass with the present state.
@@ -125,7 +114,7 @@ impl<'d> Running<'d> {
         ensures opening { self.new.opening ≡ self.old.present }
     {
         if !self.is_alike {
-            self.opening.set_from(&self.present);
+            self.opening.set_from(self.present.now());
         }
     }
 }

@@ -29,7 +29,7 @@ use Rattle.intake.specs.Dated.{AreDatedFor}
 use Rattle.intake.specs.declared.terms.DatedTerms.{DatedTerms}
 use Rattle.modes.proofs.Writable.{finals_dated, first_known}
 use Rattle.modes.specs.CheckedDays.{StopsBy, TellsWhy}
-use Rattle.modes.specs.Checking.{EndsProof, IsReply, IsUnproved, why_none, why_not}
+use Rattle.modes.specs.Checking.{EndsProof, IsReply, IsUnproved, rejected_at, why_none, why_not}
 use Rattle.modes.specs.Replay.{CanBeDated, CanBeWritten}
 use Rattle.modes.specs.declared.exit.Exit.{Exit}
 use Rattle.modes.specs.declared.exit.Exit.TheVariants as exits
@@ -66,14 +66,13 @@ module _ (terms : Option Terms) (orders : List CallOrder) (day : ℕ) (old dawn 
       ∙ ap (λ (s : State). day_fault orders (ceilings_of old.dossier day) day s chain) begins
 
   pub chain_tells : {X : Type 0} (result : Result X Unproved)
-      → TellsWhy result (option_map (λ (x : ℕ × CheckReason). Rejected x.0 x.1)
-      (day_fault orders ceilings day dawn chain)) → TellsWhy result (why_not terms orders day old chain)
+      → TellsWhy result (rejected_at (day_fault orders ceilings day dawn chain))
+          → TellsWhy result (why_not terms orders day old chain)
   chain_tells result tells =
       subst (TellsWhy result)
-      (ap (option_map (λ (x : ℕ × CheckReason). Rejected x.0 x.1)) fault_same
+      (ap rejected_at fault_same
       ∙ ap (λ (u : Option (ℕ × Status)). option_or (option_map (λ x. Unfit (unfit_refusal old.dossier day x)) u)
-      (option_map (λ (x : ℕ × CheckReason). Rejected x.0 x.1)
-      (day_fault orders (ceilings_of old.dossier day) day (morning terms day old) chain))) (sym fits))
+      (rejected_at (day_fault orders (ceilings_of old.dossier day) day (morning terms day old) chain))) (sym fits))
       tells
 
   module _ (evening : State) (valid : IsDayChain orders ceilings day dawn chain evening) where
@@ -115,7 +114,7 @@ module _ (terms : Option Terms) (orders : List CallOrder) (day : ℕ) (old dawn 
 pub why_stops : (found : Unproved) (why rest all : Option Unproved) → all ≡ option_or why rest → StopsBy found why
     → StopsBy found all
 why_stops (Unfit refusal) why rest all is stops = is ∙ ap (λ o. option_or o rest) stops
-why_stops (Rejected row reason) why rest all is stops = is ∙ ap (λ o. option_or o rest) stops
+why_stops (Rejected told) why rest all is stops = is ∙ ap (λ o. option_or o rest) stops
 why_stops OutOfMemory why rest all is stops = tt
 
 pub why_goes_on : (why rest all : Option Unproved) → all ≡ option_or why rest → why ≡ None → all ≡ rest
@@ -126,7 +125,7 @@ pub stop_ends : (d : DossierRows) (found : Unproved) (why : Option Unproved) (wh
     (text : List ℕ) → StopsBy found why → IsUnproved d found exit text → EndsProof d why whole exit text
 stop_ends d (Unfit refusal) why whole exit text stops is =
     subst (λ (o : Option Unproved). EndsProof d o whole exit text) (sym stops) is
-stop_ends d (Rejected row reason) why whole exit text stops is =
+stop_ends d (Rejected told) why whole exit text stops is =
     subst (λ (o : Option Unproved). EndsProof d o whole exit text) (sym stops) is
 stop_ends d OutOfMemory why whole exit text stops is = absurd is
 
@@ -137,9 +136,8 @@ none_against : (terms : Option Terms) (orders : List CallOrder) (day : ℕ) (old
     → why_not terms orders day old chain ≡ None
 none_against terms orders day old chain evening fits valid =
     ap (λ (u : Option (ℕ × Status)). option_or (option_map (λ x. Unfit (unfit_refusal old.dossier day x)) u)
-    (option_map (λ (x : ℕ × CheckReason). Rejected x.0 x.1)
-    (day_fault orders (ceilings_of old.dossier day) day (morning terms day old) chain))) fits
-    ∙ ap (option_map (λ (x : ℕ × CheckReason). Rejected x.0 x.1))
+    (rejected_at (day_fault orders (ceilings_of old.dossier day) day (morning terms day old) chain))) fits
+    ∙ ap rejected_at
     ((no_fault_where_valid orders (ceilings_of old.dossier day) day (morning terms day old) chain).1
     (evening, valid))
 

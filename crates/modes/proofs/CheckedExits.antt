@@ -31,7 +31,7 @@ proof_exit : (d : DossierRows) (why : Option Unproved) (whole : List ℕ) (exit 
     → EndsProof d why whole exit text → IsAfterDays exit
 proof_exit d None whole exit text ends = is_after exit exits.Done ends.0 tt
 proof_exit d (Some (whys.Unfit refusal)) whole exit text ends = is_after exit exits.Refused ends.0 tt
-proof_exit d (Some (whys.Rejected row reason)) whole exit text ends = is_after exit exits.NotProved ends.0 tt
+proof_exit d (Some (whys.Rejected told)) whole exit text ends = is_after exit exits.NotProved ends.0 tt
 proof_exit d (Some whys.OutOfMemory) whole exit text ends = absurd ends
 
 read_exit : (d : DossierRows) (dated : Option DatedTerms) (orders : List CallOrder) (chain : Result Chain ChainFault)

@@ -13,7 +13,7 @@ why_of refusals.OutOfMemory = OutOfMemory
 -- a test that stopped tells why, unless memory ran out
 abbrev pub StopsBy : Unproved → Option Unproved → Type 0
 StopsBy (Unfit refusal) why = why ≡ Some (Unfit refusal)
-StopsBy (Rejected row reason) why = why ≡ Some (Rejected row reason)
+StopsBy (Rejected found) why = why ≡ Some (Rejected found)
 StopsBy OutOfMemory why = ⊤
 
 -- one that went through found nothing
@@ -23,6 +23,6 @@ TellsWhy (Err e) why = StopsBy e why
 
 -- a school that a rejection keeps is one of so many
 abbrev pub KeepsIn : ℕ → Unproved → Type 0
-KeepsIn schools (Rejected row reason) = KeepsSchool schools reason
+KeepsIn schools (Rejected found) = KeepsSchool schools found.reason
 KeepsIn schools (Unfit refusal) = ⊤
 KeepsIn schools OutOfMemory = ⊤

@@ -11,6 +11,7 @@ use Rattle.admit_core.specs.DossierRows.{DossierRows}
 use Rattle.admit_core.specs.State.{State}
 use Rattle.admit_core.specs.declared.chain.Chain.{Chain}
 use Rattle.admit_core.specs.declared.chain.ChainFault.{ChainFault}
+use Rattle.admit_core.specs.declared.chain.CheckReason.{CheckReason}
 use Rattle.admit_core.specs.declared.chain.DayChain.{DayChain}
 use Rattle.admit_core.specs.declared.ranking.CallOrder.{CallOrder}
 use Rattle.admit_core.specs.declared.records.Terms.{Terms}
@@ -32,12 +33,14 @@ use Rattle.modes.specs.declared.unproved.Unproved.TheVariants.{Unfit, Rejected, 
 use Rattle.modes.specs.declared.exit.Exit.{Exit}
 use Rattle.modes.specs.declared.exit.Exit.TheVariants.{Done, Refused, NotProved}
 
+abbrev pub rejected_at : Option (ℕ × CheckReason) → Option Unproved
+rejected_at fault = option_map (λ x. Rejected (record { row = x.0; reason = x.1 })) fault
+
 -- why a day is not proved: its first answer that does not fit, or else the first fault of its chain
 abbrev pub why_not : Option Terms → List CallOrder → ℕ → State → DayChain → Option Unproved
 why_not terms orders d old chain =
     option_or (option_map (λ x. Unfit (unfit_refusal old.dossier d x)) (unfit_on terms d old))
-    (option_map (λ x. Rejected x.0 x.1)
-    (day_fault orders (ceilings_of old.dossier d) d (morning terms d old) chain))
+    (rejected_at (day_fault orders (ceilings_of old.dossier d) d (morning terms d old) chain))
 
 -- why days from day d on are not all proved: by the first of them that is not
 abbrev pub why_none : Option Terms → List CallOrder → ℕ → State → List DayChain → Option Unproved
@@ -58,8 +61,8 @@ proved_text number evening dated =
 -- one line says why the days are not all proved
 abbrev pub IsUnproved : DossierRows → Unproved → Exit → List ℕ → Type 0
 IsUnproved d (Unfit refusal) exit text = IsReply Refused (refusal_line refusal) exit text
-IsUnproved d (Rejected row reason) exit text =
-    IsReply NotProved (verdict_text d row reason) exit text
+IsUnproved d (Rejected found) exit text =
+    IsReply NotProved (verdict_text d found.row found.reason) exit text
 IsUnproved d OutOfMemory exit text = ⊥
 
 -- a run is done with its whole text where nothing stands against it

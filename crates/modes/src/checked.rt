@@ -1,5 +1,5 @@
 //! The mode `check`: the days of a chain, tested one after another.
-ghost use Rattle.std.specs.Prelude.{◌≡◌, ◌≤◌, ◌<◌, ◌^◌, [], All, IfErr, IfOk, IfSome, IsOk, OnOk, length, option_copied, option_map};
+ghost use Rattle.std.specs.Prelude.{◌≡◌, ◌≤◌, ◌<◌, ◌^◌, [], All, IfErr, IfOk, IfSome, IsOk, OnOk, length, option_copied};
 ghost use Rattle.admit_core.specs.Chains.{IsDayChain, day_fault};
 ghost use Rattle.admit_core.specs.Days.{first_evening};
 ghost use Rattle.admit_core.specs.Lapses.{AreTermsFor};
@@ -9,9 +9,8 @@ ghost use Rattle.certificate.specs.ProvedDays.{evening_after, evening_by};
 ghost use Rattle.desk_day.specs.RunDay.{IsStampedBy, KeepsStamps};
 ghost use Rattle.intake.specs.Dated.{AreDatedFor, terms_in};
 ghost use Rattle.modes.specs.CheckedDays.{KeepsIn, TellsWhy};
-ghost use Rattle.modes.specs.Checking.{EndsProof, IsChecked, IsReply, IsUnproved, proved_text, why_none, why_not};
+ghost use Rattle.modes.specs.Checking.{EndsProof, IsChecked, IsReply, IsUnproved, proved_text, rejected_at, why_none, why_not};
 ghost use Rattle.modes.specs.Replay.{CanBeDated};
-ghost use Rattle.modes.specs.declared.unproved.Unproved.TheVariants as whys;
 
 use crate::exit::Exit;
 use crate::job::terms_in;
@@ -21,10 +20,11 @@ use crate::reply::Reply;
 use crate::unproved::Unproved;
 use admit_core::{DayChain, Dossier, OutOfMemory, Terms};
 use certificate::{
-    ChainRefusal, CheckDesk, CheckStop, Grounds, chain_fault_text, read_chain, verdict_text,
+    ChainRefusal, CheckStop, Grounds, Rejection, chain_fault_text, check_day_on, read_chain,
+    verdict_text,
 };
 use day_state::{DayState, MarkedWishes};
-use desk_day::ceilings_on;
+use desk_day::{Present, ceilings_on};
 use intake::{DatedTerms, Input};
 use played::LastDesk;
 use report::refusal_text;
@@ -35,23 +35,23 @@ fn check_morning(
     alloc: Global,
     grounds: &Grounds<'_, '_>,
     ceilings: &[u32],
-    desk: &mut CheckDesk<'_>,
+    present: &mut Present<'_>,
     day: u32,
     chain: &DayChain,
 ) -> Result<(), Unproved>
-    requires same { grounds.now.dossier ≡ desk.old.dossier }
-    requires ceilings { length ceilings.now ≡ length desk.old.dossier.schools }
+    requires same { grounds.now.dossier ≡ present.old.dossier }
+    requires ceilings { length ceilings.now ≡ length present.old.dossier.schools }
     requires passes { length chain.now.passes < 2 ^ 32 }
 
-    ensures found { TellsWhy result (option_map (λ x. whys.Rejected x.0 x.1)
-        (day_fault grounds.now.orders ceilings.now day desk.old chain.now)) }
-    ensures valid { OnOk result (IsDayChain grounds.now.orders ceilings.now day desk.old
-        chain.now desk.new) }
-    ensures school { IfErr result (KeepsIn (length desk.old.dossier.schools)) }
+    ensures found { TellsWhy result (rejected_at
+        (day_fault grounds.now.orders ceilings.now day present.old chain.now)) }
+    ensures valid { OnOk result (IsDayChain grounds.now.orders ceilings.now day present.old
+        chain.now present.new) }
+    ensures school { IfErr result (KeepsIn (length present.old.dossier.schools)) }
 {
-    match desk.check_day(alloc, grounds, ceilings, day, chain) {
+    match check_day_on(alloc, grounds, present, ceilings, day, chain) {
         Ok(()) => Ok(()),
-        Err(CheckStop::Rejected(row, reason)) => Err(Unproved::Rejected(row, reason)),
+        Err(CheckStop::Rejected(found)) => Err(Unproved::Rejected(found)),
         Err(CheckStop::OutOfMemory) => Err(Unproved::OutOfMemory),
     }
 }
@@ -61,25 +61,25 @@ fn check_next(
     alloc: Global,
     grounds: &Grounds<'_, '_>,
     terms: Option<&Terms>,
-    desk: &mut CheckDesk<'_>,
+    present: &mut Present<'_>,
     day: u32,
     chain: &DayChain,
 ) -> Result<(), Unproved>
-    requires same { grounds.now.dossier ≡ desk.old.dossier }
-    requires terms { AreTermsFor desk.old.dossier (option_copied terms) }
+    requires same { grounds.now.dossier ≡ present.old.dossier }
+    requires terms { AreTermsFor present.old.dossier (option_copied terms) }
     requires day { IsDayNumber day }
     requires passes { length chain.now.passes < 2 ^ 32 }
 
     ensures found { TellsWhy result (why_not (option_copied terms.entry) grounds.now.orders day
-        desk.old chain.now) }
-    ensures evening { OnOk result (desk.new ≡ evening_by (option_copied terms.entry)
-        grounds.now.orders day desk.old chain.now) }
-    ensures stamps { OnOk result (KeepsStamps day desk.old desk.new) }
-    ensures school { IfErr result (KeepsIn (length desk.old.dossier.schools)) }
+        present.old chain.now) }
+    ensures evening { OnOk result (present.new ≡ evening_by (option_copied terms.entry)
+        grounds.now.orders day present.old chain.now) }
+    ensures stamps { OnOk result (KeepsStamps day present.old present.new) }
+    ensures school { IfErr result (KeepsIn (length present.old.dossier.schools)) }
 {
-    let ceilings = ceilings_on(alloc, desk.now().dossier(), day)?;
-    desk.make_morning(alloc, terms, day)?;
-    check_morning(alloc, grounds, &ceilings, desk, day, chain)
+    let ceilings = ceilings_on(alloc, present.now().dossier(), day)?;
+    let _ = present.begin_day(alloc, terms, day)?;
+    check_morning(alloc, grounds, &ceilings, present, day, chain)
 }
 
 /// Tests the days of a chain from day 1 on, and leaves the evening of the last.
@@ -87,25 +87,25 @@ fn check_days(
     alloc: Global,
     grounds: &Grounds<'_, '_>,
     terms: Option<&Terms>,
-    desk: &mut CheckDesk<'_>,
+    present: &mut Present<'_>,
     days: &[DayChain],
 ) -> Result<(), Unproved>
-    requires same { grounds.now.dossier ≡ desk.old.dossier }
-    requires terms { AreTermsFor desk.old.dossier (option_copied terms) }
+    requires same { grounds.now.dossier ≡ present.old.dossier }
+    requires terms { AreTermsFor present.old.dossier (option_copied terms) }
     requires days { length days.now ≤ 366 }
     requires passes { All (λ day. length day.passes < 2 ^ 32) days.now }
 
     ensures found { TellsWhy result (why_none (option_copied terms.entry) grounds.now.orders 1
-        desk.old days.now) }
-    ensures evening { OnOk result (desk.new ≡ evening_after (option_copied terms.entry)
-        grounds.now.orders 1 desk.old days.now) }
-    ensures stamps { OnOk result (All (IsStampedBy 366) desk.old.marks → All (IsStampedBy 366)
-        desk.new.marks) }
-    ensures school { IfErr result (KeepsIn (length desk.old.dossier.schools)) }
+        present.old days.now) }
+    ensures evening { OnOk result (present.new ≡ evening_after (option_copied terms.entry)
+        grounds.now.orders 1 present.old days.now) }
+    ensures stamps { OnOk result (All (IsStampedBy 366) present.old.marks → All (IsStampedBy 366)
+        present.new.marks) }
+    ensures school { IfErr result (KeepsIn (length present.old.dossier.schools)) }
     ensures always { days.now ≡ [] → IsOk result }
 {
     for (place, chain) in days.iter().enumerate() {
-        check_next(alloc, grounds, terms, desk, place as u32 + 1, chain)?;
+        check_next(alloc, grounds, terms, present, place as u32 + 1, chain)?;
     }
     Ok(())
 }
@@ -145,7 +145,7 @@ fn unproved(alloc: Global, dossier: &Dossier, why: Unproved) -> Result<Reply, Ou
 {
     match why {
         Unproved::Unfit(refusal) => Ok(reply(Exit::Refused, refusal_text(alloc, refusal)?)),
-        Unproved::Rejected(row, reason) => Ok(reply(
+        Unproved::Rejected(Rejection { row, reason }) => Ok(reply(
             Exit::NotProved,
             verdict_text(alloc, dossier, row, reason)?,
         )),
@@ -178,11 +178,11 @@ fn check_chain(
 {
     let (first, roster) = last.into_now_along(alloc)?;
     let grounds = Grounds::along(&roster, &input.index);
-    let mut desk = CheckDesk::begin(alloc, first);
-    match check_days(alloc, &grounds, terms_in(dated), &mut desk, days) {
+    let mut present = Present::begin(first);
+    match check_days(alloc, &grounds, terms_in(dated), &mut present, days) {
         Ok(()) => Ok(reply(
             Exit::Done,
-            proved_text(alloc, days.len(), desk.into_now(), dated)?,
+            proved_text(alloc, days.len(), present.into_now(), dated)?,
         )),
         Err(why) => unproved(alloc, &input.dossier, why),
     }

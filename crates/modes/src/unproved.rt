@@ -1,6 +1,7 @@
 //! Why the days of a chain are not all proved.
 
-use admit_core::{CheckReason, OutOfMemory, Refusal};
+use admit_core::{OutOfMemory, Refusal};
+use certificate::Rejection;
 use desk_day::DayRefusal;
 
 /// Why the days of a chain are not all proved.
@@ -8,8 +9,8 @@ use desk_day::DayRefusal;
 pub(crate) enum Unproved {
     /// An answer of a day does not fit.
     Unfit(Refusal),
-    /// The row and the reason of the first fault of a day's chain.
-    Rejected(u64, CheckReason),
+    /// The chain of a day is not valid.
+    Rejected(Rejection),
     OutOfMemory,
 }
 

@@ -11,15 +11,16 @@ use Rattle.certificate.proofs.check.check_day_along.Goals as goal
 pub returns-in-Ok-clause-exact : goal.returns-in-Ok-clause-exact
 returns-in-Ok-clause-exact c =
     subst (λ (s : State). day_fault c.args.grounds.now.orders c.args.ceilings.now c.args.day s c.args.chain.now ≡ None)
-    (c.begin-desk.ensures ∙ c.in_ok-state.ensures) c.in-Ok.ensures.found
+    (c.begin-present.ensures ∙ c.in_ok-copy.ensures) c.in-Ok.ensures.found
 
 pub returns-in-Ok-clause-valid : goal.returns-in-Ok-clause-valid
 returns-in-Ok-clause-valid c =
     let orders = c.args.grounds.now.orders in
     subst (λ (e : State). IsDayChain orders c.args.ceilings.now c.args.day c.args.morning.now c.args.chain.now e)
     (sym c.into_now.ensures)
-    (subst (λ (s : State). IsDayChain orders c.args.ceilings.now c.args.day s c.args.chain.now c.check_day.new.self)
-    (c.begin-desk.ensures ∙ c.in_ok-state.ensures) c.in-Ok.ensures.valid)
+    (subst (λ (s : State). IsDayChain orders c.args.ceilings.now c.args.day s c.args.chain.now
+        c.check_day_on.new.present)
+    (c.begin-present.ensures ∙ c.in_ok-copy.ensures) c.in-Ok.ensures.valid)
 
 pub returns-in-Ok-clause-greatest : goal.returns-in-Ok-clause-greatest
 returns-in-Ok-clause-greatest c =
@@ -29,20 +30,20 @@ returns-in-Ok-clause-greatest c =
     let told = λ (s : State). passes_told orders ceilings day 1 s c.args.chain.now.passes in
     subst (λ (e : State). Passes orders ceilings day 1 c.args.morning.now (told c.args.morning.now) e)
     (sym c.into_now.ensures)
-    (subst (λ (s : State). Passes orders ceilings day 1 s (told s) c.check_day.new.self)
-    (c.begin-desk.ensures ∙ c.in_ok-state.ensures) c.in-Ok.ensures.greatest)
+    (subst (λ (s : State). Passes orders ceilings day 1 s (told s) c.check_day_on.new.present)
+    (c.begin-present.ensures ∙ c.in_ok-copy.ensures) c.in-Ok.ensures.greatest)
 
 pub returns-in-Err-Rejected-clause-exact : goal.returns-in-Err-Rejected-clause-exact
 returns-in-Err-Rejected-clause-exact c =
     let fault = λ (s : State). day_fault c.args.grounds.now.orders c.args.ceilings.now c.args.day s c.args.chain.now in
-    subst (λ (s : State). fault s ≡ Some (c.in-Err-Rejected.row, c.in-Err-Rejected.reason))
-    (c.begin-desk.ensures ∙ c.in_ok-state.ensures)
-    (subst (λ (x : CheckStop). Stops x (fault c.begin-desk.result)) c.in-Err-Rejected.field-0-is
+    subst (λ (s : State). fault s ≡ Some (c.in-Err-Rejected.found.row, c.in-Err-Rejected.found.reason))
+    (c.begin-present.ensures ∙ c.in_ok-copy.ensures)
+    (subst (λ (x : CheckStop). Stops x (fault c.begin-present.result)) c.in-Err-Rejected.field-0-is
     c.in-Err-Rejected.ensures.found)
 
 pub returns-in-Err-Rejected-clause-school : goal.returns-in-Err-Rejected-clause-school
 returns-in-Err-Rejected-clause-school c =
-    subst (λ (s : State). KeepsSchool (length s.dossier.schools) c.in-Err-Rejected.reason)
-    (c.begin-desk.ensures ∙ c.in_ok-state.ensures)
-    (subst (StopsAt (length c.begin-desk.result.dossier.schools)) c.in-Err-Rejected.field-0-is
+    subst (λ (s : State). KeepsSchool (length s.dossier.schools) c.in-Err-Rejected.found.reason)
+    (c.begin-present.ensures ∙ c.in_ok-copy.ensures)
+    (subst (StopsAt (length c.begin-present.result.dossier.schools)) c.in-Err-Rejected.field-0-is
     c.in-Err-Rejected.ensures.school)

@@ -1,11 +1,7 @@
-use Rattle.std.proofs.Common.{◌∙◌, ap, sym}
-use Rattle.admit_core.specs.AutoAnswer.{auto_all}
-use Rattle.admit_core.specs.State.{State}
+use Rattle.std.proofs.Common.{sym}
+use Rattle.desk_day.proofs.WhoIsAsked.{along_closed}
 use Rattle.desk_day.proofs.passes.follow.Goals as goal
 
-pub returns-then-is_answered : goal.returns-then-is_answered
-returns-then-is_answered c =
-    rw (sym c.frees_nothing.ensures ∙ c.if-frees_nothing.false)
-    (c.auto_some.ensures.state
-    ∙ ap (λ (t : State). auto_all t c.args.stamp) c.offer_all.ensures.offered
-    ∙ sym (c.requires.steps c.if-is_answered.true))
+pub set_from-requires : goal.set_from-requires
+set_from-requires c =
+    sym (along_closed c.args.opening.now c.args.closing.now c.args.offers.now c.args.stamp c.requires.closing)

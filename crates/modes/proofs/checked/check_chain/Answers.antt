@@ -23,31 +23,32 @@ along-grounds-requires c =
 pub check_days-requires-clause-same : goal.check_days-requires-clause-same
 check_days-requires-clause-same c =
     ap (λ (g : Setting). g.dossier) (c.along-grounds.ensures ∙ c.in_ok-first.ensures.roster)
-    ∙ ap (λ (s : State). s.dossier) (sym (c.begin-desk.ensures ∙ c.in_ok-first.ensures.now))
+    ∙ ap (λ (s : State). s.dossier) (sym (c.begin-present.ensures ∙ c.in_ok-first.ensures.now))
 
 pub check_days-requires-clause-terms : goal.check_days-requires-clause-terms
 check_days-requires-clause-terms c =
     let dated = option_copied c.args.dated in
-    subst (AreTermsFor c.begin-desk.result.dossier)
+    subst (AreTermsFor c.begin-present.result.dossier)
     (sym c.terms_in.ensures)
     (subst (λ (s : State). AreTermsFor s.dossier (terms_in dated))
-    (sym (c.begin-desk.ensures ∙ c.in_ok-first.ensures.now ∙ c.requires.first))
+    (sym (c.begin-present.ensures ∙ c.in_ok-first.ensures.now ∙ c.requires.first))
     (terms_known c.args.input.now.dossier dated c.requires.dated))
 
 pub unproved-requires : goal.unproved-requires
 unproved-requires c =
     subst (λ (s : State). KeepsIn (length s.dossier.schools) c.in-Err.why)
-    (c.begin-desk.ensures ∙ c.in_ok-first.ensures.now ∙ c.requires.first) c.in-Err.ensures.school
+    (c.begin-present.ensures ∙ c.in_ok-first.ensures.now ∙ c.requires.first) c.in-Err.ensures.school
 
 pub proved_text-requires : goal.proved_text-requires
 proved_text-requires c =
     let dated = option_copied c.args.dated in
     let stays = ap (λ (t : State). t.dossier) c.in-Ok.ensures.evening
-    ∙ days_stay (option_copied c.terms_in.result) c.along-grounds.result.orders 1 c.begin-desk.result
+    ∙ days_stay (option_copied c.terms_in.result) c.along-grounds.result.orders 1 c.begin-present.result
     c.args.days.now in
     subst (CanBeDated dated) (sym c.into_now.ensures)
-    (evening_dated c.args.input.now.dossier dated c.begin-desk.result c.check_days.new.desk
-    (c.begin-desk.ensures ∙ c.in_ok-first.ensures.now ∙ c.requires.first) stays c.in-Ok.ensures.stamps c.requires.dated)
+    (evening_dated c.args.input.now.dossier dated c.begin-present.result c.check_days.new.present
+    (c.begin-present.ensures ∙ c.in_ok-first.ensures.now ∙ c.requires.first) stays c.in-Ok.ensures.stamps
+        c.requires.dated)
 
 pub returns-in-Ok : goal.returns-in-Ok
 returns-in-Ok c =
@@ -56,11 +57,11 @@ returns-in-Ok c =
     let orders = c.args.last.orders in
     let days = c.args.days.now in
     let lent = ap (λ (g : Setting). g.orders) (c.along-grounds.ensures ∙ c.in_ok-first.ensures.roster) in
-    let begun : c.begin-desk.result ≡ first_evening d =
-    c.begin-desk.ensures ∙ c.in_ok-first.ensures.now ∙ c.requires.first in
+    let begun : c.begin-present.result ≡ first_evening d =
+    c.begin-present.ensures ∙ c.in_ok-first.ensures.now ∙ c.requires.first in
     let none : why_none (terms_in dated) orders 1 (first_evening d) days ≡ None =
     sym (why_alike days c.terms_in.ensures lent begun) ∙ c.in-Ok.ensures.found in
-    let evening : c.check_days.new.desk ≡ evening_after (terms_in dated) orders 1 (first_evening d) days =
+    let evening : c.check_days.new.present ≡ evening_after (terms_in dated) orders 1 (first_evening d) days =
     c.in-Ok.ensures.evening ∙ evening_alike days c.terms_in.ensures lent begun in
     proof_ends d _ (proved_text (length days)
     (evening_after (terms_in dated) orders 1 (first_evening d) days) dated) _ _ none (
@@ -76,8 +77,8 @@ returns c =
     let orders = c.args.last.orders in
     let days = c.args.days.now in
     let lent = ap (λ (g : Setting). g.orders) (c.along-grounds.ensures ∙ c.in_ok-first.ensures.roster) in
-    let begun : c.begin-desk.result ≡ first_evening d =
-    c.begin-desk.ensures ∙ c.in_ok-first.ensures.now ∙ c.requires.first in
+    let begun : c.begin-present.result ≡ first_evening d =
+    c.begin-present.ensures ∙ c.in_ok-first.ensures.now ∙ c.requires.first in
     let stops = subst (StopsBy c.in-Err.why) (why_alike days c.terms_in.ensures lent begun) c.in-Err.ensures.found in
     IfOk-weaker c.unproved.result _ _ (λ reply is. stop_ends d c.in-Err.why
     (why_none (terms_in dated) orders 1 (first_evening d) days)

@@ -11,8 +11,9 @@ invariant-loop-place l =
     let orders = l.grounds.orders in
     let rest = drop l.place l.days in
     record {
-      why : why_none terms orders 1 l.fn.desk l.days ≡ why_none terms orders (l.place + 1) l.desk rest;
-      evening : evening_after terms orders 1 l.fn.desk l.days ≡ evening_after terms orders (l.place + 1) l.desk rest;
-      dossier : l.desk.dossier ≡ l.fn.desk.dossier;
-      stamped : All (IsStampedBy 366) l.fn.desk.marks → All (IsStampedBy 366) l.desk.marks;
+      why : why_none terms orders 1 l.fn.present l.days ≡ why_none terms orders (l.place + 1) l.present rest;
+      evening : evening_after terms orders 1 l.fn.present l.days
+          ≡ evening_after terms orders (l.place + 1) l.present rest;
+      dossier : l.present.dossier ≡ l.fn.present.dossier;
+      stamped : All (IsStampedBy 366) l.fn.present.marks → All (IsStampedBy 366) l.present.marks;
     }

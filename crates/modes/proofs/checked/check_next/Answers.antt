@@ -9,29 +9,29 @@ use Rattle.modes.proofs.CheckedDay.{chain_tells, keeps_stamps, leads}
 use Rattle.modes.proofs.checked.check_next.Goals as goal
 
 pub check_morning-requires-clause-same : goal.check_morning-requires-clause-same
-check_morning-requires-clause-same c = c.requires.same ∙ sym c.make_morning.ensures.dossier
+check_morning-requires-clause-same c = c.requires.same ∙ sym c.begin_day.ensures.dossier
 
 pub check_morning-requires-clause-ceilings : goal.check_morning-requires-clause-ceilings
 check_morning-requires-clause-ceilings c =
     ap length c.deref.ensures.value ∙ c.in_ok-ceilings.ensures.one_each
     ∙ ap (λ (d : DossierRows). length d.schools)
-    (c.dossier.ensures ∙ ap (λ (t : State). t.dossier) c.now.ensures ∙ sym c.make_morning.ensures.dossier)
+    (c.dossier.ensures ∙ ap (λ (t : State). t.dossier) c.now.ensures ∙ sym c.begin_day.ensures.dossier)
 
 pub returns-clause-found : goal.returns-clause-found
 returns-clause-found c =
     let under = c.deref.ensures.value ∙ c.in_ok-ceilings.ensures.ceilings
     ∙ ap (λ (d : DossierRows). ceilings_of d c.args.day)
     (c.dossier.ensures ∙ ap (λ (t : State). t.dossier) c.now.ensures) in
-    chain_tells (option_copied c.args.terms) c.args.grounds.now.orders c.args.day c.args.desk.now
-    c.make_morning.new.self
+    chain_tells (option_copied c.args.terms) c.args.grounds.now.orders c.args.day c.args.present.now
+    c.begin_day.new.self
     c.deref.result.now c.args.chain.now
-    c.in_ok-make_morning.ensures.fits c.in_ok-make_morning.ensures.morning under c.check_morning.result
+    c.in_ok-begin_day.ensures.begun.fits c.in_ok-begin_day.ensures.begun.state under c.check_morning.result
     c.check_morning.ensures.found
 
 pub returns-clause-school : goal.returns-clause-school
 returns-clause-school c =
     subst (λ (d : DossierRows). IfErr c.check_morning.result (KeepsIn (length d.schools)))
-    c.make_morning.ensures.dossier
+    c.begin_day.ensures.dossier
     c.check_morning.ensures.school
 
 pub returns-clause-evening : goal.returns-clause-evening
@@ -40,9 +40,9 @@ returns-clause-evening c =
     ∙ ap (λ (d : DossierRows). ceilings_of d c.args.day)
     (c.dossier.ensures ∙ ap (λ (t : State). t.dossier) c.now.ensures) in
     on_ok_weaker c.check_morning.result
-    (leads (option_copied c.args.terms) c.args.grounds.now.orders c.args.day c.args.desk.now c.make_morning.new.self
+    (leads (option_copied c.args.terms) c.args.grounds.now.orders c.args.day c.args.present.now c.begin_day.new.self
     c.deref.result.now c.args.chain.now
-    c.in_ok-make_morning.ensures.fits c.in_ok-make_morning.ensures.morning under c.check_morning.new.desk)
+    c.in_ok-begin_day.ensures.begun.fits c.in_ok-begin_day.ensures.begun.state under c.check_morning.new.present)
     c.check_morning.ensures.valid
 
 pub returns-clause-stamps : goal.returns-clause-stamps
@@ -51,8 +51,8 @@ returns-clause-stamps c =
     ∙ ap (λ (d : DossierRows). ceilings_of d c.args.day)
     (c.dossier.ensures ∙ ap (λ (t : State). t.dossier) c.now.ensures) in
     on_ok_weaker c.check_morning.result
-    (keeps_stamps (option_copied c.args.terms) c.args.grounds.now.orders c.args.day c.args.desk.now
-    c.make_morning.new.self
+    (keeps_stamps (option_copied c.args.terms) c.args.grounds.now.orders c.args.day c.args.present.now
+    c.begin_day.new.self
     c.deref.result.now c.args.chain.now
-    c.in_ok-make_morning.ensures.fits c.in_ok-make_morning.ensures.morning under c.check_morning.new.desk)
+    c.in_ok-begin_day.ensures.begun.fits c.in_ok-begin_day.ensures.begun.state under c.check_morning.new.present)
     c.check_morning.ensures.valid

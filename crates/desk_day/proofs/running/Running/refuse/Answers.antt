@@ -4,7 +4,7 @@ use Rattle.admit_core.specs.Lapses.{AreTermsFor}
 use Rattle.desk_day.specs.Running.{RunningStates}
 use Rattle.desk_day.proofs.running.Running.refuse.Goals as goal
 
-pub make_morning-requires : goal.make_morning-requires
-make_morning-requires c =
+pub refuse-requires : goal.refuse-requires
+refuse-requires c =
     subst (λ (r : RunningStates). AreTermsFor r.present.dossier (option_copied c.args.terms)) (sym c.self.view_is)
     c.requires

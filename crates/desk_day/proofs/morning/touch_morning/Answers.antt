@@ -7,7 +7,7 @@ use Rattle.admit_core.specs.declared.state.Mark.{Mark}
 use Rattle.admit_core.specs.DossierRows.{DossierRows}
 use Rattle.desk_day.proofs.DayPlaces.{lapsed_in}
 use Rattle.desk_day.proofs.Touching.{morning_alike, morning_answered}
-use Rattle.desk_day.proofs.day.begin_day.Goals as goal
+use Rattle.desk_day.proofs.morning.touch_morning.Goals as goal
 
 pub list_touched-requires : goal.list_touched-requires
 list_touched-requires c =
@@ -20,6 +20,14 @@ list_touched-requires c =
 
 pub returns-clause-begun : goal.returns-clause-begun
 returns-clause-begun c =
+    record {
+      lapses = c.in_ok-lapsed.ensures;
+      fits = c.in_ok-make_morning.ensures.fits;
+      state = c.in_ok-make_morning.ensures.morning;
+    }
+
+pub returns-clause-touched : goal.returns-clause-touched
+returns-clause-touched c =
     let s = c.args.state.now in
     let terms = option_copied c.args.terms in
     let m = c.make_morning.new.state in
@@ -27,12 +35,9 @@ returns-clause-begun c =
     ap (λ (ms : List Mark). length ms) (sym c.marks.ensures.marks) ∙ c.marks.ensures.one_each in
     let gone = c.as_slice.ensures.value ∙ c.in_ok-lapsed.ensures in
     record {
-      lapses = c.in_ok-lapsed.ensures;
-      fits = c.in_ok-make_morning.ensures.fits;
-      state = c.in_ok-make_morning.ensures.morning;
-      within = c.in_ok-beside.ensures.within;
-      answered = morning_answered terms c.args.day s m c.as_slice.result.now c.in_ok-beside.beside.items long
-          c.requires.before c.in_ok-make_morning.ensures.morning gone c.in_ok-beside.ensures.listed;
-      alike = morning_alike terms c.args.day s m c.as_slice.result.now c.in_ok-beside.beside.items long
-          c.requires.before c.in_ok-make_morning.ensures.morning gone c.in_ok-beside.ensures.listed;
+      within = c.in_ok-touched.ensures.within;
+      answered = morning_answered terms c.args.day s m c.as_slice.result.now c.in_ok-touched.touched.items long
+          c.requires.before c.in_ok-make_morning.ensures.morning gone c.in_ok-touched.ensures.listed;
+      alike = morning_alike terms c.args.day s m c.as_slice.result.now c.in_ok-touched.touched.items long
+          c.requires.before c.in_ok-make_morning.ensures.morning gone c.in_ok-touched.ensures.listed;
     }

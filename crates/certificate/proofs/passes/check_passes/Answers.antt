@@ -8,7 +8,7 @@ use Rattle.admit_core.specs.Chains.{extra_pass, frees_nothing_by, passes_fault}
 use Rattle.admit_core.specs.Days.{frees_nothing}
 use Rattle.certificate.specs.Checked.{state_after}
 use Rattle.certificate.proofs.Lowering.{drop_item, pass_goes_on, pass_is_last, pass_stops, state_goes_on}
-use Rattle.certificate.proofs.desk.CheckDesk.check_passes.Goals as goal
+use Rattle.certificate.proofs.passes.check_passes.Goals as goal
 
 pub loop-place-preserved : goal.loop-place-preserved
 loop-place-preserved c =
@@ -16,8 +16,8 @@ loop-place-preserved c =
     let ceilings = c.args.ceilings.now in
     let day = c.args.day in
     let end = c.args.chain.now.next_row in
-    let s = c.loop-place.self in
-    let next = c.check_pass.new.self in
+    let s = c.loop-place.present in
+    let next = c.check_pass.new.present in
     let k = c.loop-place.place in
     let passes = c.as_slice-passes.result.now in
     let pass = c.index-passes-place.result in
@@ -42,7 +42,7 @@ returns-in-None-clause-found c =
     let ceilings = c.args.ceilings.now in
     let day = c.args.day in
     let end = c.args.chain.now.next_row in
-    let s = c.loop-place.self in
+    let s = c.loop-place.present in
     let k = c.loop-place.place in
     let passes = c.as_slice-passes.result.now in
     let pass = c.index-passes-place.result in
@@ -62,7 +62,7 @@ returns-in-Some-clause-found c =
     let ceilings = c.args.ceilings.now in
     let day = c.args.day in
     let end = c.args.chain.now.next_row in
-    let s = c.loop-place.self in
+    let s = c.loop-place.present in
     let k = c.loop-place.place in
     let passes = c.as_slice-passes.result.now in
     let pass = c.index-passes-place.result in
@@ -89,7 +89,7 @@ returns-in_err-freed-clause-found c =
     let ceilings = c.args.ceilings.now in
     let day = c.args.day in
     let end = c.args.chain.now.next_row in
-    let s = c.loop-place.self in
+    let s = c.loop-place.present in
     let k = c.loop-place.place in
     let passes = c.as_slice-passes.result.now in
     let pass = c.index-passes-place.result in
@@ -104,7 +104,7 @@ loop-place-init c =
     let orders = c.args.grounds.now.orders in
     let ceilings = c.args.ceilings.now in
     let day = c.args.day in
-    let s = c.args.self.now in
+    let s = c.args.present.now in
     record {
       fault = ap (passes_fault orders ceilings day c.args.chain.now.next_row 1 s) (sym c.as_slice-passes.ensures);
       state = ap (state_after orders ceilings day 1 s) (sym c.as_slice-passes.ensures);
@@ -116,5 +116,5 @@ returns-clause-found c =
     let end = c.args.chain.now.next_row in
     let k = c.loop-place.place in
     c.loop-place.invariant.fault
-    ∙ ap (passes_fault c.args.grounds.now.orders c.args.ceilings.now c.args.day end (k + 1) c.loop-place.self)
+    ∙ ap (passes_fault c.args.grounds.now.orders c.args.ceilings.now c.args.day end (k + 1) c.loop-place.present)
     (drop_all k c.as_slice-passes.result.now c.loop-place-test.false)

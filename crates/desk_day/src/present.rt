@@ -1,0 +1,229 @@
+//! The present state, and who has been answered for in it.
+ghost use Rattle.std.specs.Prelude.{◌≡◌, IfErr, IfOk, OnErr, OnOk, length, true};
+ghost use Rattle.std.specs.Option.{option_copied};
+ghost use Rattle.admit_core.specs.AutoAnswer.{auto_all, freed};
+ghost use Rattle.admit_core.specs.Boarding.{boarding};
+ghost use Rattle.admit_core.specs.Days.{unfit_on};
+ghost use Rattle.admit_core.specs.Lapses.{AreTermsFor};
+ghost use Rattle.admit_core.specs.Ranges.{IsDay as IsDayNumber};
+ghost use Rattle.bar_fixpoint.specs.Chosen.{TellsOfFalls};
+ghost use Rattle.desk_day.specs.AnswersOn.{IsUnfitOf};
+ghost use Rattle.desk_day.specs.DayPasses.{IsAnswered, offered_along};
+ghost use Rattle.desk_day.specs.Running.{IsBegun};
+ghost use Rattle.desk_day.specs.Unanswered.{AreProposed, AsksAfter, ChangesOnly};
+ghost use Rattle.round.specs.KeptFalls.{IsKeptOf, IsPassOffered, are_kept, kept_pass};
+
+use crate::morning::{make_morning, touch_morning};
+use crate::plan::DayPlan;
+use crate::refusal::DayRefusal;
+use crate::unanswered::{Unanswered, answer_for, left_by_morning};
+use admit_core::{Freed, Lapse, OutOfMemory, PassRecord, Stamp, Terms};
+use bar_fixpoint::Picker;
+use day_state::DayState;
+use linked_demand::Roster;
+use round::pass_keeping;
+use std::alloc::{AllocError, Global};
+use std::marker::Model;
+use std::mem;
+
+/// The present state of a dossier's wishes, with who has been answered for in it. So the answers
+/// after a pass ask those alone who have not been, and those with an offer.
+///
+/// Nobody is known to have been answered for while a day begins or a pass is made, nor after a
+/// refusal.
+pub struct Present<'d> {
+    pub(crate) state: DayState<'d>,
+    pub(crate) unanswered: Unanswered,
+}
+
+// Not derived: so it is dropped in one step where it is held, and not part by part.
+impl Drop for Present<'_> {
+    fn drop(self) {
+        let Present {
+            state: _,
+            unanswered: _,
+        } = self;
+    }
+}
+
+impl<'d> Model for Present<'d> {
+    ghost use Rattle.admit_core.specs.State.{State};
+    ghost use Rattle.desk_day.specs.Unanswered.{AnswersOnly};
+
+    ghost Value = { State };
+
+    ghost view = { λ s. s.state };
+
+    ghost invariant = { λ s. AnswersOnly s.unanswered s.state };
+}
+
+/// What the lapse and the answers of a day did.
+#[derive(Drop)]
+pub struct Begun {
+    /// The offers that lapsed.
+    pub lapsed: Vec<Lapse>,
+    /// Whether they are known to have changed nothing.
+    pub is_alike: bool,
+}
+
+impl<'d> Present<'d> {
+    /// This state, in which nobody is known to have been answered for.
+    pub fn begin(state: DayState<'d>) -> Present<'d>
+        ensures { result ≡ state.entry }
+    {
+        Present {
+            state,
+            unanswered: Unanswered::Anyone,
+        }
+    }
+
+    /// The state.
+    pub fn now(&self) -> &DayState<'d>
+        ensures { result.now ≡ self.now }
+    {
+        &self.state
+    }
+
+    /// The state alone.
+    pub fn into_now(self) -> DayState<'d>
+        ensures { result ≡ self.entry }
+    {
+        let Present {
+            state,
+            unanswered: _,
+        } = self;
+        state
+    }
+
+    /// Whether all are known to have been answered for.
+    pub(crate) fn is_settled(&self) -> bool
+        ensures { result ≡ true → IsAnswered self.now }
+    {
+        let _ = self.state.marks(); // one for each wish
+        self.unanswered.is_nobody()
+    }
+
+    /// Makes the lapse, where terms are given, and the answers of a day. A refusal may come in the
+    /// midst of the answers. Whether they fit is found without memory: one that does not is never
+    /// told as want of it.
+    pub fn begin_day(
+        &mut self,
+        alloc: Global,
+        terms: Option<&Terms>,
+        day: u32,
+    ) -> Result<Begun, DayRefusal>
+        requires before { AreTermsFor self.old.dossier (option_copied terms) }
+        requires day { IsDayNumber day }
+
+        ensures begun { IfOk result (λ begun. IsBegun (option_copied terms.entry) day self.old
+            self.new begun.lapsed.items) }
+        ensures alike { IfOk result (λ begun. begun.is_alike ≡ true → self.new ≡ self.old) }
+        ensures unfit { IfErr result (IsUnfitOf self.old.dossier day
+            (unfit_on (option_copied terms.entry) day self.old)) }
+        ensures dossier { self.new.dossier ≡ self.old.dossier }
+    {
+        let was_settled = self.is_settled();
+        self.unanswered = Unanswered::Anyone;
+        let (lapsed, touched) = touch_morning(alloc, &mut self.state, terms, day)?;
+        let is_alike = touched.as_slice().is_empty();
+        self.unanswered = left_by_morning(was_settled, touched);
+        Ok(Begun { lapsed, is_alike })
+    }
+
+    /// Why a day does not come about for which there is no memory. Its lapse and its answers are
+    /// tried, and the state may be left in their midst.
+    pub(crate) fn refuse(&mut self, terms: Option<&Terms>, day: u32) -> DayRefusal
+        requires { AreTermsFor self.old.dossier (option_copied terms) }
+        ensures refusal { IsUnfitOf self.old.dossier day
+            (unfit_on (option_copied terms.entry) day self.old) result }
+        ensures dossier { self.new.dossier ≡ self.old.dossier }
+    {
+        self.unanswered = Unanswered::Anyone;
+        match make_morning(&mut self.state, terms, day) {
+            Ok(()) => DayRefusal::OutOfMemory,
+            Err(refusal) => refusal,
+        }
+    }
+
+    /// Goes back to an evening.
+    pub(crate) fn restore(&mut self, evening: &DayState<'d>)
+        requires { evening.now.dossier ≡ self.old.dossier }
+        ensures { self.new ≡ evening.now }
+    {
+        self.unanswered = Unanswered::Anyone;
+        self.state.set_from(evening);
+    }
+
+    /// Makes a pass, and tells whom the automatic answers after it ask.
+    pub(crate) fn make_pass(
+        &mut self,
+        alloc: Global,
+        roster: &Roster<'_, '_>,
+        plan: DayPlan<'_>,
+        stamp: Stamp,
+        picker: &mut dyn Picker,
+    ) -> Result<(PassRecord, Unanswered), OutOfMemory>
+        requires roster { roster.now.dossier ≡ self.old.dossier }
+        requires ceilings { length plan.ceilings.now ≡ length self.old.dossier.schools }
+
+        ensures pass { IfOk result (λ made. IsKeptOf (kept_pass (are_kept plan.entry.falls))
+            (IsPassOffered self.old self.new roster.now.orders plan.entry.ceilings.now stamp
+            (choice picker.old) (told picker.old) (told picker.new)) made.0) }
+        ensures offered { IfOk result (λ made.
+            self.new ≡ offered_along made.0.offers stamp self.old) }
+        ensures asked { IfOk result (λ made. AsksAfter self.old made.0.offers stamp made.1) }
+        ensures early { OnErr result (TellsOfFalls
+            (boarding self.old roster.now.orders plan.entry.ceilings.now)
+            (choice picker.old) (told picker.old) (told picker.new)) }
+        ensures choice { choice picker.new ≡ choice picker.old }
+        ensures dossier { self.new.dossier ≡ self.old.dossier }
+    {
+        let _ = self.state.marks(); // one for each wish
+        let before = mem::replace(&mut self.unanswered, Unanswered::Anyone);
+        let pass = pass_keeping(
+            alloc,
+            &mut self.state,
+            roster,
+            plan.ceilings,
+            stamp,
+            picker,
+            plan.falls,
+        )?;
+        let asked = before.with_offered(&self.state, pass.offers.as_slice())?;
+        Ok((pass, asked))
+    }
+
+    /// Answers for those who are asked, and so for all.
+    pub(crate) fn answer(&mut self, alloc: Global, asked: &Unanswered, stamp: Stamp) -> Freed
+        requires { ChangesOnly asked.now self.old (auto_all self.old stamp) }
+        ensures state { self.new ≡ auto_all self.old stamp }
+        ensures freed { result ≡ freed self.old self.new }
+    {
+        let _ = self.state.marks(); // one for each wish
+        self.unanswered = Unanswered::Anyone;
+        let freed = answer_for(&mut self.state, asked, stamp);
+        self.unanswered = Unanswered::CandidatesOf(Vec::new(alloc));
+        freed
+    }
+
+    /// Makes these offers, and the automatic answers that follow them.
+    pub fn offer(
+        &mut self,
+        alloc: Global,
+        offers: &[u32],
+        stamp: Stamp,
+    ) -> Result<Freed, AllocError>
+        requires { AreProposed self.old offers.now }
+        ensures state { OnOk result
+            (self.new ≡ auto_all (offered_along offers.now stamp self.old) stamp) }
+        ensures freed { IfOk result (λ all.
+            all ≡ freed (offered_along offers.now stamp self.old) self.new) }
+        ensures kept { OnErr result (self.new ≡ self.old) }
+    {
+        let _ = self.state.marks(); // one for each wish
+        let before = mem::replace(&mut self.unanswered, Unanswered::Anyone);
+        let asked = before.with_offered(&self.state, offers)?;
+        self.state.offer_all(offers, stamp);
+        Ok(self.answer(alloc, &asked, stamp))
+    }
+}
