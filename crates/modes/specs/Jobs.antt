@@ -1,5 +1,5 @@
 -- What a job asks of its days.
-use Rattle.std.specs.Prelude.{◌≡◌, ◌<◌, ℕ, ◌+◌, Bool, true, false, List, Option, None, IsTrue, is_some, length, not}
+use Rattle.std.specs.Prelude.{◌≡◌, ◌<◌, ℕ, ◌+◌, Bool, List, Option, None, IsTrue, is_some, length, not}
 use Rattle.std.specs.Prelude.{option_map, if◌then◌else◌}
 use Rattle.admit_core.specs.CallOrder.{AreCallOrders}
 use Rattle.admit_core.specs.Days.{Days, first_evening, unfit_on}
@@ -22,17 +22,23 @@ use Rattle.request.specs.declared.modes.Mode.TheVariants.{Replay, Chain, Sample}
 use Rattle.request.specs.declared.pickers.PickerName.{PickerName}
 use Rattle.request.specs.declared.request.Deadlines.{Deadlines}
 use Rattle.request.specs.declared.request.Request.{Request}
+use Rattle.round.specs.KeptFalls.{are_kept}
+use Rattle.round.specs.declared.falls.Falls.{Falls}
+use Rattle.round.specs.declared.falls.Falls.TheVariants.{Kept, LeftOut}
 
 -- how many days are run
 abbrev pub days_of : Request → ℕ
 days_of request = if runs_days request.mode then request.days else 0
 
--- the modes whose texts tell the falls of the days, or how many there were
+-- all falls are kept where the text of a mode tells them, or how many there were
+abbrev pub falls_of : Mode → Falls
+falls_of Replay = Kept
+falls_of Chain = Kept
+falls_of (Sample number) = Kept
+falls_of _ = LeftOut
+
 abbrev pub keeps_falls : Mode → Bool
-keeps_falls Replay = true
-keeps_falls Chain = true
-keeps_falls (Sample number) = true
-keeps_falls _ = false
+keeps_falls mode = are_kept (falls_of mode)
 
 -- the picker that the ending is lent, of the modes that ask one once their days are over
 abbrev pub picker_after : Request → Option PickerName

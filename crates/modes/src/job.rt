@@ -6,6 +6,7 @@ ghost use Rattle.modes.specs.Jobs as Jobs;
 use admit_core::Terms;
 use intake::DatedTerms;
 use request::{Deadlines, Mode, PickerName, Request, picker_on, picks_after, runs_days, sample_of};
+use round::Falls;
 
 /// How many days are run.
 pub fn days_of(request: &Request) -> u32
@@ -18,16 +19,16 @@ pub fn days_of(request: &Request) -> u32
     }
 }
 
-/// Whether the text of a mode tells the falls of the days, or how many there were. The days of any
-/// other need not keep them.
-pub fn keeps_falls(mode: Mode) -> bool
-    ensures { result ≡ Jobs.keeps_falls mode }
+/// What the days of a mode keep of their falls: all where its text tells them, or how many there
+/// were, and nothing elsewhere.
+pub fn falls_of(mode: Mode) -> Falls
+    ensures { result ≡ Jobs.falls_of mode }
 {
     match mode {
-        Mode::Replay => true,
-        Mode::Chain => true,
-        Mode::Sample { .. } => true,
-        _ => false,
+        Mode::Replay => Falls::Kept,
+        Mode::Chain => Falls::Kept,
+        Mode::Sample { .. } => Falls::Kept,
+        _ => Falls::LeftOut,
     }
 }
 

@@ -9,7 +9,7 @@ use Rattle.desk_day.specs.DeskStates.{DeskStates}
 use Rattle.desk_day.specs.KeptDays.{kept_day}
 use Rattle.desk_day.specs.declared.refusal.DayRefusal.{DayRefusal}
 use Rattle.request.specs.declared.pickers.PickerChoice.{PickerChoice}
-use Rattle.round.specs.KeptFalls.{IsKeptOf}
+use Rattle.round.specs.KeptFalls.{IsKeptOf, are_kept}
 use Rattle.played.specs.LastDesks.{DeskLeft, EndsBy}
 use Rattle.played.specs.Lent.{Lent}
 use Rattle.played.specs.PlayedDays.{BreaksDays, IsPlayed, OnFit, Plan, Played, PlaysDays, first_desk}
@@ -41,7 +41,7 @@ abbrev pub EndsWanted : {X E : Type 0} → Wanted → List CallOrder → Dossier
 EndsWanted wanted orders d terms before after result days end =
     MatchResult result
     (λ x. EndsBy orders wanted.number
-    (λ played. IsPlayedKept wanted.keeps_falls d terms wanted.number wanted.who before played after)
+    (λ played. IsPlayedKept (are_kept wanted.falls) d terms wanted.number wanted.who before played after)
     (days x) (end x))
     (λ _. BreaksDays (record { orders = orders; terms = terms; who = wanted.who }) wanted.number
     (first_desk d) before after)

@@ -86,17 +86,6 @@ fn run_lent(
     done
 }
 
-/// What the records of these days have of the falls.
-fn falls_in(wanted: Wanted) -> Falls
-    ensures { are_kept result ≡ wanted.keeps_falls }
-{
-    if wanted.keeps_falls {
-        Falls::Kept
-    } else {
-        Falls::LeftOut
-    }
-}
-
 /// Runs a day with the picker of the day; an answer that does not fit leaves the evening before.
 pub(crate) fn next_day(
     alloc: Global,
@@ -113,7 +102,7 @@ pub(crate) fn next_day(
     requires there { AreThere pickers.old }
 
     ensures there { AreThere pickers.new }
-    ensures ends { IsKeptOf (kept_result wanted.keeps_falls) (λ whole. EndsNext
+    ensures ends { IsKeptOf (kept_result (are_kept wanted.falls)) (λ whole. EndsNext
         (record {
           orders = roster.now.orders;
           terms = option_copied terms.entry;
@@ -122,7 +111,7 @@ pub(crate) fn next_day(
         desk.old (lent (λ p. told p) (λ p. choice p) pickers.old) whole
         desk.new (lent (λ p. told p) (λ p. choice p) pickers.new)) result }
 {
-    let falls = falls_in(wanted);
+    let falls = wanted.falls;
     match picker_on(wanted.who, day) {
         PickerName::First => run_lent(alloc, desk, roster, terms, day, falls, &mut pickers.first),
         PickerName::Last => run_lent(alloc, desk, roster, terms, day, falls, &mut pickers.last),

@@ -6,6 +6,7 @@ ghost use Rattle.played.specs.KeptDays.{EndsWanted, PlaysDaysKept};
 ghost use Rattle.played.specs.LastDesks.{EndsBy, IsUnasked};
 ghost use Rattle.played.specs.Lent.{AreBack, AreThere, lent};
 ghost use Rattle.played.specs.PlayedDays.{BreaksDays, IsPlayed, first_desk};
+ghost use Rattle.round.specs.KeptFalls.{are_kept};
 
 use crate::day::next_day;
 use crate::last::{DeskAlong, LastDesk};
@@ -15,6 +16,7 @@ use admit_core::{CallOrders, DayRecord, Dossier, OutOfMemory, Refusal, Terms};
 use desk_day::{DayRefusal, Desk};
 use linked_demand::Roster;
 use request::PickerChoice;
+use round::Falls;
 use std::alloc::Global;
 
 /// What became of the days that were asked for.
@@ -51,7 +53,7 @@ fn play_days(
     requires none { days.old.items ≡ [] }
 
     ensures there { AreThere pickers.new }
-    ensures plays { PlaysDaysKept wanted.keeps_falls
+    ensures plays { PlaysDaysKept (are_kept wanted.falls)
         (record {
           orders = roster.now.orders;
           terms = option_copied terms.entry;
@@ -160,7 +162,7 @@ pub fn play<'a, 'd>(
     let wanted = Wanted {
         number,
         who,
-        keeps_falls: true,
+        falls: Falls::Kept,
     };
     play_wanted(alloc, dossier, orders, terms, wanted, pickers)
 }

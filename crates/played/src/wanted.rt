@@ -1,6 +1,7 @@
 //! Which days are asked for.
 
 use request::PickerChoice;
+use round::Falls;
 
 /// How many days are asked for, with which picker each, and what is kept of them.
 #[derive(Clone, Copy)]
@@ -8,6 +9,6 @@ pub struct Wanted {
     /// At most 366.
     pub number: u32,
     pub who: PickerChoice,
-    /// Whether the records have the falls of their passes, each with the wishes that it names.
-    pub keeps_falls: bool,
+    /// What the records have of the falls of their passes.
+    pub falls: Falls,
 }

@@ -12,7 +12,7 @@ ghost use Rattle.request.specs.Request.{IsRequest};
 use admit_core::OutOfMemory;
 use call_order::call_orders;
 use intake::{Input, Stop, dated_terms, take_in};
-use modes::{Reply, StopLine, days_of, deadlines_of, ending, keeps_falls, stopped, terms_in};
+use modes::{Reply, StopLine, days_of, deadlines_of, ending, falls_of, stopped, terms_in};
 use played::{Pickers, Wanted, play_wanted};
 use request::{Request, read_request};
 use slot_io::Shelf;
@@ -59,12 +59,10 @@ fn play_out(
 {
     let dated = dated_terms(alloc, input, deadlines_of(request))?;
     let dated = dated.as_ref();
-    let number = days_of(request);
-    let keeps_falls = keeps_falls(request.mode);
     let wanted = Wanted {
-        number,
+        number: days_of(request),
         who: request.picker,
-        keeps_falls,
+        falls: falls_of(request.mode),
     };
     let terms = terms_in(dated);
     let dossier = &input.dossier;
