@@ -10,7 +10,6 @@ use Rattle.admit_core.specs.Chains.{IsDayChain, closing_by, day_fault}
 use Rattle.admit_core.specs.Days.{IsDay, ceilings_of, first_evening, lapsed_on, morning, unfit_on}
 use Rattle.admit_core.specs.DossierRows.{DossierRows}
 use Rattle.admit_core.specs.State.{State, free_beds, seats_left}
-use Rattle.admit_core.specs.declared.chain.CheckReason.{CheckReason}
 use Rattle.admit_core.specs.declared.chain.DayChain.{DayChain}
 use Rattle.admit_core.specs.declared.chain.PassChain.{PassChain}
 use Rattle.admit_core.specs.declared.ranking.CallOrder.{CallOrder}
