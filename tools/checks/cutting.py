@@ -32,10 +32,11 @@ from datetime import date, timedelta
 from pathlib import Path
 from random import Random
 
-from dossier.campaign import CALENDAR, Stopped, next_day
+from dossier.campaign import CALENDAR, next_day
 from dossier.dating import Calendar, next_answers, next_ceilings
 from dossier.program import program as program_named
 from dossier.slots import ANSWERS, SLOTS
+from dossier.stops import Stopped
 
 from .crowded import CEILINGS, crowded_dossier, give_answers
 from .dossiers import FIRST_DAY, Cell, Dossier

@@ -12,9 +12,10 @@ from pathlib import Path
 from random import Random
 
 from dossier import campaign, writing
-from dossier.campaign import Stopped, next_day
+from dossier.campaign import next_day
 from dossier.dating import Calendar
 from dossier.slots import ANSWERS
+from dossier.stops import Stopped
 
 from .dossiers import FIRST_DAY, Dossier, random_dossier
 from .harness import EXAMPLES, TOOLS, Tally, contents, run, scratch

@@ -231,7 +231,8 @@ def check_odd_campaigns(tally: Tally) -> None:
                 rules.answers = [*rules.answers, *answers]
                 slot_bytes = csv_bytes(dossier.header(ANSWERS), [(1, *answer[1:]) for answer in answers])
                 (folder / ANSWERS.file).write_bytes(dressed(random, slot_bytes))
-                told = next_day(folder, Calendar(1, first_day, term) if term is not None and day == 1 else Calendar())
+                asked = Calendar(1, first_day, term) if term is not None and day == 1 else Calendar()
+                told = next_day(folder, asked).said("en")
                 lines = rules.run_day(day)
                 counts = [sum(line.startswith(word) for line in lines) for word in ("offer ", "lapse ")]
                 name = f"campaign {number}, day {day}"

@@ -74,6 +74,14 @@ def check_next_day(tally: Tally) -> None:
         tally.equal("lycee: the coming day", (folder / "campaign.csv").read_text(), "day,date,term\n4,2026-06-05,1\n")
         ended = run(TOOLS / "next_day", folder, "--start", "2026-06-02", "--term", "1")
         tally.check("lycee: another start is refused", ended.status == BAD_WORDS, ended)
+        shutil.copytree(LYCEE / "slots", place / "jours")
+        ended = run(TOOLS / "next_day", place / "jours", *DATED, "--lang", "fr")
+        is_said = ended.output.startswith("jour 1 (2026-06-02)\u00a0: propositions faites 5, caduques 0".encode())
+        tally.check("lycee: a day in French", is_said, ended)
+        (place / "jours/answers.csv").write_text("day,kind,target\n1,accept,1\n")
+        ended = run(TOOLS / "next_day", place / "jours", "--lang", "fr")
+        is_said = ended.status == 1 and "Que faire\u00a0: corrigez cette ligne" in ended.complaint
+        tally.check("lycee: an answer that does not fit, in French", is_said, ended)
         shutil.copytree(EXAMPLES / "two-days", place / "two-days")
         statuses = [run(TOOLS / "next_day", place / "two-days").status for _ in range(2)]
         tally.equal("two-days", statuses, [0, 0])

@@ -8,7 +8,7 @@ from datetime import date
 from pathlib import Path
 
 from . import program
-from .campaign import CALENDAR, Stopped, complaint, read_calendar
+from .campaign import CALENDAR, complaint, read_calendar
 from .cells import IN_ENGLISH, IN_FRENCH
 from .dating import Calendar
 from .faults import Faults, Row, shown
@@ -18,6 +18,7 @@ from .messages import (CORRECT_WISH, DONE, FAR_DAY, NAME_TARGET, NAME_WISH, NO_C
 from .naming import Names
 from .records import Wish, records_of
 from .slots import ANSWERS, GREATEST_DAY, SLOTS, Thing
+from .stops import NOT_ANSWERS, Stopped
 from .tables import Table
 from .texts import Text
 from .values import ANSWER_WORDS, NOTHING, QUIT, Spellings
@@ -62,8 +63,8 @@ def answer_of(dossier: Path, number: int, cells: list[str]) -> Answer:
         day, kind, target = cells
         return Answer(int(day), kind, int(target))
     except ValueError:
-        raise Stopped(program.READ_FAULT, f"{dossier / ANSWERS.file}, row {number}: {shown(','.join(cells))} is no row "
-                                          "of answers; correct it (docs/FORMATS.md), or take it out.") from None
+        raise Stopped(program.READ_FAULT, NOT_ANSWERS.of(path=dossier / ANSWERS.file, row=number,
+                                                         cells=shown(",".join(cells)))) from None
 
 
 @dataclass

@@ -24,6 +24,9 @@ from . import program
 from .dating import Calendar, next_answers, next_ceilings
 from .faults import shown
 from .slots import SLOTS
+from .stops import (BEGUN, BUSY, CHANGED_AFTER, CHANGED_MEANWHILE, COMING, CORRECT_ROW, DATES, DEVICE, IS_THERE,
+                    NO_DEADLINES, NO_FINAL, NO_ROOM, NOT_MADE, NOT_READ, ODD_CALENDAR, ROW, Stopped)
+from .texts import Filled, Listed, Text
 from .writing import fresh_folder, replace_file, settle, write_file
 
 CALENDAR = "campaign.csv"
@@ -34,14 +37,9 @@ IDS, IDS_CHECKSUM = "ids.csv", "ids.sha256"
 STAGING = ".day-"
 FINAL = b"final\n"
 REFUSAL = re.compile(rb"refused (?P<slot>[a-z]+) row (?P<row>[0-9]+) reason .*")
-
-
-class Stopped(Exception):
-    """Why the campaign does not go on, and the status to end with."""
-
-    def __init__(self, status: int, why: str):
-        super().__init__(why)
-        self.status = status
+MADE = Text("day {day}{dated}: offers made {offers}, lapsed {lapses}; the report is {report}",
+            "jour {day}{dated} : propositions faites {offers}, caduques {lapses} ; le rapport est {report}")
+BY_HAND = Text("changed since day {day}: {changed}", "changé depuis le jour {day} : {changed}")
 
 
 Files = dict[str, bytes]
@@ -72,8 +70,7 @@ def test_file(path: Path) -> None:
     with suppress(OSError):  # it is told where it is read
         mode = os.stat(path).st_mode
         if not (stat.S_ISREG(mode) or stat.S_ISDIR(mode)):
-            raise Stopped(program.READ_FAULT, f"{path} is no file, but a device or a named pipe; put a file in its "
-                                              "place, and call again.")
+            raise Stopped(program.READ_FAULT, DEVICE.of(path=path))
 
 
 def test_files(folder: Path) -> None:
@@ -84,10 +81,8 @@ def test_files(folder: Path) -> None:
 def unread(error: OSError) -> Stopped:
     """What to say of a file that cannot be read; an error without a name is one of a file that is being written."""
     if error.filename is None:
-        return Stopped(program.WRITE_FAULT, f"a temporary file cannot be written: {error.strerror}; make room for it, "
-                                            "and call again.")
-    return Stopped(program.READ_FAULT, f"{error.filename}: {error.strerror}; see that it is there and may be read, and "
-                                       "call again.")
+        return Stopped(program.WRITE_FAULT, NO_ROOM.of(error=error.strerror))
+    return Stopped(program.READ_FAULT, NOT_READ.of(file=error.filename, error=error.strerror))
 
 
 def checksum(slot: Path) -> str:
@@ -124,8 +119,7 @@ def read_calendar(data: bytes, where: Path) -> Calendar:
         return Calendar.from_bytes(data)
     except ValueError:
         text = " | ".join(data.decode(errors="replace").splitlines())
-        raise Stopped(program.READ_FAULT, f"{shown(str(where))} is not as next_day wrote it: {shown(text)}. Put the "
-                                          "last one back, from the folder `after` of the latest day.") from None
+        raise Stopped(program.READ_FAULT, ODD_CALENDAR.of(path=shown(str(where)), text=shown(text))) from None
 
 
 def calendar_of(folder: Path, files: Files, asked: Calendar) -> Calendar:
@@ -134,8 +128,8 @@ def calendar_of(folder: Path, files: Files, asked: Calendar) -> Calendar:
         return asked
     kept = read_calendar(files[CALENDAR], folder / CALENDAR)
     if asked.today and (asked.today, asked.term) != (kept.today, kept.term):
-        dated = f"its coming day is {kept.today} with a term of {kept.term}" if kept.today else "it has no deadlines"
-        raise Stopped(program.BAD_WORDS, f"the campaign has begun, and {dated}; leave --start and --term out.")
+        dated = COMING.of(day=kept.today, term=kept.term) if kept.today else NO_DEADLINES.of()
+        raise Stopped(program.BAD_WORDS, BEGUN.of(dated=dated))
     return kept
 
 
@@ -147,9 +141,15 @@ def alone(folder: Path) -> Iterator[None]:
         fcntl.flock(handle, fcntl.LOCK_EX | fcntl.LOCK_NB)
         yield
     except BlockingIOError:
-        raise Stopped(program.READ_FAULT, "another call runs a day in this folder; wait until it has ended.") from None
+        raise Stopped(program.READ_FAULT, BUSY.of()) from None
     finally:
         os.close(handle)
+
+
+def lines_of(parts: list[object]) -> Filled:
+    """Texts as lines, one below the other."""
+    places = "\n".join(f"{{line{number}}}" for number in range(len(parts)))
+    return Text(places, places).of(**{f"line{number}": part for number, part in enumerate(parts)})
 
 
 def row_of(slot: Path, number: int) -> str:
@@ -161,18 +161,18 @@ def row_of(slot: Path, number: int) -> str:
     return ""
 
 
-def complaint(folder: Path, status: int, report: bytes) -> str:
+def complaint(folder: Path, status: int, report: bytes) -> Filled:
     """Why a day was not made: the program's own line, and the row that it names."""
     lines = report.splitlines()
     last = lines[-1] if lines and status in (program.REFUSED, program.BAD_WORDS, program.READ_FAULT) else b""
-    parts = [f"{program.meaning(status)} (status {status}); nothing is changed."]
+    parts: list[object] = [NOT_MADE.of(meaning=program.meaning(status), status=status)]
     if last:
         parts.append(last.decode(errors="replace"))
     if match := REFUSAL.fullmatch(last):
         slot = folder / f"{match['slot'].decode()}.csv"
-        parts.append(f"{slot.name}, row {match['row'].decode()}: {row_of(slot, int(match['row']))}")
-        parts.append("What to do: correct this row (docs/FORMATS.md has the reasons), and call again.")
-    return "\n".join(parts)
+        parts.append(ROW.of(file=slot.name, row=match["row"].decode(), cells=row_of(slot, int(match["row"]))))
+        parts.append(CORRECT_ROW)
+    return lines_of(parts)
 
 
 def run_day(folder: Path, calendar: Calendar, output: Path) -> bytes:
@@ -189,7 +189,7 @@ def record_of(report: bytes, sums: bytes, before: Files, calendar: Calendar) -> 
     """The record of a day from the program's text: the state after `final`, all else dated anew."""
     head, final, state = report.partition(b"\n" + FINAL)
     if not final:
-        raise Stopped(program.WRITE_FAULT, "the program's text has no final state; nothing is changed.")
+        raise Stopped(program.WRITE_FAULT, NO_FINAL.of())
     numbered = re.sub(rb"(?m)^day 1$", b"day %d" % calendar.day, head, count=1)
     after = {
         "state.csv": state,
@@ -222,12 +222,11 @@ def read_record(folder: Path) -> Record:
 def found_record(folder: Path, kept: Path, calendar: Calendar | None) -> Record:
     """The record that is there of the coming day, which must be of the slots as they are, and of this calendar."""
     record = read_record(kept)
-    changed = slots_changed(checksums(folder), record.checksums)
+    changed: list[object] = [*slots_changed(checksums(folder), record.checksums)]
     if calendar and record.after[CALENDAR] != calendar.next().to_bytes():
-        changed.append("the dates")
+        changed.append(DATES)
     if changed:
-        raise Stopped(program.READ_FAULT, f"{kept} is there already, and since then {', '.join(changed)} changed; put "
-                                          f"back what {kept / 'before'} has, delete {kept}, and call again.")
+        raise Stopped(program.READ_FAULT, IS_THERE.of(kept=kept, changed=Listed((*changed,)), before=kept / "before"))
     return record
 
 
@@ -236,15 +235,14 @@ def take_over(folder: Path, kept: Path, record: Record) -> None:
     now = read_files(folder)
     changed = [name for name in CHANGING if now[name] not in (record.before[name], record.after[name])]
     if changed:
-        raise Stopped(program.READ_FAULT, f"{', '.join(changed)}: changed since {kept} was made; put back what "
-                                          f"{kept / 'before'} has. Then call again, and make the change for the day "
-                                          f"after; or delete {kept}, and make the change: the day is made anew.")
+        raise Stopped(program.READ_FAULT,
+                      CHANGED_AFTER.of(changed=", ".join(changed), kept=kept, before=kept / "before"))
     for name in (*CHANGING, CALENDAR):
         if now.get(name) != record.after[name]:
             replace_file(folder / name, record.after[name])
 
 
-def changed_by_hand(days: Path, calendar: Calendar, record: Record) -> str:
+def changed_by_hand(days: Path, calendar: Calendar, record: Record) -> list[object]:
     """A line on what is not as the day before left it, but for the answers and ceilings, which are there to be
     changed; no line where all is, or where the record of that day is not whole any more."""
     earlier = days / f"day-{calendar.day - 1:03}"
@@ -252,21 +250,21 @@ def changed_by_hand(days: Path, calendar: Calendar, record: Record) -> str:
         then = (earlier / CHECKSUMS).read_bytes()
         left = {name: (earlier / "after" / name).read_bytes() for name in ("state.csv", CALENDAR)}
     except OSError:
-        return ""
+        return []
     changed = slots_changed(record.checksums, then)
     changed += [name for name, data in left.items() if record.before.get(name) != data]
-    return f"changed since day {calendar.day - 1}: {', '.join(changed)}" if changed else ""
+    return [BY_HAND.of(day=calendar.day - 1, changed=", ".join(changed))] if changed else []
 
 
-def told(calendar: Calendar, report: bytes, kept: Path) -> str:
+def told(calendar: Calendar, report: bytes, kept: Path) -> Filled:
     """A line on the day that is done."""
     lines = report.splitlines()
     offers, lapses = (sum(line.startswith(word) for line in lines) for word in (b"offer ", b"lapse "))
     dated = f" ({calendar.today})" if calendar.today else ""
-    return f"day {calendar.day}{dated}: offers made {offers}, lapsed {lapses}; the report is {kept / 'report.txt'}"
+    return MADE.of(day=calendar.day, dated=dated, offers=offers, lapses=lapses, report=kept / "report.txt")
 
 
-def next_day(folder: Path, asked: Calendar) -> str:
+def next_day(folder: Path, asked: Calendar) -> Filled:
     """Makes the coming day, or ends the one that was stopped half way; answers a line on it, and one on what was
     changed by hand since the day before."""
     with alone(folder):
@@ -284,8 +282,7 @@ def next_day(folder: Path, asked: Calendar) -> str:
         else:
             record = make_record(folder, files, calendar, kept)
         take_over(folder, kept, record)
-        lines = (told(calendar, record.report, kept), changed_by_hand(days, calendar, record))
-        return "\n".join(line for line in lines if line)
+        return lines_of([told(calendar, record.report, kept), *changed_by_hand(days, calendar, record)])
 
 
 def make_record(folder: Path, files: Files, calendar: Calendar, kept: Path) -> Record:
@@ -294,8 +291,7 @@ def make_record(folder: Path, files: Files, calendar: Calendar, kept: Path) -> R
         sums = checksums(folder)
         report = run_day(folder, calendar, staging / "report.txt")
         if (read_files(folder), checksums(folder)) != (files, sums):
-            raise Stopped(program.READ_FAULT, "a file of the dossier changed while the day was run; the day is not "
-                                              "made, call again.")
+            raise Stopped(program.READ_FAULT, CHANGED_MEANWHILE.of())
         record = record_of(report, sums, files, calendar)
         if ids := ids_checksum(folder):
             write_file(staging / IDS_CHECKSUM, ids)

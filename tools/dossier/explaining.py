@@ -12,23 +12,41 @@ from datetime import date, timedelta
 from pathlib import Path
 
 from . import program
-from .campaign import Stopped, unread
+from .campaign import unread
 from .explanation import AcceptedWish, Explanation, GoneWish, OfferedWish, Stamp, explanation_of
 from .faults import shown
 from .naming import Names, names_in
 from .records import OFFERED, WAITS, KeptDay, Wish, made_days, wishes_in
 from .setting import Day, Deadline, Moment, Setting
 from .slots import Thing
+from .stops import MEANT, Stopped
 from .telling import LANGUAGES, sentences
-from .texts import Language, spaced
+from .texts import Filled, Language, Text, said, spaced
 from .wording import Words
 from .writing import named_folder, stop_cleanly, write_whole
 
 SAID, NOT_THERE = 0, 1
+NO_WISH = Text("there is no wish {id} in the dossier; {instead}", "il n'y a pas de vœu {id} dans le dossier ; {instead}")
+IS_CANDIDATE = Text("it has a candidate of that id: name them behind --candidate.",
+                    "il y a un candidat de cet identifiant : nommez-le derrière --candidate.")
+GIVE_WISH = Text("give the id of its sheet, or its number.", "donnez son identifiant dans la feuille, ou son numéro.")
+NO_CANDIDATE = Text("no wish is of a candidate {id}; {instead}", "aucun vœu n'est d'un candidat {id} ; {instead}")
+IS_WISH = Text("there is a wish of that id: leave --candidate out.",
+               "il y a un vœu de cet identifiant : ne mettez pas --candidate.")
+GIVE_CANDIDATE = Text("give the id of the sheets, or the number.",
+                      "donnez son identifiant dans les feuilles, ou son numéro.")
+
+
+class NotThere(LookupError):
+    """What was asked about and is not in the dossier."""
+
+    def __init__(self, what: Filled):
+        super().__init__(what)
+        self.what = what
 
 
 def asked_wishes(given: list[str], candidates: list[str], wishes: list[Wish], names: Names) -> list[Wish]:
-    """The wishes that the words name, and those of the candidates; raises LookupError with what is not there."""
+    """The wishes that the words name, and those of the candidates; raises NotThere with what is not there."""
     by_number = {wish.wish: wish for wish in wishes}
     by_candidate: dict[int, list[Wish]] = {}
     for wish in wishes:
@@ -38,17 +56,13 @@ def asked_wishes(given: list[str], candidates: list[str], wishes: list[Wish], na
         number = names.number(Thing.WISH, word)
         if number not in by_number:
             is_candidate = names.number(Thing.CANDIDATE, word) in by_candidate
-            raise LookupError(f"there is no wish {shown(word)} in the dossier; " + (
-                "it has a candidate of that id: name them behind --candidate." if is_candidate else
-                "give the id of its sheet, or its number."))
+            raise NotThere(NO_WISH.of(id=shown(word), instead=IS_CANDIDATE if is_candidate else GIVE_WISH))
         found.append(by_number[number])
     for word in candidates:
         number = names.number(Thing.CANDIDATE, word)
         if number not in by_candidate:
             is_wish = names.number(Thing.WISH, word) in by_number
-            raise LookupError(f"no wish is of a candidate {shown(word)}; " + (
-                "there is a wish of that id: leave --candidate out." if is_wish else
-                "give the id of the sheets, or the number."))
+            raise NotThere(NO_CANDIDATE.of(id=shown(word), instead=IS_WISH if is_wish else GIVE_CANDIDATE))
         found += by_candidate[number]
     return list(dict.fromkeys(found))
 
@@ -123,7 +137,7 @@ def explained(wish: Wish, day: KeptDay, slots: Path) -> Explanation:
     found = explanation_of(line.removesuffix("\n"))
     if status != program.DONE or found is None:
         raise Stopped(status if 0 < status < 256 else program.READ_FAULT,
-                      f"{program.meaning(status)} (status {status}): {shown(line)}")
+                      MEANT.of(meaning=program.meaning(status), status=status, line=shown(line)))
     return found
 
 
@@ -169,15 +183,15 @@ def main(arguments: list[str]) -> int:
         stop_cleanly()
         gc.disable()
         return tell(given.folder, wishes, given.candidate, language)
-    except LookupError as error:
-        print(f"why: {error.args[0]}", file=sys.stderr)
+    except NotThere as error:
+        print(f"why: {said(error.what, language)}", file=sys.stderr)
         return NOT_THERE
     except Stopped as stop:
-        print(f"why: {stop}", file=sys.stderr)
+        print(f"why: {stop.said(language)}", file=sys.stderr)
         return stop.status
     except OSError as error:
         stop = unread(error)
-        print(f"why: {stop}", file=sys.stderr)
+        print(f"why: {stop.said(language)}", file=sys.stderr)
         return stop.status
 
 

@@ -9,15 +9,23 @@ from datetime import date
 from pathlib import Path
 
 from . import program
-from .campaign import CALENDAR, Stopped, next_day
+from .campaign import CALENDAR, next_day
 from .dating import Calendar
 from .faults import shown
-from .wording import Words
+from .stops import NO_DOSSIER, Stopped
+from .texts import Filled, Text
+from .wording import Words, language_here
 from .writing import Told, is_folder, named_folder, say, stop_cleanly
 
 FIRST_YEAR, LAST_YEAR = 1901, 2298
 LONGEST_TERM = 366
 PLAIN_DATE = re.compile(r"[0-9]{4}-[0-9]{2}-[0-9]{2}")
+GO_ON = Text("Nothing is lost: {day}, and the next call makes it.",
+             "Rien n'est perdu : {day}, et le prochain appel le joue.")
+COMING = Text("{calendar} says which day is coming", "{calendar} dit quel jour vient")
+FIRST_IS_COMING = Text("day 1 is coming still", "le jour 1 est encore à venir")
+NOT_DONE = Text("{file}: {error}. {go_on}", "{file} : {error}. {go_on}")
+TOLD_TO_STOP = Text("stopped. {go_on}", "arrêté. {go_on}")
 
 
 def start_date(text: str) -> date:
@@ -46,32 +54,37 @@ def words() -> Words:
                         help="the date of day 1, when the campaign begins with deadlines")
     parser.add_argument("--term", type=term_of_days, metavar="N",
                         help="the days that an offer stands after its own; given with --start")
+    parser.add_argument("--lang", choices=("en", "fr"), default=language_here(),
+                        help="the language of what is said; else that of the surroundings")
     return parser
 
 
-def go_on(folder: Path) -> str:
+def go_on(folder: Path) -> Filled:
     """What to do after a stop, which may have come when the day was made already."""
     coming = folder / CALENDAR
-    day = f"{coming} says which day is coming" if os.path.exists(coming) else "day 1 is coming still"
-    return f"Nothing is lost: {day}, and the next call makes it."
+    return GO_ON.of(day=COMING.of(calendar=coming) if os.path.exists(coming) else FIRST_IS_COMING)
 
 
 def main(arguments: list[str]) -> int:
     given = words().of_campaign(arguments)
+
+    def complain(why: Filled) -> None:
+        print(f"next_day: {why.said(given.lang)}", file=sys.stderr)
+
     if not is_folder(given.folder):
-        print(f"next_day: there is no folder {given.folder}; name the folder of the dossier.", file=sys.stderr)
+        complain(NO_DOSSIER.of(folder=given.folder))
         return program.READ_FAULT
     try:
         stop_cleanly()
         told = next_day(given.folder, Calendar(1, given.start, given.term))
     except Stopped as stop:
-        print(f"next_day: {stop}", file=sys.stderr)
+        complain(stop.why)
         return stop.status
     except OSError as error:
-        print(f"next_day: {error.filename or given.folder}: {error.strerror}. {go_on(given.folder)}", file=sys.stderr)
+        complain(NOT_DONE.of(file=error.filename or given.folder, error=error.strerror, go_on=go_on(given.folder)))
         return program.READ_FAULT if isinstance(error, FileNotFoundError) else program.WRITE_FAULT
     except Told as stop:
-        print(f"next_day: stopped. {go_on(given.folder)}", file=sys.stderr)
+        complain(TOLD_TO_STOP.of(go_on=go_on(given.folder)))
         return stop.status
-    say("next_day", told)
+    say("next_day", told.said(given.lang))
     return program.DONE

@@ -5,10 +5,11 @@ from collections.abc import Iterable
 from dataclasses import dataclass
 from pathlib import Path
 
-from .campaign import IDS, Stopped
+from .campaign import IDS
 from .headers import fold
 from .program import READ_FAULT
 from .slots import Thing
+from .stops import NOT_IDS, Stopped
 
 NUMBER = "number"
 KINDS = tuple(Thing)
@@ -54,7 +55,7 @@ def read_names(path: Path) -> Names:
             header, *rows = csv.reader(file)
             return names_of(list(_entries(tuple(header), rows)))
         except (ValueError, csv.Error):
-            raise Stopped(READ_FAULT, f"{path} is no table of ids as prepare writes it.") from None
+            raise Stopped(READ_FAULT, NOT_IDS.of(path=path)) from None
 
 
 def _entries(header: tuple[str, ...], rows: list[list[str]]) -> Iterable[tuple[Thing, int, str]]:

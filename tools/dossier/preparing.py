@@ -9,7 +9,6 @@ from datetime import date
 from itertools import islice
 from pathlib import Path
 
-from .campaign import Stopped
 from .cells import DateOrder, Rates
 from .faults import Faults, shown
 from .folders import Exports, read_folder
@@ -20,10 +19,11 @@ from .numbering import Numbers, number_ids, translated
 from .relations import Relations
 from .slots import SLOTS, Column, Content, Thing
 from .sources import SEPARATORS, TextSheet
+from .stops import Stopped
 from .tables import PROGRESS, Choices, Table
 from .texts import Counted, Filled, Language, OfName, Text, said
 from .values import ANSWER_WORDS, NOTHING, QUIT, STATUS_WORDS
-from .wording import Words, one_of
+from .wording import Words, language_here, one_of
 from .writing import Told, csv_bytes, is_folder, named_folder, say, stop_cleanly, write_folder
 
 DONE, FAULTY, BAD_WORDS, NOT_WRITTEN = range(4)
@@ -194,7 +194,7 @@ def main(arguments: list[str]) -> int:
         return prepare(given.exports, given.folder, Choices(given.dates, given.rates, columns),
                        earlier_names(given.ids, given.exports), given.lang)
     except Stopped as stop:
-        print(f"prepare: {stop}", file=sys.stderr)
+        print(f"prepare: {stop.said(given.lang or language_here())}", file=sys.stderr)
         return stop.status
     except OSError as error:
         print(f"prepare: {error.filename or given.folder}: {error.strerror}; {left(given.folder)}", file=sys.stderr)

@@ -6,16 +6,21 @@ import subprocess
 from pathlib import Path
 from typing import IO
 
+from .texts import Filled, Text
+
 DONE, REFUSED, BAD_WORDS, READ_FAULT, WRITE_FAULT, NO_MEMORY = range(6)
 NOT_BUILT = 125
 MEANINGS = {
-    REFUSED: "the dossier is refused",
-    BAD_WORDS: "the program does not know its words",
-    READ_FAULT: "a slot could not be read",
-    WRITE_FAULT: "its text could not be written, so it is cut",
-    NO_MEMORY: "memory ran out",
-    NOT_BUILT: "the program is not built, or cannot be started",
+    REFUSED: Text("the dossier is refused", "le dossier est refusé"),
+    BAD_WORDS: Text("the program does not know its words", "le programme ne connaît pas ces mots"),
+    READ_FAULT: Text("a slot could not be read", "un fichier n'a pas pu être lu"),
+    WRITE_FAULT: Text("its text could not be written, so it is cut", "son texte n'a pas pu être écrit en entier"),
+    NO_MEMORY: Text("memory ran out", "la mémoire a manqué"),
+    NOT_BUILT: Text("the program is not built, or cannot be started",
+                    "le programme n'est pas construit, ou ne peut pas démarrer"),
 }
+STOPPED = Text("the program was stopped by the signal {signal}", "le programme a été arrêté par le signal {signal}")
+ENDED_ODDLY = Text("the program ended oddly", "le programme a fini autrement que prévu")
 
 
 def program() -> str:
@@ -47,6 +52,5 @@ def run(words: list[str], folder: Path, output: IO[bytes]) -> int:
     return done.returncode
 
 
-def meaning(status: int) -> str:
-    ended = f"was stopped by the signal {-status}" if status < 0 else "ended oddly"
-    return MEANINGS.get(status, f"the program {ended}")
+def meaning(status: int) -> Filled:
+    return STOPPED.of(signal=-status) if status < 0 else MEANINGS.get(status, ENDED_ODDLY).of()

@@ -10,12 +10,13 @@ from functools import cached_property
 from pathlib import Path
 from typing import NamedTuple
 
-from .campaign import (CALENDAR, CHANGING, CHECKSUMS, IDS, IDS_CHECKSUM, LASTING, Stopped, checksums, ids_checksum,
+from .campaign import (CALENDAR, CHANGING, CHECKSUMS, IDS, IDS_CHECKSUM, LASTING, checksums, ids_checksum,
                        slots_changed, test_files, unread)
 from .dating import Calendar
 from .faults import shown
 from .program import READ_FAULT
 from .slots import WISHES, Slot
+from .stops import (CHANGED_SINCE, HALF_MADE, NO_DAY_MADE, NOT_NUMBERS, NOT_TAKEN, ODD_DAY, ODD_RECORD, Stopped)
 
 WAITING, OFFERED = "waiting", "offered"
 A_DAY = re.compile("day-[0-9]{3,}")
@@ -47,8 +48,7 @@ def records_of(dossier: Path, slot: Slot) -> Iterator[tuple[int, list[str]]]:
                     raise ValueError("another number of cells")
                 yield row, cells
     except (ValueError, csv.Error):
-        raise Stopped(READ_FAULT, f"{path}, row {row} or one after it: the program does not take it as it is; correct "
-                                  "it (docs/FORMATS.md), and call again.") from None
+        raise Stopped(READ_FAULT, NOT_TAKEN.of(path=path, row=row)) from None
 
 
 def rows_of(dossier: Path, slot: Slot) -> Iterator[list[int]]:
@@ -57,8 +57,8 @@ def rows_of(dossier: Path, slot: Slot) -> Iterator[list[int]]:
         try:
             yield [int(cell or 0) for cell in cells]
         except ValueError:
-            raise Stopped(READ_FAULT, f"{dossier / slot.file}, row {row}: {shown(','.join(cells))} is no row of "
-                                      "numbers; correct it (docs/FORMATS.md), and call again.") from None
+            raise Stopped(READ_FAULT, NOT_NUMBERS.of(path=dossier / slot.file, row=row,
+                                                     cells=shown(",".join(cells)))) from None
 
 
 def wishes_in(dossier: Path) -> list[Wish]:
@@ -83,7 +83,7 @@ def state_of(slot: bytes, path: Path) -> dict[int, Held]:
         _, *rows = [cells for cells in records if cells]
         return {int(wish): Held(status, *since) for wish, status, *since in rows}
     except (ValueError, TypeError, csv.Error):
-        raise Stopped(READ_FAULT, f"{path} is not as next_day wrote it; put it back as it was.") from None
+        raise Stopped(READ_FAULT, ODD_RECORD.of(path=path)) from None
 
 
 @dataclass(frozen=True)
@@ -166,9 +166,7 @@ class KeptDay:
         """The slots that do not change from day to day, and the ids, must be as they were for this one."""
         changed = slots_changed(self.checksums, checksums(dossier) + ids_checksum(dossier))
         if changed:
-            raise Stopped(READ_FAULT, f"{', '.join(changed)} changed since day {self.number} was made, so what the "
-                                      "program said of that day cannot be told; put it back as it was, or make the "
-                                      "next day.")
+            raise Stopped(READ_FAULT, CHANGED_SINCE.of(changed=", ".join(changed), day=self.number))
 
     def put_slots(self, dossier: Path, place: Path) -> None:
         """Makes the place hold the slots as they were for this day."""
@@ -186,8 +184,7 @@ def kept_day(folder: Path) -> KeptDay:
         today = coming.today and coming.today - timedelta(days=1)
         return KeptDay(folder, Calendar(coming.day - 1, today, coming.term))
     except ValueError:
-        raise Stopped(READ_FAULT, f"{folder} has a {CALENDAR} that next_day did not write; take the folder out.") \
-            from None
+        raise Stopped(READ_FAULT, ODD_DAY.of(folder=folder, file=CALENDAR)) from None
 
 
 def kept_days(dossier: Path) -> list[KeptDay]:
@@ -208,10 +205,9 @@ def made_days(dossier: Path) -> list[KeptDay]:
     test_files(dossier)
     days = kept_days(dossier)
     if not days:
-        raise Stopped(READ_FAULT, f"no day has been made in {dossier}: make one with next_day, and call again.")
+        raise Stopped(READ_FAULT, NO_DAY_MADE.of(dossier=dossier))
     last = days[-1].folder / "after" / CALENDAR
     coming = dossier / CALENDAR
     if not coming.exists() or coming.read_bytes() != last.read_bytes():
-        raise Stopped(READ_FAULT, f"day {days[-1].number} was not made to its end, or its slots were put back; call "
-                                  "next_day first.")
+        raise Stopped(READ_FAULT, HALF_MADE.of(day=days[-1].number))
     return days

@@ -7,13 +7,14 @@ from collections.abc import Iterator
 from pathlib import Path
 
 from . import program
-from .campaign import Stopped, test_file, test_files, unread
+from .campaign import test_file, test_files, unread
 from .decoding import Unreadable
 from .labels import Labels, read_labels
 from .naming import Names, names_in
 from .outputs import DIALECTS, Campaign, Dialect, Ranked, Row, Tables
 from .records import Wish, made_days, rows_of, wishes_in
 from .slots import BOARDING, PROGRAMMES, RANKINGS, SCHOOLS, Thing
+from .stops import NO_CAMPAIGN, Stopped
 from .texts import Language, Text
 from .wording import Words, language_here
 from .writing import Told, is_folder, named_folder, say, stop_cleanly, write_folder
@@ -147,14 +148,14 @@ def main(arguments: list[str]) -> int:
         print(f"tables: {given.out} {why}.", file=sys.stderr)
         return program.READ_FAULT
     if not is_folder(given.folder):
-        print(f"tables: there is no folder {given.folder}; name the folder of the campaign.", file=sys.stderr)
+        print(f"tables: {NO_CAMPAIGN.of(folder=given.folder).said(given.lang)}", file=sys.stderr)
         return program.READ_FAULT
     try:
         stop_cleanly()
         gc.disable()
         return tabulate(given.folder, given.out, given.names, DIALECTS[given.dialect], given.lang)
     except Stopped as stop:
-        print(f"tables: {stop}", file=sys.stderr)
+        print(f"tables: {stop.said(given.lang)}", file=sys.stderr)
         return stop.status
     except Unreadable as error:
         print(f"tables: {error.what.said(given.lang)}", file=sys.stderr)
@@ -163,7 +164,7 @@ def main(arguments: list[str]) -> int:
         if is_of_new(error, given.out):
             print(f"tables: {error.filename or given.out}: {error.strerror}; nothing is written.", file=sys.stderr)
             return program.WRITE_FAULT
-        print(f"tables: {unread(error)}", file=sys.stderr)
+        print(f"tables: {unread(error).said(given.lang)}", file=sys.stderr)
         return program.READ_FAULT
     except Told as stop:
         print("tables: stopped; nothing is written.", file=sys.stderr)

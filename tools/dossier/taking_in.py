@@ -6,7 +6,7 @@ from pathlib import Path
 
 from . import program
 from .answering import HEADER, Answer, SheetOfAnswers, answers_in, coming_day, tell_unfit
-from .campaign import Stopped, alone, test_file, test_files, unread
+from .campaign import alone, test_file, test_files, unread
 from .cells import DateOrder
 from .dating import Calendar
 from .decoding import Unreadable
@@ -17,10 +17,11 @@ from .naming import names_in
 from .preparing import chosen_column, columns_left_out
 from .records import wishes_in
 from .slots import ANSWER_SHEET, ANSWERS
+from .stops import NO_DOSSIER, Stopped
 from .tables import Choices, Table
 from .texts import Language, OfName, Text
 from .values import things
-from .wording import Words, one_of
+from .wording import Words, language_here, one_of
 from .writing import Told, csv_bytes, is_folder, named_folder, replace_file, say, stop_cleanly
 
 DONE, FAULTY = 0, 1
@@ -101,8 +102,9 @@ def take_in(folder: Path, sheet: Path, choices: Choices, calendar: Calendar, is_
 
 def main(arguments: list[str]) -> int:
     given = words().of_campaign(arguments)
+    here: Language = given.lang or language_here()
     if not is_folder(given.folder):
-        print(f"take_in: there is no folder {given.folder}; name the folder of the dossier.", file=sys.stderr)
+        print(f"take_in: {NO_DOSSIER.of(folder=given.folder).said(here)}", file=sys.stderr)
         return program.READ_FAULT
     try:
         stop_cleanly()
@@ -113,17 +115,16 @@ def main(arguments: list[str]) -> int:
             choices = Choices(given.dates, None, dict(given.column))
             return take_in(given.folder, given.sheet, choices, calendar, given.replace, given.lang)
     except Stopped as stop:
-        print(f"take_in: {stop}", file=sys.stderr)
+        print(f"take_in: {stop.said(here)}", file=sys.stderr)
         return stop.status
     except Unreadable as error:
-        language: Language = given.lang or "en"
-        print(f"{shown(str(given.sheet))}\n    {error.what.said(language)}\n    {error.to_do.said(language)}",
+        print(f"{shown(str(given.sheet))}\n    {error.what.said(here)}\n    {error.to_do.said(here)}",
               file=sys.stderr)
         return FAULTY
     except OSError as error:
         is_written = os.path.basename(str(error.filename)) == f".{ANSWERS.file}.new" or not error.filename
         told = f"{error.filename or given.folder}: {error.strerror}; the answers are as they were."
-        print(f"take_in: {told if is_written else unread(error)}", file=sys.stderr)
+        print(f"take_in: {told if is_written else unread(error).said(here)}", file=sys.stderr)
         return program.WRITE_FAULT if is_written else program.READ_FAULT
     except Told as stop:
         print("take_in: stopped; the answers are as they were, or all taken in.", file=sys.stderr)

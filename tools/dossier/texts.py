@@ -66,6 +66,16 @@ class OfName:
         return f"d'{self.name}" if begins_with_vowel else f"de {self.name}"
 
 
+@dataclass(frozen=True)
+class Listed:
+    """Names and texts, with commas."""
+
+    parts: tuple[object, ...]
+
+    def said(self, language: Language) -> str:
+        return ", ".join(said(part, language) for part in self.parts)
+
+
 @runtime_checkable
 class Sayable(Protocol):
     """What is said in one of the languages."""
