@@ -15,7 +15,7 @@ use Rattle.day_state.proofs.Runs.{IsRunSoFar, run_more}
 use Rattle.linked_demand.specs.declared.calling.CalledWish.{CalledWish}
 use Rattle.linked_demand.specs.Called.{before_at, called_for}
 use Rattle.linked_demand.specs.CalledWishes.{IsFrontOf, called_wishes_for, numbers_before, places_of}
-use Rattle.linked_demand.specs.Ends.{last_end, spans_from}
+use Rattle.linked_demand.specs.Ends.{last_end, spans_from, spans_in}
 use Rattle.linked_demand.specs.Links.{claim_of}
 use Rattle.linked_demand.specs.Notes.{IsNoted, Noted}
 use Rattle.linked_demand.specs.Opens.{line_of}
@@ -48,21 +48,30 @@ span_there a [] k lt = absurd (omega (arith, lt))
 span_there a (e ∷ es) zero lt = refl
 span_there a (e ∷ es) (suc k) lt = span_there e es k (omega (arith, lt))
 
--- where the part at a later place begins
-pub start_later : (ends : List ℕ) (k : ℕ) → (k ≡ 0 → ⊥) → get_or (0 ∷ ends) k 0 ≡ get_or ends (k - 1) 0
-start_later ends zero later = absurd (later refl)
-start_later ends (suc k) later =
-    let before : k ≡ suc k - 1 = omega arith in
-    ap (λ j. get_or ends j 0) before
+-- the bounds of the part at a place
+pub span_within : (bounds : List ℕ) (k : ℕ) → k + 1 < length bounds
+    → slice_get (spans_in bounds) k ≡ Some (record { from = get_or bounds k 0; to = get_or bounds (k + 1) 0 })
+unfolding spans_in
+span_within [] k lt = absurd (omega (arith, lt))
+span_within (a ∷ ends) k lt =
+    let next : suc k ≡ k + 1 = omega arith in
+    span_there a ends k (omega (arith, lt))
+    ∙ ap (λ j. Some (record { from = get_or (a ∷ ends) k 0; to = get_or (a ∷ ends) j 0 })) next
+
+-- there is a bound more than parts
+spans_of_bounds : (bounds : List ℕ) → length (spans_in bounds) ≡ length bounds - 1
+unfolding spans_in
+spans_of_bounds [] = omega arith
+spans_of_bounds (a ∷ ends) = omega (arith, length-spans a ends)
 
 -- the part that is lent of a list of parts
-pub part_lent : (wishes ends : List ℕ) {parts : List (List ℕ)} {k : ℕ} {span : Span}
-    → All (IsWithin (length wishes)) (spans_from 0 ends) → map (part_of wishes) (spans_from 0 ends) ≡ parts
-    → k < length ends → Some span ≡ slice_get (spans_from 0 ends) k
+pub part_lent : (wishes bounds : List ℕ) {parts : List (List ℕ)} (k : ℕ) {span : Span}
+    → All (IsWithin (length wishes)) (spans_in bounds) → map (part_of wishes) (spans_in bounds) ≡ parts
+    → k + 1 < length bounds → Some span ≡ slice_get (spans_in bounds) k
     → IsWithin (length wishes) span × (part_of wishes span ≡ get_or parts k [])
-part_lent wishes ends {parts} {k} {span} within are lt is =
-    let spans = spans_from 0 ends in
-    let there : k < length spans = omega (arith, lt, length-spans 0 ends) in
+part_lent wishes bounds {parts} k {span} within are lt is =
+    let spans = spans_in bounds in
+    let there : k < length spans = omega (arith, lt, spans_of_bounds bounds) in
     let here : get_or spans k span ≡ span =
     sym (unwrap_or-slice_get spans k span) ∙ ap (λ (o : Option Span). unwrap_or o span) (sym is) in (
       subst (IsWithin (length wishes)) here (within k span there),
@@ -70,12 +79,11 @@ part_lent wishes ends {parts} {k} {span} within are lt is =
           ∙ ap (λ (l : List (List ℕ)). get_or l k []) are,
     )
 
--- there are as many parts as ends
-pub many_parts : (wishes ends : List ℕ) {parts : List (List ℕ)} → map (part_of wishes) (spans_from 0 ends) ≡ parts
-    → length parts ≡ length ends
-many_parts wishes ends are =
-    ap (λ (l : List (List ℕ)). length l) (sym are) ∙ length-map (spans_from 0 ends) (part_of wishes)
-    ∙ length-spans 0 ends
+pub many_parts : (wishes bounds : List ℕ) {parts : List (List ℕ)} → map (part_of wishes) (spans_in bounds) ≡ parts
+    → length parts ≡ length bounds - 1
+many_parts wishes bounds are =
+    ap (λ (l : List (List ℕ)). length l) (sym are) ∙ length-map (spans_in bounds) (part_of wishes)
+    ∙ spans_of_bounds bounds
 
 -- a wish that is read past the end
 abbrev pub nobody : CalledWish
@@ -132,18 +140,28 @@ pub record IsWalked (d : DossierRows) (orders : List CallOrder) (p : ℕ) (calle
   pub ends_there : last_end 0 ends ≡ length wishes
   pub lined : IsLined d orders p (places_of called) (length wishes) (spans_from 0 ends) notes
 
+-- and the bounds of the claims
+pub record IsWalkedBy (d : DossierRows) (orders : List CallOrder) (p : ℕ) (called : List CalledWish)
+    (wishes bounds : List ℕ) (notes : Noted) : Type 0 where
+  pub ends : List ℕ
+  pub bounds_are : bounds ≡ 0 ∷ ends
+  pub walked : IsWalked d orders p called wishes ends notes
+
 pub walked_none : (d : DossierRows) (orders : List CallOrder) (p : ℕ) (called : List CalledWish)
-    (wishes ends : List ℕ) (notes : Noted) → wishes ≡ [] → ends ≡ [] → AreSeated d orders (is_below p) notes
-    → IsWalked d orders p called wishes ends notes
+    (wishes bounds : List ℕ) (notes : Noted) → wishes ≡ [] → bounds ≡ 0 ∷ [] → AreSeated d orders (is_below p) notes
+    → IsWalkedBy d orders p called wishes bounds notes
 unfolding spans_from last_end
-walked_none d orders p called wishes ends notes no_wish no_end seated =
-    let P = λ (ws : List ℕ). IsWalked d orders p called ws ends notes in
-    let Q = λ (es : List ℕ). IsWalked d orders p called [] es notes in
-    subst P (sym no_wish) (subst Q (sym no_end) (record {
-      front = record { within = omega arith; are = refl };
-      ends_there = refl;
-      lined = lined_none d orders p (places_of called) [] notes refl seated;
-    }))
+walked_none d orders p called wishes bounds notes no_wish bounds_are seated =
+    let P = λ (ws : List ℕ). IsWalked d orders p called ws [] notes in
+    record {
+      ends = [];
+      bounds_are = bounds_are;
+      walked = subst P (sym no_wish) (record {
+        front = record { within = omega arith; are = refl };
+        ends_there = refl;
+        lined = lined_none d orders p (places_of called) [] notes refl seated;
+      });
+    }
 
 module _ (d : DossierRows) (orders : List CallOrder) (p : ℕ) (called : List CalledWish)
     (is : called ≡ called_wishes_for d orders p) (once : IsDistinct nat_eq (line_of d orders p)) where
@@ -221,23 +239,36 @@ module _ (d : DossierRows) (orders : List CallOrder) (p : ℕ) (called : List Ca
                 (subst Q taken noted);
           }
 
+  -- the claims that are found are those before the last bound
+  pub found_before : {wishes bounds : List ℕ} {notes : Noted} (by : IsWalkedBy d orders p called wishes bounds notes)
+      → length bounds ≡ length by.ends + 1
+  found_before by = omega (arith, ap length by.bounds_are)
+
   -- at the end all are taken over
   pub all_taken : {wishes ends : List ℕ} {notes : Noted} → IsWalked d orders p called wishes ends notes
       → length called ≤ length wishes → wishes ≡ places_of called
   all_taken {wishes} walked le =
       walked.front.are ∙ take_all (length wishes) (places_of called) (omega (arith, le, many_places))
 
-  pub walked_all : {wishes ends : List ℕ} {notes : Noted} → IsWalked d orders p called wishes ends notes
+  pub walked_all : {wishes bounds : List ℕ} {notes : Noted} → IsWalkedBy d orders p called wishes bounds notes
       → length called ≤ length wishes
-      → (map (part_of wishes) (spans_from 0 ends) ≡ map (claim_of d p) (line_of d orders p))
+      → (map (part_of wishes) (spans_in bounds) ≡ map (claim_of d p) (line_of d orders p))
       × AreSeated d orders (is_passed p (line_of d orders p)) notes
-  walked_all {wishes} {ends} {notes} walked le =
+  unfolding spans_in
+  walked_all {wishes} {bounds} {notes} by le =
+      let walked = by.walked in
+      let spans = spans_from 0 by.ends in
       let done = lined_all d orders p (places_of called) (numbers_before called) places_are before_are once
-      (length wishes) (spans_from 0 ends) notes walked.lined (omega (arith, le, many_places)) in
-      (ap (λ (ws : List ℕ). map (part_of ws) (spans_from 0 ends)) (all_taken walked le) ∙ done.0, done.1)
+      (length wishes) spans notes walked.lined (omega (arith, le, many_places)) in (
+        ap (λ (bs : List ℕ). map (part_of wishes) (spans_in bs)) by.bounds_are
+            ∙ ap (λ (ws : List ℕ). map (part_of ws) spans) (all_taken walked le) ∙ done.0,
+        done.1,
+      )
 
-  pub ends_within : {wishes ends : List ℕ} {notes : Noted} → IsWalked d orders p called wishes ends notes
-      → length called ≤ length wishes → All (IsWithin (length wishes)) (spans_from 0 ends)
-  ends_within {wishes} {ends} walked le =
-      let P = λ (ws : List ℕ). All (IsWithin (length ws)) (spans_from 0 ends) in
-      subst P (sym (all_taken walked le)) walked.lined.within
+  pub bounds_within : {wishes bounds : List ℕ} {notes : Noted} → IsWalkedBy d orders p called wishes bounds notes
+      → length called ≤ length wishes → All (IsWithin (length wishes)) (spans_in bounds)
+  unfolding spans_in
+  bounds_within {wishes} {bounds} by le =
+      let P = λ (ws : List ℕ). All (IsWithin (length ws)) (spans_from 0 by.ends) in
+      let Q = λ (bs : List ℕ). All (IsWithin (length wishes)) (spans_in bs) in
+      subst Q (sym by.bounds_are) (subst P (sym (all_taken by.walked le)) by.walked.lined.within)

@@ -1,9 +1,9 @@
 //! The claims of those who wish for a programme: each candidate's wishes for it.
-ghost use Rattle.std.specs.Prelude.{◌≡◌, ◌<◌, ◌≤◌, ◌^◌, ◌&&◌, [], true, false, nat_lt, nat_le, length, map, All, Some, slice_get, slice_index_or};
+ghost use Rattle.std.specs.Prelude.{◌≡◌, ◌+◌, ◌<◌, ◌≤◌, ◌^◌, ◌&&◌, [], true, false, nat_lt, nat_le, length, map, All, Some, slice_get, slice_index_or};
 ghost use Rattle.std.specs.List.Sorted.{IsNonDecreasingBy, IsPartitionPoint};
 ghost use Rattle.day_state.specs.Spans.{IsWithin, part_of};
 ghost use Rattle.linked_demand.specs.Claims.{IsSpanOf, begins_at, candidates_of, lower_before};
-ghost use Rattle.linked_demand.specs.Ends.{spans_from};
+ghost use Rattle.linked_demand.specs.Ends.{spans_in};
 
 use crate::wishing::Application;
 use day_state::{Span, part};
@@ -83,59 +83,61 @@ pub fn span_of(applications: &[Application], candidate: u32, guess: usize) -> Sp
     }
 }
 
-/// Where in a list the part at a place begins and ends, of parts that follow one another and end at
-/// these places.
-fn span_at(ends: &[u32], place: usize) -> Span
-    requires { place < length ends.now }
-    ensures { Some result ≡ slice_get (spans_from 0 ends.now) place }
+/// Where in a list the part at a place begins and ends, of parts that follow one another within
+/// these bounds.
+fn span_at(bounds: &[u32], place: usize) -> Span
+    requires { place + 1 < length bounds.now }
+    ensures { Some result ≡ slice_get (spans_in bounds.now) place }
 {
-    let from = if place == 0 { 0 } else { ends[place - 1] };
     Span {
-        from,
-        to: ends[place],
+        from: bounds[place],
+        to: bounds[place + 1],
     }
 }
 
 /// The claims of those who stand in a line, by place: parts of the list of the wishes, which follow
-/// one another, and of each where it ends.
+/// one another, by where the first one begins and where each ends.
 pub struct Claims {
     wishes: Vec<u32>,
-    ends: Vec<u32>,
+    bounds: Vec<u32>,
 }
 
 // Not derived: so claims are dropped in one step where they are held, and not list by list.
 impl Drop for Claims {
     fn drop(self) {
-        let Claims { wishes: _, ends: _ } = self;
+        let Claims {
+            wishes: _,
+            bounds: _,
+        } = self;
     }
 }
 
 impl Model for Claims {
     ghost use Rattle.std.specs.Prelude.{ℕ, List, length, map, All};
     ghost use Rattle.day_state.specs.Spans.{IsWithin, part_of};
-    ghost use Rattle.linked_demand.specs.Ends.{spans_from};
+    ghost use Rattle.linked_demand.specs.Ends.{spans_in};
 
     ghost Value = { List (List ℕ) };
 
-    ghost view = { λ c. map (part_of c.wishes.items) (spans_from 0 c.ends.items) };
+    ghost view = { λ c. map (part_of c.wishes.items) (spans_in c.bounds.items) };
 
-    ghost invariant = { λ c. All (IsWithin (length c.wishes.items)) (spans_from 0 c.ends.items) };
+    ghost invariant = { λ c. All (IsWithin (length c.wishes.items)) (spans_in c.bounds.items) };
 }
 
 impl Claims {
-    /// The claims that follow one another in a list of wishes and end at these places.
-    pub fn new(wishes: Vec<u32>, ends: Vec<u32>) -> Claims
-        requires { All (IsWithin (length wishes.items)) (spans_from 0 ends.items) }
-        ensures { result ≡ map (part_of wishes.items) (spans_from 0 ends.items) }
+    /// The claims that follow one another in a list of wishes within these bounds.
+    pub fn new(wishes: Vec<u32>, bounds: Vec<u32>) -> Claims
+        requires { All (IsWithin (length wishes.items)) (spans_in bounds.items) }
+        ensures { result ≡ map (part_of wishes.items) (spans_in bounds.items) }
     {
-        Claims { wishes, ends }
+        Claims { wishes, bounds }
     }
 
     /// How many claims there are.
     pub fn count(&self) -> usize
         ensures { result ≡ length self.now }
     {
-        self.ends.len()
+        self.bounds.len().saturating_sub(1)
     }
 
     /// The wishes of the claim at a place.
@@ -143,6 +145,9 @@ impl Claims {
         requires { place < length self.now }
         ensures { result.now ≡ slice_index_or self.now place [] }
     {
-        part(self.wishes.as_slice(), span_at(self.ends.as_slice(), place))
+        part(
+            self.wishes.as_slice(),
+            span_at(self.bounds.as_slice(), place),
+        )
     }
 }

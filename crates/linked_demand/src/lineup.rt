@@ -80,16 +80,18 @@ fn line_up(
         (is_passed programme (line_of state.now.dossier orders.now.orders programme)) notes.new) }
 {
     let mut wishes = Vec::with_capacity(alloc, called.len())?;
-    let mut ends = Vec::with_capacity(alloc, called.len())?;
+    let mut bounds = Vec::with_capacity(alloc, called.len() + 1)?;
+    bounds.push(0)?;
     let limit = limit_of(state, programme);
     while wishes.len() < called.len() {
         let from = wishes.len();
         let is_called = is_called_by_limit(called[from].before, limit);
         take_claim(&mut wishes, called)?;
-        notes.note(&wishes[from..], ends.len() as u32, is_called);
-        ends.push(wishes.len() as u32)?;
+        let place = bounds.len() as u32 - 1;
+        notes.note(&wishes[from..], place, is_called);
+        bounds.push(wishes.len() as u32)?;
     }
-    Ok(Claims::new(wishes, ends))
+    Ok(Claims::new(wishes, bounds))
 }
 
 /// For each programme those who wish for it, with their claims. What is known of wishes is noted.

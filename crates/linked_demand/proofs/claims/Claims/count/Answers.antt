@@ -6,6 +6,6 @@ pub returns : goal.returns
 returns c =
     omega (
       arith,
-      many_parts c.self.inside.wishes.items c.self.inside.ends.items c.self.view_is,
+      many_parts c.self.inside.wishes.items c.self.inside.bounds.items c.self.view_is,
       c.len.ensures,
     )
