@@ -47,8 +47,9 @@ pub fn note_fresh<L: Ledger>(
     ensures steps { steps.new
         ≡ steps.old + count_by (is_fresh state.now bars.now opens.now
         (all_sure state.now notes.now.called_by_limit)) claim.now }
-    ensures marked { MarksWishes state.now (λ x. is_among x.0 claim.now && is_fresh state.now
-        bars.now opens.now (all_sure state.now notes.now.called_by_limit) x.0) marked.old marked.new }
+    ensures marked { MarksWishes state.now (λ x. is_among x.0 claim.now
+        && is_fresh state.now bars.now opens.now (all_sure state.now notes.now.called_by_limit) x.0)
+        marked.old marked.new }
 {
     for wish in claim {
         if is_fresh(state, bars, opens, notes, *wish) {

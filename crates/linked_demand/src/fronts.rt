@@ -31,7 +31,8 @@ pub fn list_sure(
 ) -> Result<(), OutOfMemory>
     requires { All (λ k. k < length state.now.dossier.wishes) wishes.now }
     ensures { OnOk result (ListsAlso (listed_open opens.now
-        (all_sure state.now notes.now.called_by_limit) wishes.now) found.old.items found.new.items) }
+        (all_sure state.now notes.now.called_by_limit) wishes.now)
+        found.old.items found.new.items) }
 {
     for wish in wishes {
         if is_sure_open(state, opens, notes, *wish) {

@@ -1,4 +1,5 @@
-use Rattle.std.proofs.Common.{ℕ, ◌-◌, ◌<◌, ◌≤◌, ◌≡◌, ◌++◌, [], ◌∷◌, List, length, arith, get_or, sym, ap, subst, refl, ◌∙◌}
+use Rattle.std.proofs.Common.{ℕ, ◌-◌, ◌<◌, ◌≤◌, ◌≡◌, ◌++◌, [], ◌∷◌, List, length, arith, get_or, sym, ap, subst, refl}
+use Rattle.std.proofs.Common.{◌∙◌}
 use Rattle.std.specs.Prelude.{All, nat_lt}
 use Rattle.linked_demand.specs.Ends.{spans_from}
 use Rattle.linked_demand.specs.Notes.{IsNoted}
@@ -89,7 +90,8 @@ loop-wishes-preserved c =
     let end : c.len-in-loop-wishes-2.result ≡ length next = omega (arith, c.len-in-loop-wishes-2.ensures) in
     let found = found_before d orders p called c.requires.called c.requires.once by in
     let is_called = c.is_called_by_limit-is_called.result in
-    let Q = λ (ks : List ℕ). IsNoted ks (c.len-in-loop-wishes.result - 1) is_called c.loop-wishes.notes c.note.new.self in
+    let Q = λ (ks : List ℕ). IsNoted ks (c.len-in-loop-wishes.result - 1) is_called c.loop-wishes.notes
+    c.note.new.self in
     record {
       ends = by.ends ++ length next ∷ [];
       bounds_are =
@@ -97,7 +99,8 @@ loop-wishes-preserved c =
           ∙ ap (λ (l : List ℕ). l ++ length next ∷ []) by.bounds_are;
       walked = walked_more d orders p called c.requires.called c.requires.once by.walked lt
           c.in_ok-take_claim.ensures.front c.in_ok-take_claim.ensures.further c.in_ok-take_claim.ensures.run
-          (by.ends ++ length next ∷ []) c.note.new.self (c.len-in-loop-wishes.result - 1) is_called c.len-from.result refl
+          (by.ends ++ length next ∷ []) c.note.new.self
+          (c.len-in-loop-wishes.result - 1) is_called c.len-from.result refl
           (omega (arith, c.len-in-loop-wishes.ensures, found)) (omega (arith, c.len-from.ensures))
           (c.is_called_by_limit-is_called.ensures
           ∙ ap (nat_lt (get_or called c.len-from.result nobody).before) c.limit_of-limit.ensures)
