@@ -84,24 +84,24 @@ fn place_in(ids: &RowIds, id: u32) -> u32
     ids.get_index_of(id).unwrap_or(ids.len()) as u32
 }
 
-/// The same, looked for at a place first.
+/// The same for an id that may be missing.
+fn place_in_any(ids: &RowIds, id: Option<u32>) -> Option<u32>
+    requires { length ids.now.keys < 2 ^ 32 }
+    ensures { result ≡ option_map (place_of ids.now.keys) id }
+{
+    match id {
+        Some(id) => Some(place_in(ids, id)),
+        None => None,
+    }
+}
+
+/// The place of an id, which is looked for at a place first.
 fn place_from(ids: &RowIds, id: u32, near: u32) -> u32
     requires { length ids.now.keys < 2 ^ 32 }
     ensures { result ≡ place_of ids.now.keys id }
 {
     let mut near = near as usize;
     place_near(ids, id, &mut near)
-}
-
-/// The same for an id that may be missing.
-fn place_from_any(ids: &RowIds, id: Option<u32>, near: u32) -> Option<u32>
-    requires { length ids.now.keys < 2 ^ 32 }
-    ensures { result ≡ option_map (place_of ids.now.keys) id }
-{
-    match id {
-        Some(id) => Some(place_from(ids, id, near)),
-        None => None,
-    }
 }
 
 /// The rank of a wish's candidate in its school; 0 without a school. Its row is looked for at a
@@ -187,7 +187,7 @@ impl<'a> Makes<WishRow, Wish> for Places<'a> {
             id: row.id,
             candidate: row.candidate,
             programme: place_from(&self.keys.programmes, row.programme, near.programme),
-            school: place_from_any(&self.keys.schools, row.school, near.school),
+            school: place_in_any(&self.keys.schools, row.school),
             board_rank: board_rank_of(self.tables, self.keys, row, near.rank),
             preference: row.preference,
         }

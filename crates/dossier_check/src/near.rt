@@ -8,12 +8,11 @@ pub(crate) fn first_places(alloc: Global, groups: usize) -> Result<Vec<u32>, Out
     Ok(vec![in alloc; 0; groups]?)
 }
 
-/// Where the tests found what a wish names. It is looked for there first once more.
+/// Where the tests found what a wish names. It is looked for there first once more. A school is not
+/// kept: few wishes name one.
 #[derive(Clone, Copy)]
 pub(crate) struct NamedPlaces {
     pub(crate) programme: u32,
-    /// 0 without a school.
-    pub(crate) school: u32,
     /// The place of the candidate's rank in the school; 0 without a school.
     pub(crate) rank: u32,
 }
@@ -21,7 +20,6 @@ pub(crate) struct NamedPlaces {
 /// The first places.
 const FIRST: NamedPlaces = NamedPlaces {
     programme: 0,
-    school: 0,
     rank: 0,
 };
 
@@ -32,10 +30,9 @@ pub(crate) fn small(place: usize) -> u32 {
 
 impl NamedPlaces {
     /// These places.
-    pub(crate) fn of(programme: usize, school: usize, rank: usize) -> NamedPlaces {
+    pub(crate) fn of(programme: usize, rank: usize) -> NamedPlaces {
         NamedPlaces {
             programme: small(programme),
-            school: small(school),
             rank: small(rank),
         }
     }

@@ -20,13 +20,13 @@ use admit_core::{OutOfMemory, Reason, Tables, WishRow};
 use indexmap::IndexSet;
 use keyed_hash::Keyed;
 
-/// The place of a wish's school, or 0 without one.
-fn school_place(schools: &RowIds, school: Option<u32>) -> Option<usize>
-    ensures { is_some result ≡ option_map_or (λ h. is_among h schools.now.keys) school true }
+/// Whether a wish's school is there, or it has none.
+fn knows_school(schools: &RowIds, school: Option<u32>) -> bool
+    ensures { result ≡ option_map_or (λ h. is_among h schools.now.keys) school true }
 {
     match school {
-        Some(school) => schools.get_index_of(school),
-        None => Some(0),
+        Some(school) => schools.contains(school),
+        None => true,
     }
 }
 
@@ -77,16 +77,16 @@ fn places_named(
     let Some(programme) = known.programmes.get_index_of(row.programme) else {
         return Err(Reason::Unknown(3));
     };
-    let Some(school) = school_place(known.schools, row.school) else {
+    if !knows_school(known.schools, row.school) {
         return Err(Reason::Unknown(4));
-    };
+    }
     if !is_ranked(all_ranked, known.ranked, near, row.candidate, programme) {
         return Err(Reason::Unranked);
     }
     let Some(rank) = rank_place(known.boarded, row.candidate, row.school) else {
         return Err(Reason::NoBoardingRank);
     };
-    Ok(NamedPlaces::of(programme, school, rank))
+    Ok(NamedPlaces::of(programme, rank))
 }
 
 /// The candidate may not wish for what the wish names, or it isn't there.

@@ -20,8 +20,8 @@ returns-then-not-is_ranked c t before known =
     ap (list_any (nat_eq row.programme)) (sym known.programmes) ∙ sym c.get_index_of.ensures.found
     ∙ ap is_some c.in-Some.is in
     let school : option_map_or (λ h. is_among h (school_ids t)) row.school true ≡ true =
-    (λ i. option_map_or (λ h. is_among h (sym known.schools i)) row.school true) ∙ sym c.school_place.ensures
-    ∙ ap is_some c.in-Some-school_place.is in
+    (λ i. option_map_or (λ h. is_among h (sym known.schools i)) row.school true) ∙ sym c.knows_school.ensures
+    ∙ c.if-not-knows_school.false in
     let at = sym c.in-Some.is ∙ c.get_index_of.ensures.index ∙ ap (position (nat_eq row.programme)) known.programmes
     ∙ position-map (nat_eq row.programme) (λ p. p.id) t.programmes in
     not_ranked t c.args.all_ranked before row programme school
@@ -34,8 +34,8 @@ returns-in_default-rank_place c t before known =
     ap (list_any (nat_eq row.programme)) (sym known.programmes) ∙ sym c.get_index_of.ensures.found
     ∙ ap is_some c.in-Some.is in
     let school : option_map_or (λ h. is_among h (school_ids t)) row.school true ≡ true =
-    (λ i. option_map_or (λ h. is_among h (sym known.schools i)) row.school true) ∙ sym c.school_place.ensures
-    ∙ ap is_some c.in-Some-school_place.is in
+    (λ i. option_map_or (λ h. is_among h (sym known.schools i)) row.school true) ∙ sym c.knows_school.ensures
+    ∙ c.if-not-knows_school.false in
     let at = sym c.in-Some.is ∙ c.get_index_of.ensures.index ∙ ap (position (nat_eq row.programme)) known.programmes
     ∙ position-map (nat_eq row.programme) (λ p. p.id) t.programmes in
     let ranked : (c.args.all_ranked || is_ranked t row.programme row.candidate) ≡ true =
@@ -50,8 +50,8 @@ returns c t before known =
     ap (list_any (nat_eq row.programme)) (sym known.programmes) ∙ sym c.get_index_of.ensures.found
     ∙ ap is_some c.in-Some.is in
     let school : option_map_or (λ h. is_among h (school_ids t)) row.school true ≡ true =
-    (λ i. option_map_or (λ h. is_among h (sym known.schools i)) row.school true) ∙ sym c.school_place.ensures
-    ∙ ap is_some c.in-Some-school_place.is in
+    (λ i. option_map_or (λ h. is_among h (sym known.schools i)) row.school true) ∙ sym c.knows_school.ensures
+    ∙ c.if-not-knows_school.false in
     let at = sym c.in-Some.is ∙ c.get_index_of.ensures.index ∙ ap (position (nat_eq row.programme)) known.programmes
     ∙ position-map (nat_eq row.programme) (λ p. p.id) t.programmes in
     let ranked : (c.args.all_ranked || is_ranked t row.programme row.candidate) ≡ true =
