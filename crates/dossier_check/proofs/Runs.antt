@@ -9,8 +9,16 @@ use Rattle.std.proofs.lemmas.List.Folds.{list_all_at}
 use Rattle.std.proofs.lemmas.Option.{slice_get-get_or}
 use Rattle.admit_core.specs.declared.tables.WishRow.{WishRow}
 use Rattle.dossier_check.specs.declared.apart.Run.{Run}
-use Rattle.dossier_check.specs.Runs.{IsRunUpTo, clashes, run_with}
+use Rattle.dossier_check.specs.Runs.{IsRunUpTo, alike, clashes, run_with}
 use Rattle.dossier_check.proofs.Places.{nat_eq_sound}
+
+-- wishes that clash are alike
+clash_alike : (row r : WishRow) → clashes row r ≡ true → alike row r ≡ true
+clash_alike row r clash = by (nat_eq row.candidate r.candidate) refl
+  where
+    by : (b : Bool) → nat_eq row.candidate r.candidate ≡ b → alike row r ≡ true
+    by true e = rw e at clash
+    by false e = cc (rw e at clash)
 
 -- wishes of two candidates do not clash
 of_two : (row r : WishRow) → r.candidate < row.candidate → clashes row r ≡ false
@@ -69,7 +77,7 @@ row_there rows row place within is d =
 -- a run that goes on
 module _ (rows : List WishRow) (run : Run) (to : ℕ) (within : to < length rows) (before : IsRunUpTo rows run to) where
   module _ (row : WishRow) (here : (d : WishRow) → get_or rows to d ≡ row) (same : row.candidate ≡ run.candidate)
-      (apart : list_all (λ r. not (clashes row r)) (slice_range rows run.from to) ≡ true) where
+      (apart : list_all (λ r. not (alike row r)) (slice_range rows run.from to) ≡ true) where
     own_apart : (j : ℕ) (d : WishRow) → run.from ≤ j → j < to → clashes row (get_or rows j d) ≡ false
     own_apart j d late early = by (clashes row (get_or rows j d)) refl
       where
@@ -89,8 +97,9 @@ module _ (rows : List WishRow) (run : Run) (to : ℕ) (within : to < length rows
         by : (b : Bool) → clashes row (get_or rows j d) ≡ b → clashes row (get_or rows j d) ≡ false
         by false e = e
         by true e =
-            let fails : not (clashes row (get_or part (j - run.from) d)) ≡ false = rw (place, e) refl in
-            absurd (true≢false (sym apart ∙ list_all_at (λ r. not (clashes row r)) part (j - run.from) d long fails))
+            let fails : not (alike row (get_or part (j - run.from) d)) ≡ false =
+            rw (place, clash_alike row (get_or rows j d) e) refl in
+            absurd (true≢false (sym apart ∙ list_all_at (λ r. not (alike row r)) part (j - run.from) d long fails))
 
     early_or_late : (j : ℕ) → (j < run.from) ⊎ (run.from ≤ j)
     early_or_late j = grind arith

@@ -2,7 +2,7 @@
 use Rattle.std.specs.Prelude.{◌≡◌, ◌≤◌, ◌<◌, ℕ, Bool, false, ◌&&◌, ◌||◌, List, Option, Some, None, get_or, nat_eq}
 use Rattle.std.specs.Prelude.{nat_lt, if◌then◌else◌}
 use Rattle.admit_core.specs.declared.tables.WishRow.{WishRow}
-use Rattle.admit_core.specs.Relations.{same_wish}
+use Rattle.admit_core.specs.Relations.{same_school, same_wish}
 use Rattle.dossier_check.specs.declared.apart.Run.{Run}
 
 -- whether a wish has a preference that another wish of the candidate has
@@ -14,6 +14,12 @@ same_preference row r =
 -- whether two wishes must not stand in one slot
 abbrev pub clashes : WishRow → WishRow → Bool
 clashes row r = same_wish row r || same_preference row r
+
+-- whether two wishes of one candidate clash
+abbrev pub alike : WishRow → WishRow → Bool
+alike row r =
+    (nat_eq row.programme r.programme && same_school row.school r.school)
+    || (nat_lt 0 row.preference && nat_eq row.preference r.preference)
 
 -- the run of the next row's candidate, where candidates rise
 abbrev pub run_with : Run → ℕ → ℕ → Option Run

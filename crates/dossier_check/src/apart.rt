@@ -2,7 +2,7 @@
 ghost use Rattle.std.specs.Prelude.{◌≡◌, ◌+◌, ◌≤◌, ◌<◌, ◌&&◌, AllPairs, IfOk, IfSome, Some, false, length, nat_eq, not, slice_get, true};
 ghost use Rattle.std.specs.List.{list_all};
 ghost use Rattle.admit_core.specs.Relations.{same_wish};
-ghost use Rattle.dossier_check.specs.Runs.{IsRunUpTo, clashes, run_with, same_preference};
+ghost use Rattle.dossier_check.specs.Runs.{IsRunUpTo, alike, clashes, run_with};
 ghost use Rattle.dossier_check.specs.Wished.{has_preference};
 
 use crate::preferred::preferences_apart;
@@ -13,27 +13,19 @@ use std::alloc::Global;
 /// The most wishes of a candidate that are compared with one another.
 const MOST: usize = 32;
 
-/// Whether two rows are of the same wish.
-fn same_wish(row: &WishRow, other: &WishRow) -> bool
-    ensures { result ≡ same_wish row.now other.now }
+/// Whether two wishes of one candidate are the same, or have the same preference.
+fn alike(row: &WishRow, other: &WishRow) -> bool
+    ensures { result ≡ alike row.now other.now }
 {
-    row.candidate == other.candidate
-        && row.programme == other.programme
-        && row.school == other.school
+    let same_wish = row.programme == other.programme && row.school == other.school;
+    same_wish || 0 < row.preference && row.preference == other.preference
 }
 
-/// Whether a wish has a preference that another wish of the candidate has.
-fn same_preference(row: &WishRow, other: &WishRow) -> bool
-    ensures { result ≡ same_preference row.now other.now }
-{
-    row.candidate == other.candidate && 0 < row.preference && row.preference == other.preference
-}
-
-/// Whether a wish clashes with none of these.
+/// Whether a wish is like none of these.
 fn is_apart(row: &WishRow, others: &[WishRow]) -> bool
-    ensures { result ≡ list_all (λ r. not (clashes row.now r)) others.now }
+    ensures { result ≡ list_all (λ r. not (alike row.now r)) others.now }
 {
-    others.iter().all(|other| !(same_wish(row, other) || same_preference(row, other)))
+    others.iter().all(|other| !alike(row, other))
 }
 
 /// The wish at a place.
