@@ -21,6 +21,7 @@ TOOLS = TOP / "tools"
 EXAMPLES = TOP / "examples"
 DATA = Path(__file__).resolve().parent / "data"
 LONGEST_RUN = 120
+IN_ENGLISH = {"LC_ALL": "C.UTF-8"}  # the surroundings, where no language is asked for
 LONGEST_SHOWN = 300
 
 
@@ -105,8 +106,8 @@ def run(*words: str | Path, folder: Path = TOP, given: bytes = b"", environment:
         def limit() -> None:
             resource.setrlimit(resource.RLIMIT_FSIZE, (greatest_file, greatest_file))
     with subprocess.Popen([str(word) for word in words], cwd=folder, stdin=subprocess.PIPE, stdout=output,
-                          stderr=subprocess.PIPE, env={**os.environ, **(environment or {})}, preexec_fn=limit,
-                          start_new_session=True) as call:
+                          stderr=subprocess.PIPE, env={**os.environ, **IN_ENGLISH, **(environment or {})},
+                          preexec_fn=limit, start_new_session=True) as call:
         try:
             told, complained = call.communicate(given, LONGEST_RUN)
         except BaseException:
@@ -128,7 +129,7 @@ def stopped_once_begun(number: signal.Signals, wait: float, folder: Path, tool: 
                        **environment: str) -> Ended:
     """Sends the signal to a check so many seconds after it has something in this temporary folder."""
     with subprocess.Popen([TOOLS / tool, *words], cwd=folder, stdout=subprocess.PIPE, stderr=subprocess.PIPE,
-                          env={**os.environ, **environment, "TMPDIR": str(folder)},
+                          env={**os.environ, **IN_ENGLISH, **environment, "TMPDIR": str(folder)},
                           # A shell that runs this beside others has its interrupts passed over.
                           preexec_fn=lambda: signal.signal(signal.SIGINT, signal.SIG_DFL)) as call:
         while call.poll() is None and not list(folder.iterdir()):

@@ -22,7 +22,7 @@ from .slots import Thing
 from .stops import MEANT, Stopped
 from .telling import LANGUAGES, sentences
 from .texts import Filled, Language, Text, said, spaced
-from .wording import Words
+from .wording import Words, language_here
 from .writing import named_folder, stop_cleanly, write_whole
 
 SAID, NOT_THERE = 0, 1
@@ -165,7 +165,8 @@ def words() -> Words:
         "Status: 0 said, 1 no such wish or candidate, 2 bad words, 3 not read, 4 not written; else the program's.")
     parser.add_argument("folder", type=named_folder, metavar="FOLDER", help="the folder that next_day keeps")
     parser.add_argument("words", nargs="*", metavar="WISH",
-                        help="wishes, each by its id or its number; a last word fr or en is the language")
+                        help="wishes, each by its id or its number; a last word fr or en is the language, "
+                        "else that of the surroundings")
     parser.add_argument("--candidate", action="append", default=[], metavar="C",
                         help="all wishes of this candidate; may be given again")
     return parser
@@ -175,7 +176,7 @@ def main(arguments: list[str]) -> int:
     parser = words()
     given = parser.of(arguments)
     *wishes, last = given.words or [""]
-    language: Language = "fr" if last == "fr" else "en"
+    language: Language = "fr" if last == "fr" else "en" if last == "en" else language_here()
     wishes += [last] if last and last not in LANGUAGES else []
     if not wishes and not given.candidate:
         parser.bad("name a wish, or a candidate with --candidate")

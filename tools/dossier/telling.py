@@ -9,7 +9,7 @@ from .explanation import (AcceptedWish, BarredWish, Explanation, GoneWish, Offer
 from .faults import shown
 from .setting import OF_A_RUN, Setting
 from .texts import Language, spaced
-from .wording import Words
+from .wording import Words, language_here
 from .writing import write_whole
 
 SAID, NOT_A_LINE, BAD_WORDS, NOT_READ, NOT_WRITTEN = range(5)
@@ -61,9 +61,9 @@ def in_words(data: bytes, language: Language) -> str:
 
 def words() -> Words:
     parser = Words("in_words", "Says the one line of `parcours explain` on standard input in plain sentences, in "
-                   "English where no language is named.",
+                   "the language of the surroundings where none is named.",
                    "Status: 0 said, 1 not one line of explain, 2 bad words, 3 not read, 4 not written.")
-    parser.add_argument("language", nargs="?", choices=list(LANGUAGES), default="en", help="en or fr")
+    parser.add_argument("language", nargs="?", choices=list(LANGUAGES), default=language_here(), help="en or fr")
     return parser
 
 
