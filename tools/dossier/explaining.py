@@ -26,7 +26,8 @@ from .wording import Words, language_here
 from .writing import named_folder, stop_cleanly, write_whole
 
 SAID, NOT_THERE = 0, 1
-NO_WISH = Text("there is no wish {id} in the dossier; {instead}", "il n'y a pas de vœu {id} dans le dossier ; {instead}")
+NO_WISH = Text("there is no wish {id} in the dossier; {instead}",
+               "il n'y a pas de vœu {id} dans le dossier ; {instead}")
 IS_CANDIDATE = Text("it has a candidate of that id: name them behind --candidate.",
                     "il y a un candidat de cet identifiant : nommez-le derrière --candidate.")
 GIVE_WISH = Text("give the id of its sheet, or its number.", "donnez son identifiant dans la feuille, ou son numéro.")
