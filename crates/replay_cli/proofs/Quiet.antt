@@ -2,7 +2,6 @@
 use Rattle.std.proofs.Common.{◌≡◌, ◌⊎◌, ℕ, ◌+◌, ◌≤◌, ◌<◌, List, Result, Ok, Err, IsErrAnd, ap, arith, inl, inr, length, refl}
 use Rattle.std.proofs.Common.{subst}
 use Rattle.std.specs.Fmt.{digits}
-use Rattle.std.specs.Prelude.{Contains}
 use Rattle.admit_core.specs.Lines.{slot_name}
 use Rattle.admit_core.specs.declared.refusal.Reason.TheVariants.{TooLarge}
 use Rattle.admit_core.specs.declared.slot.Slot.{Slot}
