@@ -66,7 +66,7 @@ module _ (terms : Option Terms) (orders : List CallOrder) (day : ℕ) (old dawn 
 
   pub chain_tells : {X : Type 0} (result : Result X Unproved)
       → TellsWhy result (rejected_at (day_fault orders ceilings day dawn chain))
-          → TellsWhy result (why_not terms orders day old chain)
+      → TellsWhy result (why_not terms orders day old chain)
   chain_tells result tells =
       subst (TellsWhy result)
       (ap rejected_at fault_same

@@ -19,7 +19,7 @@ returns-in-Ok-clause-valid c =
     subst (λ (e : State). IsDayChain orders c.args.ceilings.now c.args.day c.args.morning.now c.args.chain.now e)
     (sym c.into_now.ensures)
     (subst (λ (s : State). IsDayChain orders c.args.ceilings.now c.args.day s c.args.chain.now
-        c.check_day_on.new.present)
+    c.check_day_on.new.present)
     (c.begin-present.ensures ∙ c.in_ok-copy.ensures) c.in-Ok.ensures.valid)
 
 pub returns-in-Ok-clause-greatest : goal.returns-in-Ok-clause-greatest

@@ -48,7 +48,7 @@ proved_text-requires c =
     subst (CanBeDated dated) (sym c.into_now.ensures)
     (evening_dated c.args.input.now.dossier dated c.begin-present.result c.check_days.new.present
     (c.begin-present.ensures ∙ c.in_ok-first.ensures.now ∙ c.requires.first) stays c.in-Ok.ensures.stamps
-        c.requires.dated)
+    c.requires.dated)
 
 pub returns-in-Ok : goal.returns-in-Ok
 returns-in-Ok c =
