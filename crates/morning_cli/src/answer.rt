@@ -1,5 +1,6 @@
 //! What a run answers, before anything is written.
-ghost use Rattle.std.specs.Prelude.{◌≡◌, IfOk, IsOk, IsTrue, None, Ok, map, option_copied, string_bytes};
+ghost use Rattle.std.specs.Prelude.{◌≡◌, IfOk, IsOk, IsTrue, None, Ok, map, option_copied};
+ghost use Rattle.std.specs.Prelude.{string_bytes};
 ghost use Rattle.admit_core.specs.Relations.{first_fault};
 ghost use Rattle.admit_core.specs.Standing.{dossier_of};
 ghost use Rattle.admit_core.specs.declared.tables.Tables.{Tables};

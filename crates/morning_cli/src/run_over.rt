@@ -1,5 +1,5 @@
 //! One run of the program, over any shelf and any sink.
-ghost use Rattle.std.specs.Prelude.{◌≡◌, map, string_bytes};
+ghost use Rattle.std.specs.Prelude.{map, string_bytes};
 ghost use Rattle.intake.specs.Shelves.{on_shelf};
 ghost use Rattle.played.specs.Lent.{AreThere, standing};
 ghost use Rattle.replay_cli.specs.Run.{HidesNone, at_sink};
