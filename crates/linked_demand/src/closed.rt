@@ -1,5 +1,5 @@
 //! Closing a wish by which its candidate may have a seat.
-ghost use Rattle.std.specs.Prelude.{◌≡◌, ◌<◌, ◌&&◌, [], false, length, nat_lt, slice_index_or, slice_set, All};
+ghost use Rattle.std.specs.Prelude.{◌≡◌, ◌<◌, ◌&&◌, [], false, length, nat_lt, slice_index_or, slice_set};
 ghost use Rattle.day_state.specs.Kept.{has_seat_there};
 ghost use Rattle.linked_demand.specs.Wants.{stops_wanting};
 

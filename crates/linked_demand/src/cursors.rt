@@ -1,5 +1,5 @@
 //! Where the search for an open wish of a claim goes on.
-ghost use Rattle.std.specs.Prelude.{◌≡◌, ◌<◌, ◌≤◌, ◌&&◌, drop, false, length, nat_lt, not, slice_index_or, All};
+ghost use Rattle.std.specs.Prelude.{◌≡◌, ◌<◌, ◌≤◌, ◌&&◌, drop, false, length, nat_lt, not, slice_index_or};
 ghost use Rattle.std.specs.List.{list_any};
 
 use crate::open_wishes::OpenWishes;

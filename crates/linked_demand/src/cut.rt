@@ -1,7 +1,7 @@
 //! A bar falls.
-ghost use Rattle.std.specs.Prelude.{◌≡◌, ℕ, ◌+◌, ◌<◌, ◌≤◌, length, take, List, Bool, count_by};
+ghost use Rattle.std.specs.Prelude.{◌≡◌, ◌+◌, ◌<◌, ◌≤◌, length, take, count_by};
 ghost use Rattle.std.specs.List.{enumerate_from};
-ghost use Rattle.admit_core.specs.State.{State, entries};
+ghost use Rattle.admit_core.specs.State.{entries};
 ghost use Rattle.linked_demand.specs.Marks.{is_new, MarksWishes};
 ghost use Rattle.linked_demand.specs.Rows.{row_in, CanBeCut, CutsAt};
 

@@ -4,7 +4,6 @@ ghost use Rattle.std.specs.Prelude.{◌≡◌, ◌≤◌, ◌<◌, ◌&&◌, fal
 ghost use Rattle.admit_core.specs.Lists.{is_among};
 ghost use Rattle.linked_demand.specs.Fronts.{sure_open, listed_open, claimed_open, reached_open, ListsAlso, AreFronts};
 ghost use Rattle.linked_demand.specs.Opens.{all_sure};
-ghost use Rattle.linked_demand.specs.Wants.{AreBelow};
 
 use crate::claims::Claims;
 use crate::notes::Notes;

@@ -1,5 +1,5 @@
 //! Who has a bed in each school.
-ghost use Rattle.std.specs.Prelude.{◌≡◌, ℕ, ◌<◌, ◌&&◌, Bool, List, None, [], false, length, nat_eq, nat_le, not, replicate, slice_index_or, slice_set, IfOk, OnOk};
+ghost use Rattle.std.specs.Prelude.{◌≡◌, ℕ, ◌<◌, ◌&&◌, Bool, List, None, [], false, length, nat_eq, nat_le, not, replicate, slice_index_or, slice_set, IfOk};
 ghost use Rattle.linked_demand.specs.declared.rows.RowWish.{RowWish};
 ghost use Rattle.linked_demand.specs.Demand.{is_proposed_at};
 ghost use Rattle.linked_demand.specs.Housed.{kept, within, AllHoused, AreHoused};

@@ -1,6 +1,6 @@
 //! Those who wish for each programme, in call order: this follows from the dossier and its call
 //! orders alone, so that all passes of a day share it.
-ghost use Rattle.std.specs.Prelude.{◌≡◌, ℕ, ◌<◌, ◌≤◌, ◌^◌, length, map, nat_eq, nat_lt, IfOk, OnOk};
+ghost use Rattle.std.specs.Prelude.{◌≡◌, ℕ, ◌<◌, ◌^◌, length, map, nat_eq, nat_lt, IfOk, OnOk};
 ghost use Rattle.std.specs.List.{IsDistinct};
 ghost use Rattle.admit_core.specs.CallOrder.{AreCallOrders};
 ghost use Rattle.day_state.specs.Kept.{HoldsOneKey};

@@ -1,5 +1,5 @@
 //! Which wishes are open at the bars with which a round begins.
-ghost use Rattle.std.specs.Prelude.{◌≡◌, ℕ, ◌<◌, ◌&&◌, false, length, map, not, slice_index_or, All, IfOk};
+ghost use Rattle.std.specs.Prelude.{◌≡◌, ℕ, ◌<◌, ◌&&◌, false, length, not, slice_index_or, All, IfOk};
 ghost use Rattle.admit_core.specs.Lists.{is_among};
 ghost use Rattle.day_state.specs.Kept.{has_bed_there};
 ghost use Rattle.linked_demand.specs.Opens.{opens_of};
