@@ -146,7 +146,7 @@ PROMISED = """| promise | contract |
 
 | call | answers | when | then |
 |---|---|---|---|
-| `read_slot` | `TooLarge` | `too_large` | `taken`, `gifen` |
+| `read_slot` | `TooLarge` | `reads` | `over`, `gifen` |
 """
 
 
