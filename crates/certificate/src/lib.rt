@@ -31,6 +31,6 @@ pub use grounds::Grounds;
 pub use read::read_chain;
 pub use refusal::ChainRefusal;
 pub use stop::{CheckStop, Rejection};
-pub use texts::{chain_fault_text, verdict_text};
+pub use texts::{chain_fault_text, push_verdict, verdict_text};
 pub use worked::worked_chain_texts;
 pub use write::write_chain;

@@ -35,7 +35,7 @@ fn push_kept(text: &mut String, dossier: &Dossier, reason: CheckReason) -> Resul
 }
 
 /// Adds the line of a day's chain that is not valid.
-fn push_verdict(
+pub fn push_verdict(
     text: &mut String,
     dossier: &Dossier,
     row: u64,

@@ -1,6 +1,8 @@
 -- A day whose chain is tested.
-use Rattle.std.proofs.Common.{◌≡◌, ◌∙◌, ℕ, ◌+◌, List, [], ◌∷◌, Option, None, Result, IfSome, All, ap}
-use Rattle.std.proofs.Common.{length, map, refl, subst, sym}
+use Rattle.std.proofs.Common.{◌≡◌, ◌∙◌, ℕ, ◌+◌, List, [], ◌∷◌, Option, None, Some, Result, Ok, Err, IfOk, IfSome, All}
+use Rattle.std.proofs.Common.{ap, length, map, refl, subst, sym}
+use Rattle.std.specs.Prelude.{Vec}
+use Rattle.std.specs.declared.alloc.Global.{Global}
 use Rattle.std.specs.Prelude.{option_map}
 use Rattle.std.specs.List.{range_with_len}
 use Rattle.std.specs.Option.{option_or}
@@ -15,6 +17,7 @@ use Rattle.admit_core.specs.declared.chain.PassChain.{PassChain}
 use Rattle.admit_core.specs.declared.ranking.CallOrder.{CallOrder}
 use Rattle.admit_core.specs.declared.records.DayRecord.{DayRecord}
 use Rattle.admit_core.specs.declared.records.Terms.{Terms}
+use Rattle.admit_core.specs.declared.refusal.OutOfMemory.{OutOfMemory}
 use Rattle.admit_core.specs.declared.state.Status.{Status}
 use Rattle.certificate.proofs.Ending.{evening_is}
 use Rattle.certificate.specs.ChainText.{HasPassesOf}
@@ -28,12 +31,16 @@ use Rattle.intake.specs.Dated.{AreDatedFor}
 use Rattle.intake.specs.declared.terms.DatedTerms.{DatedTerms}
 use Rattle.modes.proofs.Writable.{finals_dated, first_known}
 use Rattle.modes.specs.CheckedDays.{StopsBy, TellsWhy}
-use Rattle.modes.specs.Checking.{EndsProof, IsReply, IsUnproved, rejected_at, why_none, why_not}
+use Rattle.modes.specs.Checking.{EndsProof, IsRefused, IsReply, Replies, rejected_at, why_none, why_not}
 use Rattle.modes.specs.Replay.{CanBeDated, CanBeWritten}
 use Rattle.modes.specs.declared.exit.Exit.{Exit}
 use Rattle.modes.specs.declared.exit.Exit.TheVariants as exits
 use Rattle.modes.specs.declared.unproved.Unproved.{Unproved}
-use Rattle.modes.specs.declared.unproved.Unproved.TheVariants.{Unfit, Rejected, OutOfMemory}
+use Rattle.modes.specs.declared.reply.Reply.{Reply}
+use Rattle.modes.specs.declared.unproved.Unproved.TheVariants as unproved
+use Rattle.modes.specs.declared.unproved.Unproved.TheVariants.{Refused}
+use Rattle.modes.specs.declared.unproved.Why.{Why}
+use Rattle.modes.specs.declared.unproved.Why.TheVariants.{Unfit}
 
 -- a day keeps the dossier, and so do many
 passes_stay : (orders : List CallOrder) (ceilings : List ℕ) (day k : ℕ) (s : State) (passes : List PassChain)
@@ -110,23 +117,19 @@ module _ (terms : Option Terms) (orders : List CallOrder) (day : ℕ) (old dawn 
     keeps_stamps = stamps_kept terms orders (ceilings_of old.dossier day) old told evening is_day
 
 -- the days from a place on
-pub why_stops : (found : Unproved) (why rest all : Option Unproved) → all ≡ option_or why rest → StopsBy found why
+pub why_stops : (found : Unproved) (why rest all : Option Why) → all ≡ option_or why rest → StopsBy found why
     → StopsBy found all
-why_stops (Unfit refusal) why rest all is stops = is ∙ ap (λ o. option_or o rest) stops
-why_stops (Rejected told) why rest all is stops = is ∙ ap (λ o. option_or o rest) stops
-why_stops OutOfMemory why rest all is stops = tt
+why_stops (Refused reason) why rest all is stops = is ∙ ap (λ o. option_or o rest) stops
+why_stops unproved.OutOfMemory why rest all is stops = tt
 
-pub why_goes_on : (why rest all : Option Unproved) → all ≡ option_or why rest → why ≡ None → all ≡ rest
+pub why_goes_on : (why rest all : Option Why) → all ≡ option_or why rest → why ≡ None → all ≡ rest
 why_goes_on why rest all is none = is ∙ ap (λ o. option_or o rest) none
 
 -- a stop of the test is that of the days
-pub stop_ends : (d : DossierRows) (found : Unproved) (why : Option Unproved) (whole : List ℕ) (exit : Exit)
-    (text : List ℕ) → StopsBy found why → IsUnproved d found exit text → EndsProof d why whole exit text
-stop_ends d (Unfit refusal) why whole exit text stops is =
-    subst (λ (o : Option Unproved). EndsProof d o whole exit text) (sym stops) is
-stop_ends d (Rejected told) why whole exit text stops is =
-    subst (λ (o : Option Unproved). EndsProof d o whole exit text) (sym stops) is
-stop_ends d OutOfMemory why whole exit text stops is = absurd is
+pub stop_ends : (d : DossierRows) (found : Why) (why : Option Why) (whole : List ℕ) (exit : Exit)
+    (text : List ℕ) → why ≡ Some found → IsRefused d found exit text → EndsProof d why whole exit text
+stop_ends d found why whole exit text stops is =
+    subst (λ (o : Option Why). EndsProof d o whole exit text) (sym stops) is
 
 -- days that are proved have nothing against them, and lead to their evening
 none_against : (terms : Option Terms) (orders : List CallOrder) (day : ℕ) (old : State) (chain : DayChain)
@@ -146,7 +149,7 @@ proved_none terms orders d old [] new are = refl
 proved_none terms orders d old (chain ∷ chains) new are =
     let evening = are.0 in
     let leads_to = evening_is orders (ceilings_of old.dossier d) d 1 (morning terms d old) chain.passes evening are.2 in
-    ap (λ (o : Option Unproved). option_or o (why_none terms orders (d + 1)
+    ap (λ (o : Option Why). option_or o (why_none terms orders (d + 1)
     (evening_by terms orders d old chain) chains)) (none_against terms orders d old chain evening are.1 are.2)
     ∙ ap (λ (s : State). why_none terms orders (d + 1) s chains) (sym leads_to)
     ∙ proved_none terms orders (d + 1) evening chains new are.3
@@ -154,7 +157,7 @@ proved_none terms orders d old (chain ∷ chains) new are =
 -- the test goes on after a day that is proved, and stops at one that is not
 module _ (terms : Option Terms) (orders : List CallOrder) (k : ℕ) (s next : State) (chain : DayChain)
     (rest : List DayChain) where
-  pub days_go_on : (whole : Option Unproved) → whole ≡ why_none terms orders k s (chain ∷ rest)
+  pub days_go_on : (whole : Option Why) → whole ≡ why_none terms orders k s (chain ∷ rest)
       → why_not terms orders k s chain ≡ None → next ≡ evening_by terms orders k s chain
       → whole ≡ why_none terms orders (k + 1) next rest
   days_go_on whole e none is =
@@ -166,7 +169,7 @@ module _ (terms : Option Terms) (orders : List CallOrder) (k : ℕ) (s next : St
       → next ≡ evening_by terms orders k s chain → whole ≡ evening_after terms orders (k + 1) next rest
   evening_goes_on whole e is = e ∙ ap (λ (t : State). evening_after terms orders (k + 1) t rest) (sym is)
 
-  pub days_stop : (found : Unproved) (whole : Option Unproved) → whole ≡ why_none terms orders k s (chain ∷ rest)
+  pub days_stop : (found : Unproved) (whole : Option Why) → whole ≡ why_none terms orders k s (chain ∷ rest)
       → StopsBy found (why_not terms orders k s chain) → StopsBy found whole
   days_stop found whole e stops = why_stops found (why_not terms orders k s chain)
       (why_none terms orders (k + 1) (evening_by terms orders k s chain) rest) whole e stops
@@ -181,10 +184,21 @@ module _ {terms told : Option Terms} {orders lent : List CallOrder} {first begun
   evening_alike = λ i. evening_after (as_told i) (as_lent i) 1 (as_begun i) days
 
 -- a run is done where nothing is against its days
-pub proof_ends : (d : DossierRows) (found : Option Unproved) (whole : List ℕ) (exit : Exit) (text : List ℕ)
+pub proof_ends : (d : DossierRows) (found : Option Why) (whole : List ℕ) (exit : Exit) (text : List ℕ)
     → found ≡ None → IsReply exits.Done whole exit text → EndsProof d found whole exit text
 proof_ends d found whole exit text none is =
-    subst (λ (o : Option Unproved). EndsProof d o whole exit text) (sym none) is
+    subst (λ (o : Option Why). EndsProof d o whole exit text) (sym none) is
+
+-- a reply is by what the test of the days told
+pub proof_replied : (d : DossierRows) (why : Option Why) (whole : List ℕ) (tested : Result (Vec ℕ Global) Unproved)
+    (result : Result Reply OutOfMemory) → TellsWhy tested why → IfOk tested (λ text. text.items ≡ whole)
+    → Replies d tested result → IfOk result (λ reply. EndsProof d why whole reply.exit reply.text.items)
+proof_replied d why whole (Ok text) (Ok reply) none is ends =
+    proof_ends d why whole reply.exit reply.text.items none (ends.0, ends.1 ∙ is)
+proof_replied d why whole (Err (Refused found)) (Ok reply) stops is ends =
+    stop_ends d found why whole reply.exit reply.text.items stops ends
+proof_replied d why whole (Err unproved.OutOfMemory) (Ok reply) stops is ends = absurd ends
+proof_replied d why whole tested (Err e) tells is ends = tt
 
 -- the evening after days from the first one on can be written with its dates
 pub evening_dated : (d : DossierRows) (dated : Option DatedTerms) (begun evening : State) → begun ≡ first_evening d

@@ -14,8 +14,8 @@ use Rattle.modes.proofs.CheckedDay.{proved_none}
 use Rattle.modes.specs.Checking.{EndsCheck, EndsProof, IsChecked, proved_text}
 use Rattle.modes.specs.declared.exit.Exit.{Exit}
 use Rattle.modes.specs.declared.exit.Exit.TheVariants as exits
-use Rattle.modes.specs.declared.unproved.Unproved.{Unproved}
-use Rattle.modes.specs.declared.unproved.Unproved.TheVariants as whys
+use Rattle.modes.specs.declared.unproved.Why.{Why}
+use Rattle.modes.specs.declared.unproved.Why.TheVariants as whys
 
 -- the exits after the days of a run
 abbrev pub IsAfterDays : Exit → Type 0
@@ -27,12 +27,12 @@ IsAfterDays _ = ⊥
 pub is_after : (exit is : Exit) → exit ≡ is → IsAfterDays is → IsAfterDays exit
 is_after exit is e after = subst IsAfterDays (sym e) after
 
-proof_exit : (d : DossierRows) (why : Option Unproved) (whole : List ℕ) (exit : Exit) (text : List ℕ)
+proof_exit : (d : DossierRows) (why : Option Why) (whole : List ℕ) (exit : Exit) (text : List ℕ)
     → EndsProof d why whole exit text → IsAfterDays exit
 proof_exit d None whole exit text ends = is_after exit exits.Done ends.0 tt
+proof_exit d (Some (whys.NoChain fault)) whole exit text ends = is_after exit exits.NotProved ends.0 tt
 proof_exit d (Some (whys.Unfit refusal)) whole exit text ends = is_after exit exits.Refused ends.0 tt
-proof_exit d (Some (whys.Rejected told)) whole exit text ends = is_after exit exits.NotProved ends.0 tt
-proof_exit d (Some whys.OutOfMemory) whole exit text ends = absurd ends
+proof_exit d (Some (whys.Rejected found)) whole exit text ends = is_after exit exits.NotProved ends.0 tt
 
 read_exit : (d : DossierRows) (dated : Option DatedTerms) (orders : List CallOrder) (chain : Result Chain ChainFault)
     (exit : Exit) (text : List ℕ) → EndsCheck d dated orders chain exit text → IsAfterDays exit
@@ -55,5 +55,5 @@ check_done d dated orders bytes chain evening exit text reads are ends =
     (evening_after (terms_in dated) orders 1 (first_evening d) chain.days) dated in
     let none = proved_none (terms_in dated) orders 1 (first_evening d) chain.days evening are in
     let done : EndsProof d None whole exit text =
-    subst (λ (o : Option Unproved). EndsProof d o whole exit text) none told in
+    subst (λ (o : Option Why). EndsProof d o whole exit text) none told in
     done.0

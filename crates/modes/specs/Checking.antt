@@ -1,6 +1,6 @@
 -- The mode `check`: the days of a chain, tested one after another.
-use Rattle.std.specs.Prelude.{◌≡◌, ℕ, ◌+◌, List, [], ◌∷◌, ◌++◌, Option, Some, None, Result, Ok, Err, codes, length}
-use Rattle.std.specs.Prelude.{option_map}
+use Rattle.std.specs.Prelude.{◌≡◌, ℕ, ◌+◌, ◌<◌, List, [], ◌∷◌, ◌++◌, Option, Some, None, Result, Ok, Err}
+use Rattle.std.specs.Prelude.{MatchResult, Vec, codes, length, option_map, ⊤}
 use Rattle.std.specs.Fmt.{decimal}
 use Rattle.std.specs.Option.{option_or}
 use Rattle.admit_core.specs.CallOrder.{AreCallOrders}
@@ -28,22 +28,28 @@ use Rattle.request.specs.declared.modes.Mode.{Mode}
 use Rattle.request.specs.declared.modes.Mode.TheVariants.{Check}
 use Rattle.modes.specs.Jobs.{FitsAnswers, dossier, terms_of}
 use Rattle.modes.specs.Replay.{final_lines}
+use Rattle.modes.specs.declared.reply.Reply.{Reply}
 use Rattle.modes.specs.declared.unproved.Unproved.{Unproved}
-use Rattle.modes.specs.declared.unproved.Unproved.TheVariants.{Unfit, Rejected, OutOfMemory}
+use Rattle.modes.specs.declared.unproved.Unproved.TheVariants as unproved
+use Rattle.modes.specs.declared.unproved.Why.{Why}
+use Rattle.modes.specs.declared.unproved.Why.TheVariants.{NoChain, Unfit, Rejected}
+use Rattle.std.specs.declared.alloc.Global.{Global}
+use Rattle.admit_core.specs.declared.refusal.OutOfMemory.{OutOfMemory}
 use Rattle.modes.specs.declared.exit.Exit.{Exit}
 use Rattle.modes.specs.declared.exit.Exit.TheVariants.{Done, Refused, NotProved}
 
-abbrev pub rejected_at : Option (ℕ × CheckReason) → Option Unproved
+-- a fault of a day's chain
+abbrev pub rejected_at : Option (ℕ × CheckReason) → Option Why
 rejected_at fault = option_map (λ x. Rejected (record { row = x.0; reason = x.1 })) fault
 
 -- why a day is not proved: its first answer that does not fit, or else the first fault of its chain
-abbrev pub why_not : Option Terms → List CallOrder → ℕ → State → DayChain → Option Unproved
+abbrev pub why_not : Option Terms → List CallOrder → ℕ → State → DayChain → Option Why
 why_not terms orders d old chain =
     option_or (option_map (λ x. Unfit (unfit_refusal old.dossier d x)) (unfit_on terms d old))
     (rejected_at (day_fault orders (ceilings_of old.dossier d) d (morning terms d old) chain))
 
 -- why days from day d on are not all proved: by the first of them that is not
-abbrev pub why_none : Option Terms → List CallOrder → ℕ → State → List DayChain → Option Unproved
+abbrev pub why_none : Option Terms → List CallOrder → ℕ → State → List DayChain → Option Why
 why_none terms orders d old [] = None
 why_none terms orders d old (chain ∷ chains) =
     option_or (why_not terms orders d old chain)
@@ -58,27 +64,49 @@ abbrev pub proved_text : ℕ → State → Option DatedTerms → List ℕ
 proved_text number evening dated =
     line (codes "proved" ∷ decimal number ∷ []) ++ final_lines evening dated
 
--- one line says why the days are not all proved
-abbrev pub IsUnproved : DossierRows → Unproved → Exit → List ℕ → Type 0
-IsUnproved d (Unfit refusal) exit text = IsReply Refused (refusal_line refusal) exit text
-IsUnproved d (Rejected found) exit text =
-    IsReply NotProved (verdict_text d found.row found.reason) exit text
-IsUnproved d OutOfMemory exit text = ⊥
+-- how a run ends whose chain is refused, and its line
+abbrev pub exit_by : Why → Exit
+exit_by (NoChain fault) = NotProved
+exit_by (Unfit refusal) = Refused
+exit_by (Rejected found) = NotProved
+
+abbrev pub why_line : DossierRows → Why → List ℕ
+why_line d (NoChain fault) = chain_fault_text fault ++ 10 ∷ []
+why_line d (Unfit refusal) = refusal_line refusal
+why_line d (Rejected found) = verdict_text d found.row found.reason
+
+abbrev pub IsRefused : DossierRows → Why → Exit → List ℕ → Type 0
+IsRefused d why = IsReply (exit_by why) (why_line d why)
 
 -- a run is done with its whole text where nothing stands against it
-abbrev pub EndsProof : DossierRows → Option Unproved → List ℕ → Exit → List ℕ → Type 0
-EndsProof d None whole exit text = IsReply Done whole exit text
-EndsProof d (Some why) whole exit text = IsUnproved d why exit text
+abbrev pub EndsProof : DossierRows → Option Why → List ℕ → Exit → List ℕ → Type 0
+EndsProof d None whole = IsReply Done whole
+EndsProof d (Some why) whole = IsRefused d why
 
 -- a text that is no chain has one line; else the days of the chain are tested, from the first
 -- evening on
 abbrev pub EndsCheck : DossierRows → Option DatedTerms → List CallOrder → Result Chain ChainFault
     → Exit → List ℕ → Type 0
-EndsCheck d dated orders (Err fault) = IsReply NotProved (chain_fault_text fault ++ 10 ∷ [])
+EndsCheck d dated orders (Err fault) = IsRefused d (NoChain fault)
 EndsCheck d dated orders (Ok chain) =
     EndsProof d (why_none (terms_in dated) orders 1 (first_evening d) chain.days)
     (proved_text (length chain.days)
     (evening_after (terms_in dated) orders 1 (first_evening d) chain.days) dated)
+
+-- what is replied to a chain that is refused: its line, unless this is longer than the room of one
+abbrev pub TellsRefused : DossierRows → Why → Result Reply OutOfMemory → Type 0
+TellsRefused d why result =
+    MatchResult result (λ reply. IsRefused d why reply.exit reply.text.items)
+    (λ _. 128 < length (why_line d why))
+
+-- what is replied where the days of a chain have been tested: memory runs out where it did in the
+-- test
+abbrev pub Replies : DossierRows → Result (Vec ℕ Global) Unproved → Result Reply OutOfMemory
+    → Type 0
+Replies d (Ok text) result =
+    MatchResult result (λ reply. IsReply Done text.items reply.exit reply.text.items) (λ _. ⊥)
+Replies d (Err (unproved.Refused why)) result = TellsRefused d why result
+Replies d (Err unproved.OutOfMemory) result = MatchResult result (λ _. ⊥) (λ _. ⊤)
 
 -- how a run ends whose chain slot has these bytes
 abbrev pub IsChecked : DossierRows → List ℕ → Option DatedTerms → List CallOrder → Exit

@@ -1,33 +1,30 @@
 //! The mode `check`: the days of a chain, tested one after another.
-ghost use Rattle.std.specs.Prelude.{◌≡◌, ◌≤◌, ◌<◌, ◌^◌, [], All, IfErr, IfOk, IfSome, IsOk, OnOk, length, option_copied};
+ghost use Rattle.std.specs.Prelude.{◌≡◌, ◌≤◌, ◌<◌, ◌^◌, [], All, IfErr, IfOk, IfSome, IsOk, OnErr, OnOk, length, option_copied};
 ghost use Rattle.admit_core.specs.Chains.{IsDayChain, day_fault};
 ghost use Rattle.admit_core.specs.Days.{first_evening};
 ghost use Rattle.admit_core.specs.Lapses.{AreTermsFor};
 ghost use Rattle.admit_core.specs.Ranges.{IsDay as IsDayNumber};
 ghost use Rattle.certificate.specs.Checked.{ids_in};
+ghost use Rattle.certificate.specs.Grammar.{read};
 ghost use Rattle.certificate.specs.ProvedDays.{evening_after, evening_by};
 ghost use Rattle.desk_day.specs.RunDay.{IsStampedBy, KeepsStamps};
 ghost use Rattle.intake.specs.Dated.{AreDatedFor, terms_in};
 ghost use Rattle.modes.specs.CheckedDays.{KeepsIn, TellsWhy};
-ghost use Rattle.modes.specs.Checking.{EndsProof, IsChecked, IsReply, IsUnproved, proved_text, rejected_at, why_none, why_not};
+ghost use Rattle.modes.specs.Checking.{EndsProof, IsChecked, Replies, proved_text, rejected_at, why_line, why_none, why_not};
 ghost use Rattle.modes.specs.Replay.{CanBeDated};
+ghost use Rattle.modes.specs.declared.unproved.Why.TheVariants.{NoChain};
 
-use crate::exit::Exit;
 use crate::job::terms_in;
 use crate::led::Led;
 use crate::replay::push_final_lines;
-use crate::reply::Reply;
-use crate::unproved::Unproved;
+use crate::reply::{Reply, StopLine, done, told};
+use crate::unproved::{Unproved, Why};
 use admit_core::{DayChain, Dossier, OutOfMemory, Terms};
-use certificate::{
-    ChainRefusal, CheckStop, Grounds, Rejection, chain_fault_text, check_day_on, read_chain,
-    verdict_text,
-};
+use certificate::{ChainRefusal, CheckStop, Grounds, check_day_on, read_chain};
 use day_state::{DayState, MarkedWishes};
 use desk_day::{Present, ceilings_on};
 use intake::{DatedTerms, Input};
 use played::LastDesk;
-use report::refusal_text;
 use std::alloc::Global;
 
 /// Tests the chain of a day in its morning, and leaves the evening of the day.
@@ -51,7 +48,7 @@ fn check_morning(
 {
     match check_day_on(alloc, grounds, present, ceilings, day, chain) {
         Ok(()) => Ok(()),
-        Err(CheckStop::Rejected(found)) => Err(Unproved::Rejected(found)),
+        Err(CheckStop::Rejected(found)) => Err(Unproved::Refused(Why::Rejected(found))),
         Err(CheckStop::OutOfMemory) => Err(Unproved::OutOfMemory),
     }
 }
@@ -131,31 +128,57 @@ fn proved_text(
     Ok(text.into_bytes())
 }
 
-/// A reply.
-fn reply(exit: Exit, text: Vec<u8>) -> Reply
-    ensures { IsReply exit text.items result.exit result.text.items }
+/// The reply where the days of a chain have been tested, in the room that was taken for the line of
+/// one that is refused.
+fn replied(
+    line: StopLine,
+    dossier: &Dossier,
+    tested: Result<Vec<u8>, Unproved>,
+) -> Result<Reply, OutOfMemory>
+    requires { IfErr tested (KeepsIn (length dossier.now.schools)) }
+    ensures { Replies dossier.now tested result }
 {
-    Reply { exit, text }
-}
-
-/// The line of days that are not all proved.
-fn unproved(alloc: Global, dossier: &Dossier, why: Unproved) -> Result<Reply, OutOfMemory>
-    requires { KeepsIn (length dossier.now.schools) why }
-    ensures { IfOk result (λ reply. IsUnproved dossier.now why reply.exit reply.text.items) }
-{
-    match why {
-        Unproved::Unfit(refusal) => Ok(reply(Exit::Refused, refusal_text(alloc, refusal)?)),
-        Unproved::Rejected(Rejection { row, reason }) => Ok(reply(
-            Exit::NotProved,
-            verdict_text(alloc, dossier, row, reason)?,
-        )),
-        Unproved::OutOfMemory => Err(OutOfMemory),
+    match tested {
+        Ok(text) => Ok(done(text)),
+        Err(Unproved::Refused(why)) => told(line, dossier, why),
+        Err(Unproved::OutOfMemory) => Err(OutOfMemory),
     }
 }
 
-/// Tests these days of a chain from the first evening on, along the roster of the run, and replies.
+/// Tests these days of a chain from the first evening on, along the roster of the run. The text is
+/// that where all are proved.
 fn check_chain(
     alloc: Global,
+    input: &Input,
+    dated: Option<&DatedTerms>,
+    last: LastDesk<'_, '_>,
+    days: &[DayChain],
+) -> Result<Vec<u8>, Unproved>
+    requires index { input.now.index ≡ ids_in input.now.dossier }
+    requires dated { IfSome (option_copied dated) (AreDatedFor input.now.dossier) }
+    requires first { last.desk.present ≡ first_evening input.now.dossier }
+    requires days { length days.now ≤ 366 }
+    requires passes { All (λ day. length day.passes < 2 ^ 32) days.now }
+
+    ensures tells { TellsWhy result (why_none (terms_in (option_copied dated.entry))
+        last.entry.orders 1 (first_evening input.now.dossier) days.now) }
+    ensures text { IfOk result (λ text. text.items ≡ proved_text (length days.now)
+        (evening_after (terms_in (option_copied dated.entry)) last.entry.orders 1
+        (first_evening input.now.dossier) days.now)
+        (option_copied dated.entry)) }
+    ensures school { IfErr result (KeepsIn (length input.now.dossier.schools)) }
+{
+    let (first, roster) = last.into_now_along(alloc)?;
+    let grounds = Grounds::along(&roster, &input.index);
+    let mut present = Present::begin(first);
+    check_days(alloc, &grounds, terms_in(dated), &mut present, days)?;
+    Ok(proved_text(alloc, days.len(), present.into_now(), dated)?)
+}
+
+/// Tests these days of a chain, and replies.
+fn check_told(
+    alloc: Global,
+    line: StopLine,
     input: &Input,
     dated: Option<&DatedTerms>,
     last: LastDesk<'_, '_>,
@@ -176,21 +199,37 @@ fn check_chain(
         (option_copied dated.entry))
         reply.exit reply.text.items) }
 {
-    let (first, roster) = last.into_now_along(alloc)?;
-    let grounds = Grounds::along(&roster, &input.index);
-    let mut present = Present::begin(first);
-    match check_days(alloc, &grounds, terms_in(dated), &mut present, days) {
-        Ok(()) => Ok(reply(
-            Exit::Done,
-            proved_text(alloc, days.len(), present.into_now(), dated)?,
-        )),
-        Err(why) => unproved(alloc, &input.dossier, why),
+    let tested = check_chain(alloc, input, dated, last, days);
+    replied(line, &input.dossier, tested)
+}
+
+/// Reads the chain that is handed in, tests its days, and replies. Where the text is no chain,
+/// neither a state nor a roster is made.
+fn tested_with(
+    alloc: Global,
+    line: StopLine,
+    input: &Input,
+    dated: Option<&DatedTerms>,
+    last: LastDesk<'_, '_>,
+) -> Result<Reply, OutOfMemory>
+    requires index { input.now.index ≡ ids_in input.now.dossier }
+    requires dated { IfSome (option_copied dated) (AreDatedFor input.now.dossier) }
+    requires first { last.desk.present ≡ first_evening input.now.dossier }
+    ensures ends { IfOk result (λ reply. IsChecked
+        input.now.dossier input.now.chain (option_copied dated.entry) last.entry.orders
+        reply.exit reply.text.items) }
+    ensures told { OnErr result (IfErr (read input.now.chain) (λ fault.
+        128 < length (why_line input.now.dossier (NoChain fault)))) }
+{
+    match read_chain(alloc, input.chain.as_slice()) {
+        Ok(chain) => check_told(alloc, line, input, dated, last, chain.days.as_slice()),
+        Err(ChainRefusal::Fault(fault)) => told(line, &input.dossier, Why::NoChain(fault)),
+        Err(ChainRefusal::OutOfMemory) => Err(OutOfMemory),
     }
 }
 
-/// How the mode `check` ends, whose desk is the first one: reads the chain that is handed in, tests
-/// its days, and replies. No picker is asked. Where the text is no chain, neither a state nor a
-/// roster is made.
+/// How the mode `check` ends, whose desk is the first one. No picker is asked. The room of the line
+/// of a chain that is refused is taken before the chain is read.
 pub(crate) fn tested(
     alloc: Global,
     input: &Input,
@@ -205,12 +244,6 @@ pub(crate) fn tested(
         reply.exit reply.text.items) }
 {
     let last = led.into_last();
-    match read_chain(alloc, input.chain.as_slice()) {
-        Ok(chain) => check_chain(alloc, input, dated, last, chain.days.as_slice()),
-        Err(ChainRefusal::Fault(fault)) => {
-            let line = chain_fault_text(alloc, fault)?;
-            Ok(reply(Exit::NotProved, line))
-        }
-        Err(ChainRefusal::OutOfMemory) => Err(OutOfMemory),
-    }
+    let line = StopLine::new(alloc)?;
+    tested_with(alloc, line, input, dated, last)
 }

@@ -1,9 +1,12 @@
 //! What a run answers and writes.
-ghost use Rattle.std.specs.Prelude.{◌≡◌, IfOk, OnErr};
+ghost use Rattle.std.specs.Prelude.{◌≡◌, IfOk, OnErr, length};
+ghost use Rattle.modes.specs.CheckedDays.{NamesSchool};
+ghost use Rattle.modes.specs.Checking.{TellsRefused};
 ghost use Rattle.modes.specs.Stopping.{HasNoLine, IsStoppedBy};
 
 use crate::exit::{Exit, exit_of};
-use admit_core::OutOfMemory;
+use crate::unproved::Why;
+use admit_core::{Dossier, OutOfMemory};
 use intake::Stop;
 use std::alloc::Global;
 use std::marker::Model;
@@ -61,6 +64,21 @@ pub fn stopped(line: StopLine, stop: Stop) -> Result<Reply, OutOfMemory>
     let exit = exit_of(stop)?;
     let mut text = text;
     stop.push_onto(&mut text)?;
+    Ok(Reply {
+        exit,
+        text: text.into_bytes(),
+    })
+}
+
+/// The line of a chain that is refused, in the room that was taken for it.
+pub(crate) fn told(line: StopLine, dossier: &Dossier, why: Why) -> Result<Reply, OutOfMemory>
+    requires { NamesSchool (length dossier.now.schools) why }
+    ensures { TellsRefused dossier.now why result }
+{
+    let StopLine { text } = line;
+    let exit = why.exit();
+    let mut text = text;
+    why.push_onto(&mut text, dossier)?;
     Ok(Reply {
         exit,
         text: text.into_bytes(),
