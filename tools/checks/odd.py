@@ -151,7 +151,8 @@ def why_it_waits(rules: Told, number: int, wish: Wish, day: int) -> list[str]:
         seats = "1 seat was left" if left == 1 else f"{left or 'no'} seat{'s were' if left else ' was'} left"
         came = "1 candidate" if ahead == 1 else f"{ahead} candidates" if ahead else "nobody"
         limit = [f"you are number {words[6]}."] if len(words) > 5 else []
-        bed = ["It takes a bed for you in the boarding school too."] if wish.school else []
+        bed = ["It takes a bed for you in the boarding school too.", "You need no seat if another wish gets you one in "
+               "the programme by then."] if wish.school else []
         return [f"In the last pass {seats} in the programme, and {came} came before you for one.", *limit, *bed]
     school, bar, beds = wish.school or 0, rules.bars[wish.school or 0], rules.beds[wish.school or 0]
     told = [f"your rank there is {rules.rank[school, wish.candidate]}."]

@@ -31,10 +31,11 @@ STILL_REFUSE_ALL = ("You can still refuse this place, but a wish that is refused
 ANEW = "Each pass looks at your wish again."
 A_BED_AND_A_SEAT = ("a bed for you and a seat left for you in the programme. You need no seat if you have one there "
                     "already, or are within its call limit")
+SEAT_BY_ANOTHER = "You need no seat if another wish gets you one in the programme by then."
 A_BED_TOO = {  # by whether the wish is with boarding, where that is known
-    True: ["It takes a bed for you in the boarding school too."],
+    True: ["It takes a bed for you in the boarding school too.", SEAT_BY_ANOTHER],
     False: [],
-    None: ["A wish with boarding takes a bed too."]}
+    None: ["A wish with boarding takes a bed too.", SEAT_BY_ANOTHER]}
 
 
 def of_day(day: Day) -> str:

@@ -33,10 +33,12 @@ STILL_REFUSE_ALL = ("Vous pouvez encore refuser cette place, mais un vœu refus�
 ANEW = "Chaque passage réexamine votre vœu."
 A_BED_AND_A_SEAT = ("un lit pour vous et une place restante pour vous dans la formation. Aucune place restante n'est "
                     "nécessaire si vous y avez déjà la vôtre, ou si votre position ne dépasse pas le rang limite")
+SEAT_BY_ANOTHER = ("Aucune place restante n'est nécessaire si, d'ici là, un autre de vos vœux vous en donne une dans "
+                   "la formation.")
 A_BED_TOO = {  # selon que le vœu est avec internat, ou qu'on ne le sait pas
-    True: ["Il faut aussi un lit pour vous à l'internat."],
+    True: ["Il faut aussi un lit pour vous à l'internat.", SEAT_BY_ANOTHER],
     False: [],
-    None: ["Pour un vœu avec internat, il faut aussi un lit."]}
+    None: ["Pour un vœu avec internat, il faut aussi un lit.", SEAT_BY_ANOTHER]}
 
 
 def of_day(day: Day) -> str:
