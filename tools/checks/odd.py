@@ -139,7 +139,7 @@ def sentences_of(rules: Told, number: int, day: int) -> list[str]:
     if status != "waiting":
         return [f"Wish {number} is over.", f" {when}", {
             "refused": "Its offer was refused", "withdrawn": "You withdrew it", "quit": "You left the procedure",
-            "auto_refused": "answerer refused its offer", "auto_withdrawn": "answerer withdrew it",
+            "auto_refused": "answerer gave it up", "auto_withdrawn": "answerer withdrew it",
             "lapsed": "had no answer in time, and lapsed"}[status]]
     return [f"Wish {number} is waiting: there is no offer.", *why_it_waits(rules, number, wish, day)]
 

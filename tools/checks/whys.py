@@ -121,7 +121,7 @@ def check_other_wishes(tally: Tally) -> None:
         wishes.write_text(wishes.read_text().replace("\n1,1,1,1,0\n", "\n4,1,1,1,0\n").replace("\n4,3,", "\n1,3,"))
         run(TOOLS / "next_day", folder)
         ended = why(folder, "V06", "V07")
-        for told in (b"It was accepted before day 2.", b"refused its offer before day 2,"):
+        for told in (b"It was accepted before day 2.", b"gave it up before day 2,"):
             tally.check(told.decode(), told in ended.output, ended)
 
 

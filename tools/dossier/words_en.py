@@ -11,7 +11,7 @@ ENDED = {
     Gone.REFUSED: "Its offer was refused {when}: you refused it, or you accepted another one.",
     Gone.WITHDRAWN: "You withdrew it {when}, while it was waiting.",
     Gone.QUIT: "You left the procedure {when}.",
-    Gone.AUTO_REFUSED: "The automatic answerer refused its offer {when}, because you had one that you prefer.",
+    Gone.AUTO_REFUSED: "The automatic answerer gave it up {when}, because you had an offer that you prefer.",
     Gone.AUTO_WITHDRAWN: "The automatic answerer withdrew it {when}, because you had an offer that you prefer.",
     Gone.LAPSED: "Its offer had no answer in time, and lapsed {when}.",
 }

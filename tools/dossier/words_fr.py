@@ -11,8 +11,8 @@ ENDED = {
     Gone.REFUSED: "Sa proposition a été refusée {when} : vous l'avez refusée, ou vous en avez accepté une autre.",
     Gone.WITHDRAWN: "Vous l'avez retiré {when}, alors qu'il était en attente.",
     Gone.QUIT: "Vous avez démissionné {when}.",
-    Gone.AUTO_REFUSED: "Le répondeur automatique a refusé sa proposition {when}, "
-                       "car vous en aviez une que vous préférez.",
+    Gone.AUTO_REFUSED: "Le répondeur automatique y a renoncé {when}, "
+                       "car vous aviez une proposition que vous préférez.",
     Gone.AUTO_WITHDRAWN: "Le répondeur automatique l'a retiré {when}, "
                          "car vous aviez une proposition que vous préférez.",
     Gone.LAPSED: "Sa proposition est restée sans réponse à l'échéance : elle est devenue caduque {when}.",
