@@ -1,7 +1,8 @@
 -- Pairs of dossiers, alike but for one thing, that show what the rules do not promise of whole
 -- days: what each ends with.
-use Rattle.std.specs.Prelude.{◌≡◌, ◌∷◌, ◌++◌, ℕ, List, None, Some, []}
+use Rattle.std.specs.Prelude.{◌≡◌, ◌∷◌, ◌++◌, ℕ, All, List, None, Some, []}
 use Rattle.admit_core.specs.declared.dossier.AnswerKind.TheVariants.{Accept, Quit, Withdraw}
+use Rattle.admit_core.specs.declared.dossier.Wish.{Wish}
 use Rattle.admit_core.specs.declared.ranking.CallOrder.{CallOrder}
 use Rattle.admit_core.specs.declared.records.DayRecord.{DayRecord}
 use Rattle.admit_core.specs.declared.state.Mark.{Mark}
@@ -16,8 +17,11 @@ use Rattle.admit_core.specs.Relations.{first_fault}
 use Rattle.admit_core.specs.Standing.{dossier_of}
 use Rattle.admit_core.specs.WorkedDays.{change, day, fall, freeing, quiet}
 use Rattle.admit_core.specs.WorkedFaults.{wish}
-use Rattle.admit_core.specs.WorkedRows.{marked}
+use Rattle.admit_core.specs.WorkedRows.{boarder, marked}
 use Rattle.fairness.specs.NotPromised.{boarded, by_rank, group, plain, programme, school, tables}
+use Rattle.campaign_laws.specs.Beds.{IsBarredIn}
+use Rattle.campaign_laws.specs.Moments.{openings}
+use Rattle.campaign_laws.specs.PassedOver.{WaitsAt}
 
 -- what the days of a dossier end with: its rows have no fault; the call orders, the days, and the
 -- marks of the last evening
@@ -27,6 +31,12 @@ pub record Ends (t : Tables) (orders : List CallOrder) (days : List DayRecord)
   pub called : AreCallOrders (dossier_of t).groups orders
   pub are_days : Days None orders 1 (first_evening (dossier_of t)) days
       (record { dossier = dossier_of t; marks = marks })
+
+-- at the end of these days a wish waits that was behind its bar in every opening
+pub record WaitsBarred (t : Tables) (orders : List CallOrder) (days : List DayRecord)
+    (marks : List Mark) (place : ℕ) (w : Wish) : Type 0 where
+  pub waits : WaitsAt (record { dossier = dossier_of t; marks = marks }) place w
+  pub barred : All (IsBarredIn w) (openings None orders (first_evening (dossier_of t)) days)
 
 -- ---- somebody quits: as 101 quits, a seat is left for 102 too, who wants the one bed and ranks
 -- before 103 there; so 103 loses the offer of wish 3
@@ -160,6 +170,46 @@ WithdrawingCanCost =
     ∷ 102 ∷ []) ∷ [])
     (day 1 (quiet (9 ∷ []) [] (2 ∷ []) ∷ []) (0 ∷ 1 ∷ []) (0 ∷ []) ∷ [])
     (marked Withdrawn 1 0 ∷ marked Waiting 0 0 ∷ marked Offered 1 1 ∷ [])
+
+-- ---- to withdraw can pay too: 101 waits with both schools, and 102, who ranks behind them in the
+-- first one, is barred there. So 103 is called, who ranks before 101 in both and gets the two beds:
+-- on neither day has 101 an offer, and wish 1 is behind its bar in every opening. As they withdraw
+-- it, 102 gets the first school's bed, 103 is not called, and 101 gets the other bed by wish 2
+abbrev pub if_given_up : List AnswerRow → Tables
+if_given_up answers =
+    record (tables (group 1 0 ∷ []) (programme 10 1 2 ∷ []) (school 51 1 ∷ school 52 1 ∷ [])
+    (by_rank 1 (101 ∷ 102 ∷ 103 ∷ []))
+    (boarded 51 (103 ∷ 101 ∷ 102 ∷ []) ++ boarded 52 (103 ∷ 101 ∷ []))
+    (wish 1 101 10 (Some 51) 0 ∷ wish 2 101 10 (Some 52) 0 ∷ wish 3 102 10 (Some 51) 0
+    ∷ wish 4 103 10 (Some 51) 0 ∷ wish 5 103 10 (Some 52) 0 ∷ [])) { answers = answers }
+
+abbrev pub three_by_rank : List CallOrder
+three_by_rank = plain (101 ∷ 102 ∷ 103 ∷ []) ∷ []
+
+abbrev pub kept_wish : Wish
+kept_wish = boarder 1 101 0 0 2 0
+
+abbrev pub days_if_kept : List DayRecord
+days_if_kept =
+    day 1 (quiet (1 ∷ 1 ∷ []) (fall 0 9 2 (0 ∷ 2 ∷ []) ∷ fall 0 2 1 (3 ∷ 0 ∷ [])
+    ∷ fall 1 9 1 (4 ∷ 1 ∷ []) ∷ []) (3 ∷ 4 ∷ []) ∷ []) (1 ∷ []) (0 ∷ 0 ∷ [])
+    ∷ day 2 (quiet (1 ∷ 1 ∷ []) (fall 0 9 1 (0 ∷ []) ∷ fall 1 9 1 (1 ∷ []) ∷ []) [] ∷ [])
+    (1 ∷ []) (0 ∷ 0 ∷ []) ∷ []
+
+abbrev pub marks_if_kept : List Mark
+marks_if_kept =
+    marked Waiting 0 0 ∷ marked Waiting 0 0 ∷ marked Waiting 0 0 ∷ marked Offered 1 1
+    ∷ marked Offered 1 1 ∷ []
+
+abbrev pub WithdrawingCanPay : Type 0
+WithdrawingCanPay =
+    Ends (if_given_up []) three_by_rank days_if_kept marks_if_kept
+    × WaitsBarred (if_given_up []) three_by_rank days_if_kept marks_if_kept 0 kept_wish
+    × Ends (if_given_up (record { day = 1; kind = Withdraw; target = 1 } ∷ [])) three_by_rank
+    (day 1 (quiet (9 ∷ 9 ∷ []) [] (1 ∷ 2 ∷ []) ∷ []) (0 ∷ []) (0 ∷ 0 ∷ [])
+    ∷ day 2 (quiet (9 ∷ 9 ∷ []) [] [] ∷ []) (0 ∷ []) (0 ∷ 0 ∷ []) ∷ [])
+    (marked Withdrawn 1 0 ∷ marked Offered 1 1 ∷ marked Offered 1 1 ∷ marked Waiting 0 0
+    ∷ marked Waiting 0 0 ∷ [])
 
 -- ---- to accept earlier: on day 1 101 is offered wish 1. Having accepted wish 2 that morning, they
 -- keep both; accepting it on day 2, they give wish 1 up, and 102 gets that seat by wish 3
