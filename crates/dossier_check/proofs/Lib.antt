@@ -1,7 +1,7 @@
 -- Reading order. Each file says in its first line what it shows.
 -- Finding: Firsts, Places, Found, FirstRows, NotedKeys, KeyPlaces; ids that rise: Rising,
 -- RisingIds; keys of hashes: MixedNumbers; numbers in order: SortedNumbers; tags of rows in order:
--- DealtTags, TaggedRows.
+-- KeyAndPlace, DealtTags, TaggedRows.
 -- Scans of a slot: Scans, LastRow, AcceptedRows, Outcomes.
 -- Faults shown to be none without a scan: Faultless, WishTests; ranks: DealtRows; wishes: Runs,
 -- InOrder, TwiceWished, TwicePreferred, WhoIsRanked, MayNotWish.
@@ -21,6 +21,7 @@ pub mod FirstRows
 pub mod Firsts
 pub mod Found
 pub mod InOrder
+pub mod KeyAndPlace
 pub mod KeyPlaces
 pub mod LastRow
 pub mod MadeItems

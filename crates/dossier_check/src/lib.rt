@@ -30,6 +30,7 @@ mod scan;
 mod slots;
 mod state;
 mod statuses;
+mod tag;
 mod tags;
 mod who_is_ranked;
 mod wish_ranks;

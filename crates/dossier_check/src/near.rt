@@ -1,5 +1,6 @@
 //! Where to look first. Nothing depends on it but how long a look-up takes.
 
+use crate::tag::Tag;
 use admit_core::OutOfMemory;
 use std::alloc::Global;
 
@@ -43,9 +44,9 @@ impl NamedPlaces {
     }
 }
 
-/// Puts places at that of their wish, which is the low half of its tag.
-fn put_back(kept: &mut [NamedPlaces], tag: u64, places: NamedPlaces) {
-    if let Some(there) = kept.get_mut((tag % 4_294_967_296) as usize) {
+/// Puts places at that of their wish, which its tag tells.
+fn put_back(kept: &mut [NamedPlaces], tag: Tag, places: NamedPlaces) {
+    if let Some(there) = kept.get_mut(tag.place() as usize) {
         *there = places;
     }
 }
@@ -53,7 +54,7 @@ fn put_back(kept: &mut [NamedPlaces], tag: u64, places: NamedPlaces) {
 /// What is kept of wishes in another order, in that of the file, which their tags tell.
 pub(crate) fn in_file_order(
     alloc: Global,
-    tags: &[u64],
+    tags: &[Tag],
     found: &[NamedPlaces],
 ) -> Result<Vec<NamedPlaces>, OutOfMemory> {
     let mut kept = vec![in alloc; FIRST; found.len()]?;

@@ -23,6 +23,7 @@ use crate::row_ids::RowIds;
 use crate::row_tests::{Repeats, RepeatsId, Shared, Then, Unless};
 use crate::rules::{OwnId, WhatIsWished};
 use crate::scan::{RowChecks, scanned};
+use crate::tag::Tag;
 use crate::who_is_ranked::all_ranked;
 use crate::wish_ranks::MayNotWish;
 use admit_core::{InFault, OutOfMemory, Slot, Tables, WishRow};
@@ -120,7 +121,7 @@ pub(crate) fn kept_in(tests: OtherTests<'_>) -> Kept
 
 impl Kept {
     /// The same of wishes that were tested in another order, which their tags tell.
-    pub(crate) fn by_file(self, alloc: Global, tags: &[u64]) -> Result<Kept, OutOfMemory>
+    pub(crate) fn by_file(self, alloc: Global, tags: &[Tag]) -> Result<Kept, OutOfMemory>
         ensures { IfOk result (λ kept. kept.firsts ≡ self.firsts) }
     {
         let Kept { firsts, places } = self;
