@@ -1,11 +1,12 @@
 -- What a check answers.
-use Rattle.std.specs.Prelude.{◌≡◌, [], ◌∷◌, Option, Some, None, Result, Ok, Err, ⊤}
+use Rattle.std.specs.Prelude.{◌≡◌, ℕ, List, [], ◌∷◌, Option, Some, None, Result, Ok, Err, drop, slice_get, take, ⊤}
 use Rattle.admit_core.specs.declared.refusal.Refusal.{Refusal}
 use Rattle.admit_core.specs.declared.refusal.InFault.{InFault}
 use Rattle.admit_core.specs.declared.refusal.InFault.TheVariants.{Refused, OutOfMemory}
+use Rattle.admit_core.specs.declared.slot.Slot.{Slot}
 use Rattle.admit_core.specs.declared.slot.Slot.TheVariants as slots
 use Rattle.admit_core.specs.declared.tables.Tables.{Tables}
-use Rattle.admit_core.specs.Faults.{first_of, first_in}
+use Rattle.admit_core.specs.Faults.{Test, first_after, first_in, first_of}
 use Rattle.admit_core.specs.Relations.{group_tests, programme_tests, school_tests, ranking_tests, boarding_tests}
 use Rattle.admit_core.specs.Relations.{wish_tests, state_tests, ceiling_tests, answer_tests}
 
@@ -20,6 +21,15 @@ abbrev pub MayLack : {A : Type 0} → Type 0 → Result A InFault → Type 0
 MayLack takes (Ok a) = ⊤
 MayLack takes (Err (Refused refusal)) = ⊤
 MayLack takes (Err OutOfMemory) = takes
+
+-- a row of a slot at which the tests may lack memory: none before it is refused
+pub record LacksAt {R : Type 0} (lacks : List (Test R) → List R → R → Type 0) (slot : Slot) (tests : List (Test R))
+    (rows : List R) : Type 0 where
+  pub place : ℕ
+  pub row : R
+  pub there : slice_get rows place ≡ Some row
+  pub before : first_in slot tests rows ≡ first_after slot tests (take place rows) (drop place rows)
+  pub here : lacks tests (take place rows) row
 
 -- the first fault of the groups, the programmes and the schools
 unfoldable pub first_in_named : Tables → Option Refusal

@@ -1,5 +1,5 @@
 //! Tests of rows, each on its own, and lists of them.
-ghost use Rattle.std.specs.Prelude.{◌≡◌, ◌⊎◌, List, [], ◌∷◌, ◌++◌, option_map, length, IfOk, OnErr, None, map};
+ghost use Rattle.std.specs.Prelude.{◌≡◌, ◌⊎◌, List, [], ◌∷◌, ◌++◌, drop, option_map, length, IfOk, OnErr, None, map, take};
 ghost use Rattle.admit_core.specs.declared.refusal.Reason.TheVariants as reasons;
 ghost use Rattle.admit_core.specs.Faults.{Test, row_number, first_reason, repeats, names_unknown};
 ghost use Rattle.admit_core.specs.Lists.{is_among};
@@ -47,6 +47,8 @@ impl<R> RowChecks<R> for NoTest {
 
     ghost takes_memory = { ⊥ };
 
+    ghost lacks = { λ tests before row. ⊥ };
+
     fn next(&mut self, _row: &R, _number: u64) -> Result<Option<Reason>, OutOfMemory> {
         Ok(None)
     }
@@ -65,6 +67,9 @@ impl<R, A: RowTest<R>, B: RowChecks<R>> RowChecks<R> for Then<A, B> {
     ghost has_seen = { λ c before. A.has_seen c.first before × B.has_seen c.rest before };
 
     ghost takes_memory = { A.takes_memory ⊎ B.takes_memory };
+
+    ghost lacks = { λ tests before row. (first_reason (take 1 tests) before row ≡ None)
+        × (A.takes_memory ⊎ B.lacks (drop 1 tests) before row) };
 
     // This and the tests of wishes are inlined, so that a scan has all tests of a row in one body:
     // left to itself, LLVM calls those that several scans have.

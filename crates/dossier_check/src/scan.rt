@@ -1,7 +1,7 @@
 //! The rows of a slot, tested in turn.
-ghost use Rattle.std.specs.Prelude.{◌≡◌, List, [], ◌∷◌, ◌++◌, ◌<◌, ◌^◌, length, take, None, IfOk, OnErr, OnOk};
+ghost use Rattle.std.specs.Prelude.{◌≡◌, List, [], ◌∷◌, ◌++◌, ◌<◌, ◌^◌, length, None, IfOk, OnErr, OnOk};
 ghost use Rattle.admit_core.specs.Faults.{Test, row_number, first_reason, first_in};
-ghost use Rattle.dossier_check.specs.Outcome.{AnswersFault, MayLack};
+ghost use Rattle.dossier_check.specs.Outcome.{AnswersFault, LacksAt, MayLack};
 
 use admit_core::{InFault, OutOfMemory, Reason, Refusal, Slot};
 
@@ -15,8 +15,12 @@ pub(crate) trait RowChecks<R> {
     /// That some test takes memory, so that it may lack some.
     ghost takes_memory: { Type 0 };
 
+    /// That the tests may lack memory at a row after these: one takes some, and neither it nor a
+    /// test before it stands there.
+    ghost lacks: { List (Test R) → List R → R → Type 0 };
+
     /// Tests the next row, which has this number, and answers the reason of the first test that
-    /// stands. Where that is the very first one, it is told whatever memory there is.
+    /// stands.
     fn next(&mut self, row: &R, number: u64) -> Result<Option<Reason>, OutOfMemory>
         ensures reason { (before : List R) → has_seen self.old before →
             IfOk result (λ reason. reason ≡ first_reason (tests self.old) before row.now) }
@@ -26,7 +30,7 @@ pub(crate) trait RowChecks<R> {
         ensures same_tests { tests self.new ≡ tests self.old }
         ensures memory { OnErr result takes_memory }
         ensures told { (before : List R) → has_seen self.old before →
-            OnErr result (first_reason (take 1 (tests self.old)) before row.now ≡ None) };
+            OnErr result (lacks (tests self.old) before row.now) };
 }
 
 /// Tests rows in turn, and refuses the first at which a test stands.
@@ -40,6 +44,7 @@ pub(crate) fn scan<R, C: RowChecks<R>>(
     ensures fault { AnswersFault result (first_in slot (C.tests checks.old) rows.now) }
     ensures seen { OnOk result (C.has_seen checks.new rows.now) }
     ensures memory { MayLack ((0 < length rows.now) × C.takes_memory) result }
+    ensures told { MayLack (LacksAt C.lacks slot (C.tests checks.old) rows.now) result }
 {
     for (place, row) in rows.iter().enumerate() {
         let number = place as u64 + 2;
@@ -66,6 +71,7 @@ pub(crate) fn scanned<R, C: RowChecks<R> + Drop>(
     ensures fault { AnswersFault result (first_in slot (C.tests checks) rows.now) }
     ensures seen { IfOk result (λ seen. C.has_seen seen rows.now) }
     ensures memory { MayLack ((0 < length rows.now) × C.takes_memory) result }
+    ensures told { MayLack (LacksAt C.lacks slot (C.tests checks) rows.now) result }
 {
     scan(slot, &mut checks, rows)?;
     Ok(checks)

@@ -1,6 +1,8 @@
-use Rattle.std.proofs.Common.{◌≡◌, ◌+◌, ◌<◌, length, take, get_or, sym, ap, ◌∙◌, arith, Some, None}
+use Rattle.std.proofs.Common.{◌≡◌, ◌+◌, ◌<◌, length, take, get_or, subst, sym, ap, ◌∙◌, arith, Some, None}
 use Rattle.std.proofs.lemmas.List.{take_more, length-take-le}
+use Rattle.std.proofs.lemmas.Option.{slice_get-get_or}
 use Rattle.admit_core.specs.Faults.{first_reason}
+use Rattle.dossier_check.specs.Outcome.{LacksAt}
 use Rattle.dossier_check.proofs.Scans.{found, passed, ended}
 use Rattle.dossier_check.proofs.Outcomes.{may_lack}
 use Rattle.dossier_check.proofs.scan.scan.Goals as goal
@@ -9,6 +11,21 @@ pub returns-in_err-reason-clause-memory : goal.returns-in_err-reason-clause-memo
 returns-in_err-reason-clause-memory g c =
     let some : 0 < length c.args.rows.now = omega (arith, c.loop-place-test.true) in
     may_lack {T = (0 < length c.args.rows.now) × g.C.RowChecks.takes_memory} _ (some, c.in_err-reason.ensures.memory)
+
+pub returns-in_err-reason-clause-told : goal.returns-in_err-reason-clause-told
+returns-in_err-reason-clause-told g c =
+    let tests = g.C.RowChecks.tests c.args.checks.now in
+    let rows = c.args.rows.now in
+    let i = c.loop-place.place in
+    let row = c.index-rows-place.result in
+    may_lack {T = LacksAt g.C.RowChecks.lacks c.args.slot tests rows} _ (record {
+      place = i;
+      row = row;
+      there = slice_get-get_or rows i row c.loop-place-test.true ∙ ap Some (sym c.index-rows-place.is);
+      before = c.loop-place.invariant.fault;
+      here = subst (λ ts. g.C.RowChecks.lacks ts (take i rows) row) c.loop-place.invariant.same_tests
+          (c.in_err-reason.ensures.told (take i rows) c.loop-place.invariant.seen);
+    })
 
 pub returns-in-Some-clause-fault : goal.returns-in-Some-clause-fault
 returns-in-Some-clause-fault g c =
