@@ -1,8 +1,10 @@
 -- The keys of the rows before tell the first row with the key of the next one.
-use Rattle.std.proofs.Common.{◌≡◌, ℕ, ◌+◌, ◌<◌, Bool, true, false, not, nat_eq, nat_lt, List, map, length, position}
+use Rattle.std.proofs.Common.{◌≡◌, ℕ, ◌+◌, ◌<◌, Bool, true, false, not, nat_eq, nat_lt, List, [], ◌∷◌, ◌++◌, map, length, position}
 use Rattle.std.proofs.Common.{option_map}
 use Rattle.std.proofs.Common.{Some, None, refl, sym, ap, ◌∙◌, arith}
 use Rattle.std.specs.List.{list_any, position_or_len}
+use Rattle.std.proofs.lemmas.List.{map-append}
+use Rattle.indexmap.specs.IndexSet.{insert_key}
 use Rattle.admit_core.specs.Faults.{row_number, first_row}
 use Rattle.dossier_check.proofs.Firsts.{position-none, position-map, one_passes, not_is_false, not_is_true}
 
@@ -26,6 +28,18 @@ module _ {R K : Type 0} (eq : K → K → Bool) (key : R → K) (before : List R
       let within : nat_lt (position_or_len (eq (key row)) keys) (length keys) ≡ true = grind arith in
       let found : position (eq (key row)) keys ≡ Some place = rw (within, at) refl in
       sym (ap (option_map row_number) found) ∙ first_of_keys
+
+-- the keys with that of the next row, which is new
+pub behind : {R K : Type 0} (key : R → K) (before : List R) (row : R) (own : K) (keys now : List K) → own ≡ key row
+    → now ≡ keys ++ own ∷ [] → keys ≡ map key before → now ≡ map key (before ++ row ∷ [])
+behind key before row own keys now is more same =
+    more ∙ (λ i. same i ++ is i ∷ []) ∙ sym (map-append key before (row ∷ []))
+
+pub inserted : {K : Type 0} (eq : K → K → Bool) (own : K) (keys now : List K) → now ≡ insert_key eq keys own
+    → not (list_any (eq own) keys) ≡ true → now ≡ keys ++ own ∷ []
+inserted eq own keys now is new =
+    let none : list_any (eq own) keys ≡ false = not_is_false _ new in
+    is ∙ rw none refl
 
 -- the same of an id that is that of the next row
 module _ {R : Type 0} (key : R → ℕ) (before : List R) (row : R) (ids : List ℕ) (id : ℕ) (own : id ≡ key row)

@@ -2,6 +2,7 @@
 ghost use Rattle.std.specs.Prelude.{◌≡◌, ℕ, Bool, List, [], ◌∷◌, ◌++◌, map, find, nat_eq, position, Some, None, true, IfOk, IsSome, OnErr, if◌then◌else◌};
 ghost use Rattle.indexmap.specs.IndexMap.{get};
 ghost use Rattle.admit_core.specs.Faults.{first_row};
+ghost use Rattle.dossier_check.specs.Noted.{Notes};
 ghost use Rattle.dossier_check.specs.Pairs.{pair_eq};
 
 use crate::row_ids::RowIds;
@@ -25,12 +26,7 @@ pub(crate) fn note<R, K: Hash + Eq + Copy + Drop, Q: Key<R, K>>(
     rule: &Q,
     row: &R,
 ) -> Result<Option<u64>, OutOfMemory>
-    ensures first { (before : List R) → keys.old.keys ≡ map Q.key before →
-        IfOk result (λ first. first ≡ first_row (λ r. K.eq (Q.key row.now) (Q.key r)) before) }
-    ensures noted { (before : List R) → keys.old.keys ≡ map Q.key before →
-        IfOk result (λ first. first ≡ None → keys.new.keys ≡ map Q.key (before ++ row.now ∷ [])) }
-    ensures told { (before : List R) → keys.old.keys ≡ map Q.key before →
-        OnErr result (first_row (λ r. K.eq (Q.key row.now) (Q.key r)) before ≡ None) }
+    ensures { Notes K.eq Q.key row.now keys.old.keys keys.new.keys result }
 {
     let (place, is_new) = keys.insert_full(rule.key_of(row))?;
     let _ = keys.len();

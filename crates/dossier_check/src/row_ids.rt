@@ -2,6 +2,7 @@
 ghost use Rattle.std.specs.Prelude.{◌≡◌, ◌++◌, ◌∷◌, ◌<◌, [], List, nat_eq, position, is_some, length, slice_get, map, option_map, true, false, None, Some, IfOk, IfSome, IsOk, OnErr};
 ghost use Rattle.std.specs.List.{IsDistinct, list_any};
 ghost use Rattle.admit_core.specs.Faults.{first_row, row_number};
+ghost use Rattle.dossier_check.specs.Noted.{Notes};
 ghost use Rattle.dossier_check.specs.RowIds.{Rises};
 
 use crate::noted::{Key, note};
@@ -188,14 +189,7 @@ impl RowIds {
         rule: &Q,
         row: &R,
     ) -> Result<Option<u64>, OutOfMemory>
-        ensures first { (before : List R) → self.old.keys ≡ map Q.key before →
-            IfOk result (λ first.
-            first ≡ first_row (λ r. nat_eq (Q.key row.now) (Q.key r)) before) }
-        ensures noted { (before : List R) → self.old.keys ≡ map Q.key before →
-            IfOk result (λ first.
-            first ≡ None → self.new.keys ≡ map Q.key (before ++ row.now ∷ [])) }
-        ensures told { (before : List R) → self.old.keys ≡ map Q.key before →
-            OnErr result (first_row (λ r. nat_eq (Q.key row.now) (Q.key r)) before ≡ None) }
+        ensures { Notes nat_eq Q.key row.now self.old.keys self.new.keys result }
     {
         match &mut self.way {
             Way::Rising(ids) => {
@@ -221,14 +215,7 @@ impl RowIds {
         rule: &Q,
         row: &R,
     ) -> Result<Option<u64>, OutOfMemory>
-        ensures first { (before : List R) → self.old.keys ≡ map Q.key before →
-            IfOk result (λ first.
-            first ≡ first_row (λ r. nat_eq (Q.key row.now) (Q.key r)) before) }
-        ensures noted { (before : List R) → self.old.keys ≡ map Q.key before →
-            IfOk result (λ first.
-            first ≡ None → self.new.keys ≡ map Q.key (before ++ row.now ∷ [])) }
-        ensures told { (before : List R) → self.old.keys ≡ map Q.key before →
-            OnErr result (first_row (λ r. nat_eq (Q.key row.now) (Q.key r)) before ≡ None) }
+        ensures { Notes nat_eq Q.key row.now self.old.keys self.new.keys result }
     {
         if self.add_last(rule.key_of(row))? {
             return Ok(None);
