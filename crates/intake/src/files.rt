@@ -97,44 +97,18 @@ fn put_rows(alloc: Global, tables: &mut Tables, slot: Slot, bytes: &[u8]) -> Res
     ensures memory { OnErr result (slot ≢ Chain) }
 {
     match slot {
-        Slot::Groups => {
-            put(&mut tables.groups, read_groups(alloc, bytes)?);
-            Ok(())
-        }
-        Slot::Programmes => {
-            put(&mut tables.programmes, read_programmes(alloc, bytes)?);
-            Ok(())
-        }
-        Slot::Schools => {
-            put(&mut tables.schools, read_schools(alloc, bytes)?);
-            Ok(())
-        }
-        Slot::Rankings => {
-            put(&mut tables.rankings, read_rankings(alloc, bytes)?);
-            Ok(())
-        }
-        Slot::Boarding => {
-            put(&mut tables.boarding, read_boarding(alloc, bytes)?);
-            Ok(())
-        }
-        Slot::Wishes => {
-            put(&mut tables.wishes, read_wishes(alloc, bytes)?);
-            Ok(())
-        }
-        Slot::State => {
-            put(&mut tables.state, read_state(alloc, bytes)?);
-            Ok(())
-        }
-        Slot::Ceilings => {
-            put(&mut tables.ceilings, read_ceilings(alloc, bytes)?);
-            Ok(())
-        }
-        Slot::Answers => {
-            put(&mut tables.answers, read_answers(alloc, bytes)?);
-            Ok(())
-        }
-        Slot::Chain => Ok(()),
+        Slot::Groups => put(&mut tables.groups, read_groups(alloc, bytes)?),
+        Slot::Programmes => put(&mut tables.programmes, read_programmes(alloc, bytes)?),
+        Slot::Schools => put(&mut tables.schools, read_schools(alloc, bytes)?),
+        Slot::Rankings => put(&mut tables.rankings, read_rankings(alloc, bytes)?),
+        Slot::Boarding => put(&mut tables.boarding, read_boarding(alloc, bytes)?),
+        Slot::Wishes => put(&mut tables.wishes, read_wishes(alloc, bytes)?),
+        Slot::State => put(&mut tables.state, read_state(alloc, bytes)?),
+        Slot::Ceilings => put(&mut tables.ceilings, read_ceilings(alloc, bytes)?),
+        Slot::Answers => put(&mut tables.answers, read_answers(alloc, bytes)?),
+        Slot::Chain => (),
     }
+    Ok(())
 }
 
 /// The text in whose room a slot is read: that of the slot before. The chain's bytes are kept, so
