@@ -1,5 +1,5 @@
 -- What a run does, as a whole: its exit, what it takes and writes, and what becomes of the pickers.
-use Rattle.std.specs.Prelude.{◌≡◌, ◌⊎◌, ◌≤◌, ℕ, ◌+◌, List, [], Contains, Option, Some, IsNone, IsOkAnd, IsTrue}
+use Rattle.std.specs.Prelude.{◌≡◌, ◌⊎◌, ◌≤◌, ℕ, ◌+◌, List, [], Contains, Some, IsNone, IsOkAnd, IsTrue}
 use Rattle.std.specs.Io.KnownBytes.{Appends}
 use Rattle.admit_core.specs.declared.slot.Slot.{Slot}
 use Rattle.intake.specs.Input.{accepted}
@@ -12,15 +12,8 @@ use Rattle.played.specs.Lent.{AreBack, Lent, Untold}
 use Rattle.request.specs.Request.{request_of}
 use Rattle.slot_io.specs.Bytes.{AppendsPart}
 use Rattle.slot_io.specs.Faults.{NoneFell, Rose}
+pub use Rattle.slot_io.specs.Sinks.{AtSink, at_sink}
 use Rattle.replay_cli.specs.Outcome.{IsBroken, WantsNoPicker, IsOutcome, NamesFault, slots_read}
-
--- the bytes that a sink holds, where it tells them, and how often its writes have failed
-pub record AtSink : Type 0 where
-  pub held : Option (List ℕ)
-  pub faults : ℕ
-
-abbrev pub at_sink : {K : Type 0} → (K → Option (List ℕ)) → (K → ℕ) → K → AtSink
-at_sink held faults sink = record { held = held sink; faults = faults sink }
 
 -- what stands around a run, before it or after it
 pub record Around : Type 0 where
