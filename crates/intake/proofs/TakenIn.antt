@@ -3,15 +3,19 @@ use Rattle.std.proofs.Common.{◌≡◌, ◌⊎◌, inl, inr, ℕ, Bool, true, f
 use Rattle.std.proofs.Common.{IfErr, IsErrAnd, IsTrue, ap, arith, length, refl, subst}
 use Rattle.std.specs.Prelude.{IfOk, IfSome, if◌then◌else◌}
 use Rattle.admit_core.specs.Relations.{first_fault}
+use Rattle.admit_core.specs.declared.refusal.InFault.{InFault}
+use Rattle.admit_core.specs.declared.refusal.InFault.TheVariants.{Refused, OutOfMemory}
 use Rattle.admit_core.specs.declared.refusal.Refusal.{Refusal}
 use Rattle.admit_core.specs.declared.slot.Slot.{Slot}
 use Rattle.dossier_check.specs.Ids.{ids_of}
+use Rattle.dossier_check.specs.Outcome.{AnswersFault}
 use Rattle.sample_gen.specs.Samples.{sample_tables}
 use Rattle.request.specs.Modes.{named_by, sample_of, slots_of}
 use Rattle.request.specs.declared.modes.Mode.{Mode}
 use Rattle.request.specs.declared.modes.Name.{Name}
 use Rattle.request.specs.declared.request.Request.{Request}
-use Rattle.intake.specs.Input.{IsInputFrom, IsOfFiles, TakesIn, faultless, has_name, having, job_of, tested}
+use Rattle.intake.specs.Input.{IsInputFrom, IsOfFiles, TakesIn, by_check, faultless, has_name, having, job_of}
+use Rattle.intake.specs.Input.{tested, with_files}
 use Rattle.intake.specs.Reading.{files_in, files_of, made, made_or_read}
 use Rattle.intake.specs.Shelves.{HasCause, OnShelf, TakesSlots, Tells}
 use Rattle.intake.specs.Stops.{◌>>=◌, Gives, Stopped}
@@ -123,6 +127,41 @@ named_there : (fault : Option Refusal) (name : Option Name) (files : Files)
 named_there None None files is = tt
 named_there None (Some name) files is = true_there (has_name (ids_of files.tables) name) name files is
 named_there (Some refusal) name files is = absurd (cc)
+
+stopped_as : (stop : Stop) (expected : Result Files Stop) → expected ≡ Err stop → Stopped stop expected
+stopped_as stops.OutOfMemory expected is = tt
+stopped_as (stops.ReadFault slot) expected is = tt
+stopped_as stops.BadWords expected is = is
+stopped_as (stops.Refused refusal) expected is = is
+stopped_as (stops.NoSuch name) expected is = is
+
+-- files by their check are those that are accepted
+pub tested_by : {A : Type 0} (mode : Mode) (files : Files) (checked : Result A InFault) (r : Result Input Stop)
+    → AnswersFault checked (first_fault files.tables) → by_check (named_by mode) files checked ≡ with_files files r
+    → Gives (λ (input : Input). files) r (tested mode files)
+tested_by mode files (Ok x) (Ok input) none is = rw none is
+tested_by mode files (Ok x) (Err stop) none is = rw none (stopped_as stop (having (named_by mode) files) is)
+tested_by mode files (Err (Refused refusal)) (Ok input) fault is = absurd (cc is)
+tested_by mode files (Err (Refused refusal)) (Err stop) fault is =
+    rw fault (stopped_as stop (Err (stops.Refused refusal)) is)
+tested_by mode files (Err OutOfMemory) (Ok input) fault is = absurd (cc is)
+tested_by mode files (Err OutOfMemory) (Err stop) fault is =
+    let same : stop ≡ stops.OutOfMemory = cc is in rw same tt
+
+-- and what stops them is of files
+pub of_files : {A B : Type 0} (named : Option Name) (files : Files) (checked : Result A InFault) (r : Result B Stop)
+    → by_check named files checked ≡ with_files files r → IfErr r IsOfFiles
+of_files named files checked (Ok x) is = tt
+of_files None files (Ok x) (Err stop) is = absurd (cc is)
+of_files (Some name) files (Ok x) (Err stop) is = by (has_name (ids_of files.tables) name) is
+  where
+    by : (b : Bool) → (if b then Ok files else Err (stops.NoSuch name)) ≡ Err stop → IsOfFiles stop
+    by true e = absurd (cc e)
+    by false e = let same : stop ≡ stops.NoSuch name = cc e in rw same tt
+of_files named files (Err (Refused refusal)) (Err stop) is =
+    let same : stop ≡ stops.Refused refusal = cc is in rw same tt
+of_files named files (Err OutOfMemory) (Err stop) is =
+    let same : stop ≡ stops.OutOfMemory = cc is in rw same tt
 
 module _ (request : Request) (before after : OnShelf) where
   -- what stops the files stops the job

@@ -4,6 +4,7 @@ use Rattle.std.specs.Prelude.{if◌then◌else◌, ⊤}
 use Rattle.admit_core.specs.Lists.{is_among}
 use Rattle.admit_core.specs.Relations.{first_fault}
 use Rattle.admit_core.specs.Standing.{dossier_of}
+use Rattle.admit_core.specs.declared.refusal.InFault.{InFault}
 use Rattle.admit_core.specs.declared.refusal.Refusal.{Refusal}
 use Rattle.admit_core.specs.declared.slot.Slot.{Slot}
 use Rattle.admit_core.specs.declared.tables.Tables.{Tables}
@@ -18,7 +19,7 @@ use Rattle.request.specs.declared.modes.Name.TheVariants.{Wish, School}
 use Rattle.request.specs.declared.request.Request.{Request}
 use Rattle.intake.specs.Reading.{files_of}
 use Rattle.intake.specs.Shelves.{OnShelf, TakesSlots, Tells}
-use Rattle.intake.specs.Stops.{◌>>=◌, Stopped, asked}
+use Rattle.intake.specs.Stops.{◌>>=◌, Stopped, asked, stop_of}
 use Rattle.intake.specs.declared.files.Files.{Files}
 use Rattle.intake.specs.declared.input.Input.{Input}
 use Rattle.intake.specs.declared.stop.Missing.{Missing}
@@ -51,6 +52,16 @@ having (Some name) files =
 abbrev pub by_name : {A : Type 0} → Files → Result A Missing → Result Files Stop
 by_name files (Ok _) = Ok files
 by_name files (Err missing) = Err (stops.NoSuch missing.name)
+
+-- these files, where something is made of them
+abbrev pub with_files : {A : Type 0} → Files → Result A Stop → Result Files Stop
+with_files files (Ok _) = Ok files
+with_files files (Err stop) = Err stop
+
+-- files that have what is named, by what the check of their rows answered
+abbrev pub by_check : {A : Type 0} → Option Name → Files → Result A InFault → Result Files Stop
+by_check named files (Ok _) = having named files
+by_check named files (Err fault) = Err (stop_of fault)
 
 -- files that are accepted: no relation between their rows fails, and they have what the mode names
 abbrev pub tested : Mode → Files → Result Files Stop

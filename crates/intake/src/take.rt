@@ -1,5 +1,5 @@
 //! Taking in what a request is about.
-ghost use Rattle.std.specs.Prelude.{◌≡◌, ℕ, List, IfErr, IfOk, IfSome};
+ghost use Rattle.std.specs.Prelude.{◌≡◌, ℕ, List, IfOk, IfSome};
 ghost use Rattle.admit_core.specs.Ranges.{AreTables};
 ghost use Rattle.admit_core.specs.declared.slot.Slot.{Slot};
 ghost use Rattle.admit_core.specs.Standing.{dossier_of};
@@ -9,8 +9,8 @@ ghost use Rattle.request.specs.Modes as Modes;
 ghost use Rattle.request.specs.Modes.{IsMode};
 ghost use Rattle.sample_gen.specs.Samples.{sample_tables};
 ghost use Rattle.intake.specs.Reading as Reading;
-ghost use Rattle.intake.specs.Input.{IsInputFrom, IsOfFiles, TakesIn, by_name, has_name, having};
-ghost use Rattle.intake.specs.Input.{tested};
+ghost use Rattle.intake.specs.Input.{IsInputFrom, TakesIn, by_check, by_name, has_name, having};
+ghost use Rattle.intake.specs.Input.{with_files};
 ghost use Rattle.intake.specs.Shelves.{TakesSlots, Tells, on_shelf};
 ghost use Rattle.intake.specs.Stops.{Gives};
 ghost use Rattle.intake.specs.declared.files.Files.{Files};
@@ -18,6 +18,7 @@ ghost use Rattle.intake.specs.declared.files.Files.{Files};
 use crate::files::{Files, made, read_slots};
 use crate::input::Input;
 use crate::stop::{Missing, Stop};
+use admit_core::InFault;
 use dossier_check::{Checked, Index, check, school_place, wish_place};
 use request::{Mode, Name, Request, named_by, sample_of, slots_of};
 use slot_io::Shelf;
@@ -70,15 +71,19 @@ fn named_input(files: Files, checked: Checked, named: Option<Name>) -> Result<In
     }
 }
 
-/// The input of files that are accepted, or why they are not.
-fn input_of(alloc: Global, files: Files, mode: Mode) -> Result<Input, Stop>
-    requires { AreTables files.tables }
-    ensures accepted { Gives (λ _. files) result (tested mode files) }
+/// The input of files, by what the check of their rows answered. Nothing here takes memory.
+fn input_of(
+    files: Files,
+    checked: Result<Checked, InFault>,
+    named: Option<Name>,
+) -> Result<Input, Stop>
+    requires dossier { IfOk checked (λ checked. checked.dossier ≡ dossier_of files.tables) }
+    requires index { IfOk checked (λ checked. checked.index ≡ ids_of files.tables) }
+    requires dates { IfOk checked (λ checked. checked.dates ≡ dates_of files.tables) }
+    ensures stops { by_check named files checked ≡ with_files files result }
     ensures input { IfOk result (IsInputFrom files) }
-    ensures kinds { IfErr result IsOfFiles }
 {
-    let checked = check(alloc, &files.tables)?;
-    Ok(named_input(files, checked, named_by(mode))?)
+    Ok(named_input(files, checked?, named)?)
 }
 
 /// Takes in what a request is about: the slots that its mode reads, in their order, each once and
@@ -90,5 +95,6 @@ pub fn take_in<S: Shelf>(alloc: Global, request: &Request, shelf: &mut S) -> Res
         (on_shelf S.left S.taken S.faults shelf.new) result }
 {
     let files = files_of(alloc, shelf, request.mode)?;
-    input_of(alloc, files, request.mode)
+    let checked = check(alloc, &files.tables);
+    input_of(files, checked, named_by(request.mode))
 }
