@@ -29,7 +29,7 @@ _parcours_tool() {
     esac
     case ${COMP_WORDS[0]##*-}$word in
         prepare-*) mapfile -t COMPREPLY < <(compgen -W "--dates --rates --column --leave-out --ids --lang --help" -- "$word") ;;
-        next_day-*) mapfile -t COMPREPLY < <(compgen -W "--start --term --help" -- "$word") ;;
+        next_day-*) mapfile -t COMPREPLY < <(compgen -W "--start --term --lang --help" -- "$word") ;;
         take_in-*) mapfile -t COMPREPLY < <(compgen -W "--replace --start --term --dates --column --lang --help" -- "$word") ;;
         why-*) mapfile -t COMPREPLY < <(compgen -W "--candidate --help" -- "$word") ;;
         tables-*) mapfile -t COMPREPLY < <(compgen -W "--names --dialect --lang --help" -- "$word") ;;
