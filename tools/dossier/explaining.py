@@ -19,11 +19,11 @@ from .naming import Names, names_in
 from .records import OFFERED, WAITS, KeptDay, Wish, made_days, wishes_in
 from .setting import Day, Deadline, Moment, Setting
 from .slots import Thing
-from .stops import MEANT, Stopped
+from .stops import MEANT, NO_CAMPAIGN, Stopped
 from .telling import LANGUAGES, sentences
 from .texts import Filled, Language, Text, said, spaced
 from .wording import Words, language_here
-from .writing import named_folder, stop_cleanly, write_whole
+from .writing import is_folder, named_folder, stop_cleanly, write_whole
 
 SAID, NOT_THERE = 0, 1
 NO_WISH = Text("there is no wish {id} in the dossier; {instead}",
@@ -198,6 +198,8 @@ def main(arguments: list[str]) -> int:
 
 
 def tell(folder: Path, wishes: list[str], candidates: list[str], language: Language) -> int:
+    if not is_folder(folder):
+        raise Stopped(program.READ_FAULT, NO_CAMPAIGN.of(folder=folder))
     evening = Evening(made_days(folder), names_in(folder))
     asked = asked_wishes(wishes, candidates, wishes_in(folder), evening.names)
     told = "\n\n".join(paragraphs(asked, evening, folder, language)) + "\n"
