@@ -34,7 +34,8 @@ READ = Text("{slot}: {rows} {of_file}{how}", "{slot} : {rows} {of_file}{how}")
 ROW, ROWS = Text("row", "ligne"), Text("rows", "lignes")
 LEFT_OUT = Text("{file}: not read are the columns {names}", "{file} : colonnes qui ne sont pas lues : {names}")
 NUMBERED = Text("{ids}: ids of {things} numbered, {count} from {first} to {last}",
-                "{ids} : {things}, {count} numéros de {first} à {last}")
+                "{ids} : {things}, {numbers} de {first} à {last}")
+NUMBER, NUMBERS = Text("number", "numéro"), Text("numbers", "numéros")
 NOT_READ = Text("not read: {name}", "pas lu : {name}")
 IS_IN = Text("The dossier is in {folder}.", "Le dossier est dans {folder}.")
 
@@ -136,7 +137,9 @@ def summary(exports: Exports, numbers: Numbers, folder: Path, language: Language
         left_out += columns_left_out(table)
     for thing, by_code in numbers.by_code.items():
         if by_code:
-            lines.append(NUMBERED.of(ids=IDS, count=len(by_code), things=PLURALS[thing.value],
+            count = len(by_code)
+            lines.append(NUMBERED.of(ids=IDS, count=count, numbers=Counted(count, NUMBER, NUMBERS),
+                                     things=PLURALS[thing.value],
                                      first=min(by_code.values()), last=max(by_code.values())))
     lines += left_out + [NOT_READ.of(name=shown(name)) for name in exports.passed_over]
     return "\n".join(line.said(language) for line in [*lines, IS_IN.of(folder=shown(str(folder)))])
