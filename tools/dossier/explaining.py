@@ -19,7 +19,7 @@ from .naming import Names, names_in
 from .records import OFFERED, WAITS, KeptDay, Wish, made_days, wishes_in
 from .setting import Day, Deadline, Moment, Setting
 from .slots import Thing
-from .stops import MEANT, NO_CAMPAIGN, Stopped
+from .stops import MEANT, MEANT_ALONE, NO_CAMPAIGN, Stopped
 from .telling import LANGUAGES, sentences
 from .texts import Filled, Language, Text, said, spaced
 from .wording import Words, language_here
@@ -138,7 +138,8 @@ def explained(wish: Wish, day: KeptDay, slots: Path) -> Explanation:
     found = explanation_of(line.removesuffix("\n"))
     if status != program.DONE or found is None:
         raise Stopped(status if 0 < status < 256 else program.READ_FAULT,
-                      MEANT.of(meaning=program.meaning(status), status=status, line=shown(line)))
+                      (MEANT if line else MEANT_ALONE).of(meaning=program.meaning(status), status=status,
+                                                          line=shown(line)))
     return found
 
 

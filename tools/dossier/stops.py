@@ -19,6 +19,7 @@ class Stopped(Exception):
 
 
 MEANT = Text("{meaning} (status {status}): {line}", "{meaning} (code {status}) : {line}")
+MEANT_ALONE = Text("{meaning} (status {status}); nothing is said.", "{meaning} (code {status}) ; rien n'est dit.")
 NOT_MADE = Text("{meaning} (status {status}); nothing is changed.", "{meaning} (code {status}) ; rien n'est changé.")
 ROW = Text("{file}, row {row}: {cells}", "{file}, ligne {row} : {cells}")
 CORRECT_ROW = Text("What to do: correct this row (docs/FORMATS.md has the reasons), and call again.",
