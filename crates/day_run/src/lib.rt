@@ -1,5 +1,5 @@
 //! Campaigns: day after day of `desk_day`, with a picker of their own. `run_day` runs one day on a
-//! `Desk`, along a lineup of its own.
+//! `Desk`, along a roster of its own.
 //!
 //! `let day = campaign.next_day(alloc)?;`
 #![tactic(auto)]

@@ -185,8 +185,9 @@ fn listed_blocks(
     Ok(blocks)
 }
 
-/// The wishes that block a state, by place, along the roster of its dossier. After automatic days
-/// there are none.
+/// The wishes that block a state, by place, along the roster of its dossier. There are none after
+/// days without answers and deadlines where all wishes waited at first, are ranked, and have no
+/// school.
 ///
 /// It costs about the wishes: what each candidate holds, and who is the last live one of each
 /// programme, is noted once.

@@ -1,5 +1,6 @@
-//! Hashing by a key that is made of what is hashed, so that no chosen ids can crowd a table:
-//! whoever picks ids against a key changes it by picking them. Mix all rows in first.
+//! Hashing by a key that is made of what is hashed: whoever picks ids against a key changes it by
+//! picking them. Which key it is, is proved; that no chosen ids crowd a table is only measured. Mix
+//! all rows in first.
 //!
 //! `let ids = IndexSet::with_hasher(alloc, key_maker.done());`
 #![tactic(auto)]

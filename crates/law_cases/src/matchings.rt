@@ -20,7 +20,7 @@ pub fn witnesses_of_stable_matchings()
     ensures truth { TruthPaysWitness }
 {}
 
-/// The market of a dossier in which leaving a wish out pays on a day that is answered automatically.
+/// The market of a dossier in which leaving a wish out pays on a day of automatic answers.
 pub fn worked_market_of_dossier()
     ensures crossed { CrossedDossier }
 {}

@@ -19,8 +19,8 @@ pub fn laws_of_outcomes()
     ensures replays { ChecksEndAsReplays }
 {}
 
-/// What `replay` writes is the text of which `report_laws` says that it hides nothing: two runs over
-/// one dossier with the same text have the same orders, days and final statuses.
+/// What `replay` writes is the text of which `report_laws` says that two runs over one dossier with
+/// the same text have the same orders, days and final statuses.
 pub fn laws_of_replay_texts()
     ensures plain { ReplaysAreRunTexts }
     ensures dated { DatedReplaysAreRunTexts }

@@ -1,5 +1,6 @@
-//! That the text of a report hides nothing: two runs with the same text have the same orders,
-//! days and final statuses. The calls do nothing: their clauses are the laws.
+//! That the text of a report hides nothing of its orders, days and final statuses: two runs of one
+//! dossier with the same text have the same ones. Stamps are not told. The calls do nothing: their
+//! clauses are the laws.
 //!
 //! `laws_of_runs();`
 #![tactic(auto)]

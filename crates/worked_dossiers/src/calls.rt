@@ -46,7 +46,7 @@ pub(crate) fn push_numbers(text: &mut String, numbers: &[u32]) -> Result<(), Out
     Ok(())
 }
 
-/// Adds the lines of a pass of a day: the pass, what automatic answers changed, and what they freed.
+/// Adds the lines of a pass of a day: the pass, what automatic answers changed, what they freed.
 fn push_end(text: &mut String, dossier: &Dossier, end: &PassEnd) -> Result<(), OutOfMemory> {
     push_pass(text, dossier, &end.pass)?;
     for change in end.autos.as_slice() {
