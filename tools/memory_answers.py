@@ -1,9 +1,9 @@
 #!/usr/bin/env python3
-"""memory_answers.py: prints each line of the crates' code that answers by its own words that memory ran out, and is
-not in memory_answers.txt beside it, and each line there that the code does not have. Contracts mostly allow that
-answer at any step, so a fault could be told so. Handed on by `?` it is in no such line. A new line is read, and added
-where it is right. Crates of cases, worked_*, are left out. Status: 0 there is no difference, 1 there is, 2 bad
-words."""
+"""memory_answers.py: prints each line of the crates' code that answers by its own words that memory ran out, or that
+takes room of a size that it states, and is not in memory_answers.txt beside it, and each line there that the code does
+not have. Contracts mostly allow that answer at any step, so a fault could be told so: by such words, or by room that no
+machine has. Handed on by `?` it is in no line of its own. A new line is read, and added where it is right. Crates of
+cases, worked_*, are left out. Status: 0 there is no difference, 1 there is, 2 bad words."""
 import collections
 import glob
 import os
@@ -15,6 +15,7 @@ TOOLS = os.path.dirname(os.path.realpath(__file__))
 ROOT = os.path.dirname(TOOLS)
 ANSWERS = re.compile(r"::(OutOfMemory|NoMemory)\b|\b(OutOfMemory|AllocError)\)|^(OutOfMemory|AllocError)$"
                      r"|\b(OutOfMemory|AllocError)\.into\b|\(NoRoom \{")
+ROOM = re.compile(r"\bwith_capacity\(|\.(reserve|reserve_exact|resize)\(|\bvec!\[in .*;.*;")
 
 
 def answers():
@@ -25,7 +26,8 @@ def answers():
             with open(path, encoding="utf-8") as file:
                 for line in file:
                     code = re.sub(r"//.*", "", line).strip()
-                    if ANSWERS.search(code) and not re.match(r"(pub )?(ensures|fn|ghost|impl|requires|use)\b", code):
+                    said = ANSWERS.search(code) or ROOM.search(code)
+                    if said and not re.match(r"(pub )?(ensures|fn|ghost|impl|requires|use)\b", code):
                         yield f"{name}: {code}"
 
 
@@ -42,7 +44,8 @@ def main():
     for mark, lines in (("+", found - known), ("-", known - found)):
         for line in sorted(lines.elements()):
             print(mark, line)
-    print(f"{sum(found.values())} lines answer that memory ran out; {sum((found - known).values())} are new, "
+    print(f"{sum(found.values())} lines answer that memory ran out, or state a size; "
+          f"{sum((found - known).values())} are new, "
           f"{sum((known - found).values())} are gone")
     return int(found != known)
 
