@@ -19,8 +19,8 @@ use Rattle.admit_core.specs.State.{State, is_live, with_mark_at}
 use Rattle.admit_core.specs.Validity.{IsValid, IsValidWish}
 use Rattle.day_state.specs.declared.bundles.Sites.{Sites}
 use Rattle.day_state.specs.declared.bundles.Sites.TheVariants.{Programmes, Schools}
-use Rattle.day_state.specs.declared.numbers.Number.{Number}
-use Rattle.day_state.specs.declared.numbers.Number.TheVariants.{NoSite}
+use Rattle.day_state.specs.declared.numbers.BundleNumber.{BundleNumber}
+use Rattle.day_state.specs.declared.numbers.BundleNumber.TheVariants.{NoSite}
 use Rattle.day_state.specs.Kept.{mark_in, wish_in, waiting_mark, one_if, recount_some, state_of}
 use Rattle.day_state.specs.Bundles.{site_of, is_same, number_in, bundles_of, is_shared, rank_of, number_of, number_at}
 use Rattle.day_state.specs.Bundles.{count_of, all_numbers, shared_in_all, live_in_bundle, AreLiveCounts, IsBundled}
@@ -166,7 +166,7 @@ count_most ms numbers b =
     )
 
 -- the number of a wish's bundle
-pub number_is : (sites : Sites) (s : State) (numbers : List Number) (live : List ℕ) (k : ℕ)
+pub number_is : (sites : Sites) (s : State) (numbers : List BundleNumber) (live : List ℕ) (k : ℕ)
     → IsBundled sites s numbers live
     → number_at numbers k ≡ number_of (bundles_of sites s.dossier.wishes)
     (number_in (bundles_of sites s.dossier.wishes) k)
@@ -177,7 +177,7 @@ number_is sites s numbers live k bundled =
     ∙ get_or-map (number_of bundles) bundles k None
     ∙ ap (number_of bundles) (sym (unwrap_or-slice_get bundles k None)))
 
-pub bundled_more : (sites : Sites) (s : State) (numbers : List Number) (live : List ℕ) (k : ℕ) (m : Mark)
+pub bundled_more : (sites : Sites) (s : State) (numbers : List BundleNumber) (live : List ℕ) (k : ℕ) (m : Mark)
     → length s.marks ≡ length s.dossier.wishes → k < length s.marks
     → IsBundled sites s numbers live
     → IsBundled sites (with_mark_at s k m) numbers
@@ -193,7 +193,7 @@ bundled_more sites s numbers live k m long lt bundled =
     }
 
 -- the count of a wish's bundle, before its mark becomes m
-bundle_fits : (sites : Sites) (s : State) (numbers : List Number) (live : List ℕ) (k : ℕ) (m : Mark)
+bundle_fits : (sites : Sites) (s : State) (numbers : List BundleNumber) (live : List ℕ) (k : ℕ) (m : Mark)
     → length s.marks ≡ length s.dossier.wishes → k < length s.marks
     → length s.dossier.wishes ≤ 16000000 → IsBundled sites s numbers live
     → ForSome (count_of (number_at numbers k))
@@ -217,14 +217,14 @@ bundle_fits sites s numbers live k m long lt short bundled n e =
       goes = omega (arith, is, live_here s.marks bundles b k m lt parts.1);
     })
 
-numbers_long : (sites : Sites) (s : State) (numbers : List Number) (live : List ℕ) → IsBundled sites s numbers live
+numbers_long : (sites : Sites) (s : State) (numbers : List BundleNumber) (live : List ℕ) → IsBundled sites s numbers live
     → length numbers ≡ length s.dossier.wishes
 numbers_long sites s numbers live bundled =
     let bundles = bundles_of sites s.dossier.wishes in
     ap length bundled.numbered ∙ length-map bundles (number_of bundles) ∙ (bundles_are sites s.dossier.wishes).as_long
 
 -- a wish's bundle has a place among the counts, where it has a number
-number_within : (sites : Sites) (s : State) (numbers : List Number) (live : List ℕ) (k : ℕ)
+number_within : (sites : Sites) (s : State) (numbers : List BundleNumber) (live : List ℕ) (k : ℕ)
     → length s.marks ≡ length s.dossier.wishes → k < length s.marks
     → IsBundled sites s numbers live → ForSome (count_of (number_at numbers k)) (λ n. n < length live)
 number_within sites s numbers live k long lt bundled n e =
@@ -240,11 +240,11 @@ number_within sites s numbers live k long lt bundled n e =
     omega (arith, parts.3, bundled.counts.as_long, rank_within bundles parts.0 parts.2 b_in)
 
 -- a wish has a number, and where that names a count, it is there
-pub record HasNumber (numbers : List Number) (live : List ℕ) (k : ℕ) : Type 0 where
+pub record HasNumber (numbers : List BundleNumber) (live : List ℕ) (k : ℕ) : Type 0 where
   pub place : k < length numbers
   pub number : ForSome (count_of (number_at numbers k)) (λ n. n < length live)
 
-pub has_number : {sites : Sites} {s : State} {numbers : List Number} {live : List ℕ} {k : ℕ}
+pub has_number : {sites : Sites} {s : State} {numbers : List BundleNumber} {live : List ℕ} {k : ℕ}
     → IsBundled sites s numbers live → length s.marks ≡ length s.dossier.wishes → k < length s.marks
     → HasNumber numbers live k
 has_number {sites} {s} {numbers} {live} {k} bundled long lt = record {
@@ -253,12 +253,12 @@ has_number {sites} {s} {numbers} {live} {k} bundled long lt = record {
 }
 
 -- a wish's bundle can be counted anew
-pub record CanTurn (numbers : List Number) (live : List ℕ) (k : ℕ) (was lives : Bool) : Type 0 where
+pub record CanTurn (numbers : List BundleNumber) (live : List ℕ) (k : ℕ) (was lives : Bool) : Type 0 where
   pub has : HasNumber numbers live k
   pub comes : ForSome (count_of (number_at numbers k)) (λ n. slice_index live n + one_if lives < 4294967296)
   pub goes : ForSome (count_of (number_at numbers k)) (λ n. one_if was ≤ slice_index live n + one_if lives)
 
-pub can_turn : {sites : Sites} {s : State} {numbers : List Number} {live : List ℕ} {k : ℕ} {was lives : Bool}
+pub can_turn : {sites : Sites} {s : State} {numbers : List BundleNumber} {live : List ℕ} {k : ℕ} {was lives : Bool}
     → IsBundled sites s numbers live → length s.marks ≡ length s.dossier.wishes → k < length s.marks
     → length s.dossier.wishes ≤ 16000000 → (m : Mark) → was ≡ is_live (mark_in s.marks k) → lives ≡ is_live m
     → CanTurn numbers live k was lives
@@ -313,7 +313,7 @@ all_waiting d = record {
 -- all wishes of a valid dossier wait, whose wishes, programmes and schools were read
 module _ (d : DossierRows) (ws : List Wish) (wishes : ws ≡ d.wishes) where
   pub keeps_waiting : {marks : List Mark} {seats beds in_programmes in_schools : List ℕ}
-      {of_programmes of_schools : List Number}
+      {of_programmes of_schools : List BundleNumber}
       {p h : ℕ} → p ≡ length d.programmes → h ≡ length d.schools → marks ≡ replicate (length ws) waiting_mark
       → seats ≡ replicate p 0 → beds ≡ replicate h 0 → of_programmes ≡ all_numbers Programmes ws
       → in_programmes ≡ replicate (shared_in_all Programmes ws) 0 → of_schools ≡ all_numbers Schools ws

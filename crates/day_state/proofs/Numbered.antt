@@ -28,8 +28,8 @@ use Rattle.admit_core.specs.Lists.{is_among}
 use Rattle.admit_core.specs.declared.dossier.Wish.{Wish}
 use Rattle.day_state.specs.declared.bundle_numbers.Later.{Later}
 use Rattle.day_state.specs.declared.bundles.Sites.{Sites}
-use Rattle.day_state.specs.declared.numbers.Number.{Number}
-use Rattle.day_state.specs.declared.numbers.Number.TheVariants.{NoSite, Alone, Shared}
+use Rattle.day_state.specs.declared.numbers.BundleNumber.{BundleNumber}
+use Rattle.day_state.specs.declared.numbers.BundleNumber.TheVariants.{NoSite, Alone, Shared}
 use Rattle.day_state.specs.Kept.{wish_in}
 use Rattle.day_state.specs.Bundles.{is_same, number_in, is_later, is_shared, shared_flags, shared_places}
 use Rattle.day_state.specs.Bundles.{rank_of, number_of, number_at, AreLaters, IsLater, AreFirstsNumbered, bare_number}
@@ -231,13 +231,13 @@ rank_listed bundles i lt =
     rank_is bundles (slice_index (shared_places bundles) i) (omega (arith, shared_within bundles i lt))
     ∙ passing_at (is_shared bundles) (length bundles) i lt
 
-number_at_is : (ns : List Number) (k : ℕ) → number_at ns k ≡ get_or ns k NoSite
+number_at_is : (ns : List BundleNumber) (k : ℕ) → number_at ns k ≡ get_or ns k NoSite
 number_at_is ns k = unwrap_or-slice_get ns k NoSite
 
-set_here : (ns : List Number) (k : ℕ) (v : Number) → k < length ns → number_at (set ns k v) k ≡ v
+set_here : (ns : List BundleNumber) (k : ℕ) (v : BundleNumber) → k < length ns → number_at (set ns k v) k ≡ v
 set_here ns k v lt = number_at_is (set ns k v) k ∙ get_or-set_same ns k v NoSite lt
 
-set_there : (ns : List Number) (k j : ℕ) (v : Number) → (j ≡ k → ⊥) → number_at (set ns k v) j ≡ number_at ns j
+set_there : (ns : List BundleNumber) (k j : ℕ) (v : BundleNumber) → (j ≡ k → ⊥) → number_at (set ns k v) j ≡ number_at ns j
 set_there ns k j v other =
     number_at_is (set ns k v) j ∙ get_or-set_other ns k j v NoSite other ∙ sym (number_at_is ns j)
 
@@ -247,15 +247,15 @@ among_more k xs i lt =
     ap (is_among k) (take_more xs i 0 lt) ∙ list_any-append (nat_eq k) (take i xs) (slice_index xs i ∷ [])
 
 -- the first i shared bundles have their numbers
-pub record AreNumberedTo (bundles : List (Option ℕ)) (old new : List Number) (i : ℕ) : Type 0 where
+pub record AreNumberedTo (bundles : List (Option ℕ)) (old new : List BundleNumber) (i : ℕ) : Type 0 where
   pub long : length new ≡ length old
   pub each : (k : ℕ) → k < length bundles → number_at new k
       ≡ (if is_among k (take i (shared_places bundles)) then Shared (rank_of bundles k) else number_at old k)
 
-pub numbered_none : (bundles : List (Option ℕ)) (old : List Number) → AreNumberedTo bundles old old 0
+pub numbered_none : (bundles : List (Option ℕ)) (old : List BundleNumber) → AreNumberedTo bundles old old 0
 numbered_none bundles old = record { long = refl; each = λ k lt. refl }
 
-pub numbered_more : (bundles : List (Option ℕ)) (old now new : List Number) (shared : List ℕ) (i : ℕ)
+pub numbered_more : (bundles : List (Option ℕ)) (old now new : List BundleNumber) (shared : List ℕ) (i : ℕ)
     → length old ≡ length bundles → shared ≡ shared_places bundles → i < length shared
     → AreNumberedTo bundles old now i → new ≡ set now (slice_index shared i) (Shared i)
     → AreNumberedTo bundles old new (i + 1)
@@ -288,7 +288,7 @@ numbered_more bundles old now new shared i as_long shared_is lt are new_is =
           ];
     })
 
-pub numbered_all : (bundles : List (Option ℕ)) (old new : List Number) (shared : List ℕ) (i : ℕ)
+pub numbered_all : (bundles : List (Option ℕ)) (old new : List BundleNumber) (shared : List ℕ) (i : ℕ)
     → shared ≡ shared_places bundles → length shared ≤ i → AreNumberedTo bundles old new i
     → AreFirstsNumbered bundles old new
 numbered_all bundles old new shared i shared_is le are =
@@ -313,17 +313,17 @@ numbered_fits bundles shared i shared_is lt few =
     omega (arith, s_lt, long, most, few)
 
 -- all later wishes among the first i have the numbers of their bundles
-pub record AreLedTo (bundles : List (Option ℕ)) (laters : List Later) (old new : List Number) (i : ℕ) : Type 0 where
+pub record AreLedTo (bundles : List (Option ℕ)) (laters : List Later) (old new : List BundleNumber) (i : ℕ) : Type 0 where
   pub long : length new ≡ length old
   pub each : (k : ℕ) → k < length bundles → number_at new k
       ≡ (if list_any (λ (l : Later). l.wish == k) (take i laters) then number_of bundles (number_in bundles k)
       else number_at old k)
 
-pub led_none : (bundles : List (Option ℕ)) (laters : List Later) (old : List Number) → AreLedTo bundles laters old old 0
+pub led_none : (bundles : List (Option ℕ)) (laters : List Later) (old : List BundleNumber) → AreLedTo bundles laters old old 0
 led_none bundles laters old = record { long = refl; each = λ k lt. refl }
 
 module _ (bundles : List (Option ℕ)) (firsts : AreFirsts bundles) (laters : List Later) (are : AreLaters bundles laters)
-    (bare old : List Number) (numbered : AreFirstsNumbered bundles bare old) where
+    (bare old : List BundleNumber) (numbered : AreFirstsNumbered bundles bare old) where
   -- the first wish of a bundle is not a later one
   not_led : (l : Later) (i : ℕ) → IsLater bundles l
       → list_any (λ (x : Later). x.wish == l.first) (take i laters) ≡ false
@@ -340,13 +340,13 @@ module _ (bundles : List (Option ℕ)) (firsts : AreFirsts bundles) (laters : Li
       is_x.other (same ∙ sym here))
 
   -- the number that a later wish is given
-  given_is : (now : List Number) (l : Later) (i : ℕ) → IsLater bundles l → AreLedTo bundles laters old now i
+  given_is : (now : List BundleNumber) (l : Later) (i : ℕ) → IsLater bundles l → AreLedTo bundles laters old now i
       → number_at now l.first ≡ Shared (rank_of bundles l.first)
   given_is now l i is led =
       led.each l.first is.begins
       ∙ rw (not_led l i is) (numbered.each l.first is.begins ∙ rw (shares bundles laters are l is) refl)
 
-  pub given_fits : (now : List Number) (l d : Later) (i : ℕ) (v : Number) → i < length laters → l ≡ get_or laters i d
+  pub given_fits : (now : List BundleNumber) (l d : Later) (i : ℕ) (v : BundleNumber) → i < length laters → l ≡ get_or laters i d
       → length bundles < 2147483648 → AreLedTo bundles laters old now i → v ≡ number_at now l.first
       → ForSome (count_of v) (λ n. n < 4294967294)
   given_fits now l d i v lt l_is few led v_is n e =
@@ -357,7 +357,7 @@ module _ (bundles : List (Option ℕ)) (firsts : AreFirsts bundles) (laters : Li
       true_most (shared_flags bundles) l.first (omega (arith, is.begins, flags_long bundles)) in
       omega (arith, same, most, is.begins, few)
 
-  pub led_more : (now new : List Number) (l d : Later) (i : ℕ) (v : Number) → i < length laters → l ≡ get_or laters i d
+  pub led_more : (now new : List BundleNumber) (l d : Later) (i : ℕ) (v : BundleNumber) → i < length laters → l ≡ get_or laters i d
       → length bare ≡ length bundles → AreLedTo bundles laters old now i → v ≡ number_at now l.first
       → new ≡ set now l.wish v → AreLedTo bundles laters old new (i + 1)
   led_more now new l d i v lt l_is as_long led v_is new_is =
@@ -415,13 +415,13 @@ module _ (sites : Sites) (ws : List Wish) where
       unsited None e = refl
       unsited (Some h) e = absurd (false≢true (sym e ∙ eq-eqb h h refl))
 
-  module _ (laters : List Later) (bare old : List Number) (are : AreLaters (bundles_of sites ws) laters)
+  module _ (laters : List Later) (bare old : List BundleNumber) (are : AreLaters (bundles_of sites ws) laters)
       (bare_is : bare ≡ map (λ w. bare_number (site_of sites w)) ws)
       (numbered : AreFirstsNumbered (bundles_of sites ws) bare old) where
     bare_at : (k : ℕ) → k < length ws → number_at bare k ≡ bare_number (site_of sites (wish_in ws k))
     bare_at k lt =
         let d = wish_in [] 0 in
-        number_at_is bare k ∙ ap (λ (ns : List Number). get_or ns k NoSite) bare_is
+        number_at_is bare k ∙ ap (λ (ns : List BundleNumber). get_or ns k NoSite) bare_is
         ∙ get_or-map (λ w. bare_number (site_of sites w)) ws k d NoSite lt
         ∙ ap (λ (w : Wish). bare_number (site_of sites w)) (sym (unwrap_or-slice_get ws k d))
 
@@ -461,13 +461,13 @@ module _ (sites : Sites) (ws : List Wish) where
           | inr unled ↦ rw unled (not_later k (number_in (bundles_of sites ws) k) k_in k_b refl unled)
         ]
 
-    pub led_all : (new : List Number) (i : ℕ) → length laters ≤ i
+    pub led_all : (new : List BundleNumber) (i : ℕ) → length laters ≤ i
         → AreLedTo (bundles_of sites ws) laters old new i → new ≡ all_numbers sites ws
     led_all new i le led =
         let bundles = bundles_of sites ws in
         let b_long = (bundles_are sites ws).as_long in
         let bare_long : length bare ≡ length ws =
-        ap (λ (ns : List Number). length ns) bare_is ∙ length-map ws (λ w. bare_number (site_of sites w)) in
+        ap (λ (ns : List BundleNumber). length ns) bare_is ∙ length-map ws (λ w. bare_number (site_of sites w)) in
         ext_get_or NoSite new (all_numbers sites ws)
         (led.long ∙ numbered.long ∙ bare_long ∙ sym b_long ∙ sym (length-map bundles (number_of bundles)))
         (λ k lt.

@@ -17,11 +17,11 @@ use Rattle.admit_core.specs.State.{State, entries, is_live, with_mark_at}
 use Rattle.admit_core.specs.Validity.{IsValid}
 use Rattle.day_state.specs.declared.bundles.Sites.{Sites}
 use Rattle.day_state.specs.declared.bundles.Sites.TheVariants.{Programmes, Schools}
-use Rattle.day_state.specs.declared.numbers.Number.{Number}
+use Rattle.day_state.specs.declared.numbers.BundleNumber.{BundleNumber}
 use Rattle.day_state.specs.Kept.{mark_in, wish_in, holds_one, holds_bed_in, recount, recount_some, has_seat_there}
 use Rattle.day_state.specs.Kept.{has_bed_there, state_of}
 use Rattle.day_state.specs.Bundles.{site_of, is_same, number_in, bundles_of, is_shared, number_of, number_at, count_of}
-use Rattle.day_state.specs.Bundles.{has_live, AreLiveCounts, IsBundled, KeepsCounts}
+use Rattle.day_state.specs.Bundles.{has_live, seat_bundle, AreLiveCounts, IsBundled, KeepsCounts}
 use Rattle.day_state.proofs.Bundled.{counts_in, number_is, bundled_more}
 use Rattle.day_state.proofs.Numbering.{range_at, bundles_are}
 use Rattle.day_state.proofs.Sharing.{alone_first}
@@ -84,7 +84,7 @@ bundle_any ms bundles live k (Some b) are long lt is within =
     ]
 
 -- a bundle has a live wish where its candidate is live at its site
-has_live_is : (sites : Sites) (s : State) (numbers : List Number) (live : List ℕ) (k : ℕ)
+has_live_is : (sites : Sites) (s : State) (numbers : List BundleNumber) (live : List ℕ) (k : ℕ)
     → length s.marks ≡ length s.dossier.wishes → k < length s.marks
     → IsBundled sites s numbers live
     → let w = wish_in s.dossier.wishes k in
@@ -113,10 +113,20 @@ has_live_is sites s numbers live k long lt bundled =
     ∙ sym (any-map holds (entry_in s) (range_with_len 0 (length ws)))
     ∙ ap (list_any holds) (sym (entries_by_place s long))
 
-pub has_seat_is : {s : State} {numbers : List Number} {live : List ℕ} {k : ℕ}
+pub has_seat_is : {s : State} {numbers : List BundleNumber} {live : List ℕ} {k : ℕ}
     → IsBundled Programmes s numbers live → length s.marks ≡ length s.dossier.wishes → k < length s.marks
     → has_live live (number_at numbers k) (is_live (mark_in s.marks k)) ≡ has_seat_there s k
 has_seat_is {s} {numbers} {live} {k} bundled long lt = has_live_is Programmes s numbers live k long lt bundled
+
+-- so the number alone tells it where the wish is not live
+pub seat_beside : {s : State} {numbers : List BundleNumber} {live : List ℕ} {k : ℕ}
+    → IsBundled Programmes s numbers live → length s.marks ≡ length s.dossier.wishes → k < length s.marks
+    → (n : BundleNumber) → n ≡ seat_bundle s.dossier k → is_live (mark_in s.marks k) ≡ false
+    → has_live live n false ≡ has_seat_there s k
+seat_beside {s} {numbers} {live} {k} bundled long lt n is none =
+    ap (λ m. has_live live m false) (is ∙ ap (λ (ns : List BundleNumber). number_at ns k) (sym bundled.numbered))
+    ∙ ap (has_live live (number_at numbers k)) (sym none)
+    ∙ has_seat_is bundled long lt
 
 -- a live wish at the site of another one, where that may have none
 in_its_school : (s : State) (c : ℕ) (o : Option ℕ) → holds_one (λ v. is_same o v.school) s c ≡ holds_bed_in s c o
@@ -125,7 +135,7 @@ in_its_school s c None =
     (λ e. and_right (is_live e.1 && (e.0.candidate == c)) false refl) (entries s)
 in_its_school s c (Some h) = refl
 
-pub has_bed_is : {s : State} {numbers : List Number} {live : List ℕ} {k : ℕ}
+pub has_bed_is : {s : State} {numbers : List BundleNumber} {live : List ℕ} {k : ℕ}
     → IsBundled Schools s numbers live → length s.marks ≡ length s.dossier.wishes → k < length s.marks
     → has_live live (number_at numbers k) (is_live (mark_in s.marks k)) ≡ has_bed_there s k
 has_bed_is {s} {numbers} {live} {k} bundled long lt =
@@ -133,14 +143,14 @@ has_bed_is {s} {numbers} {live} {k} bundled long lt =
     has_live_is Schools s numbers live k long lt bundled ∙ in_its_school s w.candidate w.school
 
 -- what the counts of a bundle tell of its candidate in a state
-abbrev Tells : Sites → (State → ℕ → Bool) → List Number → ℕ → Type 0
+abbrev Tells : Sites → (State → ℕ → Bool) → List BundleNumber → ℕ → Type 0
 Tells sites there numbers k =
     (s : State) (live : List ℕ) → length s.marks ≡ length s.dossier.wishes → k < length s.marks
     → IsBundled sites s numbers live
     → has_live live (number_at numbers k) (is_live (mark_in s.marks k)) ≡ there s k
 
 -- a turn of a bundle tells whether its candidate was live there, and is
-turned : (sites : Sites) (there : State → ℕ → Bool) (s : State) (numbers : List Number) (live : List ℕ) (k : ℕ)
+turned : (sites : Sites) (there : State → ℕ → Bool) (s : State) (numbers : List BundleNumber) (live : List ℕ) (k : ℕ)
     (m : Mark) (was lives had has : Bool) (after : List ℕ)
     → Tells sites there numbers k → length s.marks ≡ length s.dossier.wishes → k < length s.marks
     → IsBundled sites s numbers live
@@ -162,9 +172,9 @@ turned sites there s numbers live k m was lives had has after tells long lt bund
     )
 
 -- where all counts are kept, and the mark of a wish becomes m
-module _ {d : DossierRows} {marks : List Mark} {seats beds : List ℕ} {of_programmes : List Number}
+module _ {d : DossierRows} {marks : List Mark} {seats beds : List ℕ} {of_programmes : List BundleNumber}
     {in_programmes : List ℕ}
-    {of_schools : List Number} {in_schools : List ℕ}
+    {of_schools : List BundleNumber} {in_schools : List ℕ}
     (keeps : KeepsCounts (state_of d marks) seats beds of_programmes in_programmes of_schools in_schools)
     {wish : ℕ} (lt : wish < length marks) (m : Mark) where
   -- all counts are right after the change

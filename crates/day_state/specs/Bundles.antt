@@ -5,12 +5,13 @@ use Rattle.std.specs.Option.{ForSome}
 use Rattle.std.specs.List.{find, list_any, range_with_len}
 use Rattle.admit_core.specs.declared.dossier.Wish.{Wish}
 use Rattle.admit_core.specs.declared.state.Mark.{Mark}
+use Rattle.admit_core.specs.DossierRows.{DossierRows}
 use Rattle.admit_core.specs.State.{State, is_live, is_school}
 use Rattle.day_state.specs.declared.bundle_numbers.Later.{Later}
 use Rattle.day_state.specs.declared.bundles.Sites.{Sites}
 use Rattle.day_state.specs.declared.bundles.Sites.TheVariants.{Programmes, Schools}
-use Rattle.day_state.specs.declared.numbers.Number.{Number}
-use Rattle.day_state.specs.declared.numbers.Number.TheVariants.{NoSite, Alone, Shared}
+use Rattle.day_state.specs.declared.numbers.BundleNumber.{BundleNumber}
+use Rattle.day_state.specs.declared.numbers.BundleNumber.TheVariants.{NoSite, Alone, Shared}
 use Rattle.day_state.specs.Kept.{mark_in, wish_in, IsKept}
 
 -- the programme of a wish, or its school
@@ -65,15 +66,23 @@ abbrev pub rank_of : List (Option ℕ) → ℕ → ℕ
 rank_of bundles b = true_before (shared_flags bundles) b
 
 -- what is noted of a wish's bundle
-abbrev pub number_of : List (Option ℕ) → Option ℕ → Number
+abbrev pub number_of : List (Option ℕ) → Option ℕ → BundleNumber
 number_of bundles None = NoSite
 number_of bundles (Some b) = if is_shared bundles b then Shared (rank_of bundles b) else Alone
 
-abbrev pub numbers_by : List (Option ℕ) → List Number
+abbrev pub numbers_by : List (Option ℕ) → List BundleNumber
 numbers_by bundles = map (number_of bundles) bundles
 
-abbrev pub all_numbers : Sites → List Wish → List Number
+abbrev pub all_numbers : Sites → List Wish → List BundleNumber
 all_numbers sites ws = numbers_by (bundles_of sites ws)
+
+-- the number at a place
+abbrev pub number_at : List BundleNumber → ℕ → BundleNumber
+number_at ns k = unwrap_or (slice_get ns k) NoSite
+
+-- the number of the bundle of the wish at a place in its programme
+abbrev pub seat_bundle : DossierRows → ℕ → BundleNumber
+seat_bundle d k = number_at (all_numbers Programmes d.wishes) k
 
 -- how many bundles have two wishes or more
 abbrev pub shared_by : List (Option ℕ) → ℕ
@@ -83,21 +92,17 @@ abbrev pub shared_in_all : Sites → List Wish → ℕ
 shared_in_all sites ws = shared_by (bundles_of sites ws)
 
 -- what a packed number stands for
-abbrev pub unpacked : ℕ → Number
+abbrev pub unpacked : ℕ → BundleNumber
 unpacked n = if n == 4294967295 then NoSite else if n == 4294967294 then Alone else Shared n
 
--- the number at a place
-abbrev pub number_at : List Number → ℕ → Number
-number_at ns k = unwrap_or (slice_get ns k) NoSite
-
 -- the number of a bundle that has one
-abbrev pub count_of : Number → Option ℕ
+abbrev pub count_of : BundleNumber → Option ℕ
 count_of NoSite = None
 count_of Alone = None
 count_of (Shared n) = Some n
 
 -- the number of the bundle of the wish at a place, where it has one
-abbrev pub count_at : List Number → ℕ → Option ℕ
+abbrev pub count_at : List BundleNumber → ℕ → Option ℕ
 count_at ns k = count_of (number_at ns k)
 
 -- how many live wishes a bundle has
@@ -113,20 +118,20 @@ pub record AreLiveCounts (ms : List Mark) (bundles : List (Option ℕ)) (live : 
       → slice_index live (rank_of bundles b) ≡ live_in_bundle ms bundles b
 
 -- the bundles of a state's wishes, with their counts
-pub record IsBundled (sites : Sites) (s : State) (numbers : List Number)
+pub record IsBundled (sites : Sites) (s : State) (numbers : List BundleNumber)
     (live : List ℕ) : Type 0 where
   pub numbered : numbers ≡ all_numbers sites s.dossier.wishes
   pub counts : AreLiveCounts s.marks (bundles_of sites s.dossier.wishes) live
 
 -- all that is kept beside the marks: the numbers of candidates by site, and the bundles
-pub record KeepsCounts (s : State) (seats beds : List ℕ) (of_programmes : List Number)
-    (in_programmes : List ℕ) (of_schools : List Number) (in_schools : List ℕ) : Type 0 where
+pub record KeepsCounts (s : State) (seats beds : List ℕ) (of_programmes : List BundleNumber)
+    (in_programmes : List ℕ) (of_schools : List BundleNumber) (in_schools : List ℕ) : Type 0 where
   pub kept : IsKept s seats beds
   pub programmes : IsBundled Programmes s of_programmes in_programmes
   pub schools : IsBundled Schools s of_schools in_schools
 
 -- a bundle has a live wish; where it has no number, the wish's own mark tells it
-abbrev pub has_live : List ℕ → Number → Bool → Bool
+abbrev pub has_live : List ℕ → BundleNumber → Bool → Bool
 has_live live NoSite lives = false
 has_live live Alone lives = lives
 has_live live (Shared n) lives = nat_lt 0 (slice_index live n)
@@ -181,12 +186,12 @@ later_at k None = []
 later_at k (Some b) = if b == k then [] else record { wish = k; first = b } ∷ []
 
 -- the number of a bundle by its site, while none has a number of its own
-abbrev pub bare_number : Option ℕ → Number
+abbrev pub bare_number : Option ℕ → BundleNumber
 bare_number None = NoSite
 bare_number (Some site) = Alone
 
 -- the first wish of each bundle of two wishes or more has its number, and all others what they had
-pub record AreFirstsNumbered (bundles : List (Option ℕ)) (old new : List Number) : Type 0 where
+pub record AreFirstsNumbered (bundles : List (Option ℕ)) (old new : List BundleNumber) : Type 0 where
   pub long : length new ≡ length old
   pub each : (k : ℕ) → k < length bundles → number_at new k
       ≡ (if is_shared bundles k then Shared (rank_of bundles k) else number_at old k)

@@ -8,7 +8,7 @@ ghost use Rattle.day_state.specs.Kept.{IsIndex, wish_in};
 
 use crate::ahead::Ahead;
 use crate::bundles::Sites;
-use crate::numbers::{Number, Numbers};
+use crate::numbers::{BundleNumber, Numbers};
 use admit_core::{OutOfMemory, Wish};
 use std::alloc::Global;
 
@@ -204,12 +204,12 @@ pub fn shared_firsts(alloc: Global, laters: &[Later]) -> Result<Vec<u32>, OutOfM
 }
 
 /// What stands for a bundle by its site, while no bundle has a number.
-fn bare_number(site: Option<u32>) -> Number
+fn bare_number(site: Option<u32>) -> BundleNumber
     ensures { result ≡ bare_number site }
 {
     match site {
-        None => Number::NoSite,
-        Some(_) => Number::Alone,
+        None => BundleNumber::NoSite,
+        Some(_) => BundleNumber::Alone,
     }
 }
 
@@ -232,7 +232,7 @@ pub fn number_firsts(numbers: &mut Numbers, sites: Sites, wishes: &[Wish], share
     ensures { AreFirstsNumbered (bundles_of sites wishes.now) numbers.old numbers.new }
 {
     for (number, first) in shared.iter().enumerate() {
-        numbers.set(*first, Number::Shared(number as u32));
+        numbers.set(*first, BundleNumber::Shared(number as u32));
     }
 }
 

@@ -1,5 +1,5 @@
 //! Bundles: the wishes of one candidate in one programme, or in one school.
-ghost use Rattle.std.specs.Prelude.{◌≡◌, ◌<◌, ◌≤◌, ◌+◌, ◌^◌, length, slice_index, IfOk, replicate};
+ghost use Rattle.std.specs.Prelude.{◌≡◌, ◌<◌, ◌≤◌, ◌+◌, ◌^◌, false, length, nat_lt, slice_index, IfOk, replicate};
 ghost use Rattle.std.specs.Option.{ForSome};
 ghost use Rattle.day_state.specs.Bundles.{AreLaters, all_numbers, bundles_of, number_at, count_of, count_at, has_live, shared_in_all};
 ghost use Rattle.admit_core.specs.State.{is_live};
@@ -8,7 +8,7 @@ ghost use Rattle.day_state.specs.Kept.{mark_in, one_if, recount_some};
 use crate::bundle_numbers::{Later, bare_numbers, number_firsts, number_laters, shared_firsts};
 use crate::counts::{copy_counts, recount_some, zeros};
 use crate::marks::Marks;
-use crate::numbers::{Number, Numbers};
+use crate::numbers::{BundleNumber, Numbers};
 use admit_core::{OutOfMemory, Wish};
 use std::alloc::Global;
 use std::rc::Rc;
@@ -94,6 +94,24 @@ impl Bundles {
         has_live_by(&self.live, self.numbers.get(wish), marks, wish)
     }
 
+    /// The number of a wish's bundle.
+    pub fn number(&self, wish: u32) -> BundleNumber
+        requires { wish < length self.now.numbers.value }
+        ensures { result ≡ number_at self.now.numbers.value wish }
+    {
+        self.numbers.get(wish)
+    }
+
+    /// Whether a bundle has a live wish, by its number; a wish of it that is not live asks.
+    pub fn is_live_beside(&self, number: BundleNumber) -> bool
+        ensures { result ≡ has_live self.now.live.items number false }
+    {
+        match number {
+            BundleNumber::NoSite | BundleNumber::Alone => false,
+            BundleNumber::Shared(number) => is_counted(&self.live, number),
+        }
+    }
+
     /// Counts a wish anew that was live, or wasn't, and is live, or isn't.
     pub fn turn(&mut self, wish: u32, was_live: bool, lives: bool) -> Turn
         requires place { wish < length self.old.numbers.value }
@@ -119,27 +137,37 @@ impl Bundles {
     }
 }
 
+/// Whether the count at a place is not 0; past the end it is.
+fn is_counted(counts: &Vec<u32>, place: u32) -> bool
+    ensures { result ≡ nat_lt 0 (slice_index counts.now.items place) }
+{
+    match counts.as_slice().get(place as usize) {
+        None => false,
+        Some(count) => *count > 0,
+    }
+}
+
 /// Whether a bundle has a live wish. Where a wish is alone in it, the mark of that wish tells it.
-fn has_live_by(live: &Vec<u32>, number: Number, marks: &Marks, wish: u32) -> bool
+fn has_live_by(live: &Vec<u32>, number: BundleNumber, marks: &Marks, wish: u32) -> bool
     requires mark { wish < length marks.now }
     requires number { ForSome (count_of number) (λ n. n < length live.now.items) }
     ensures { result ≡ has_live live.now.items number (is_live (mark_in marks.now wish)) }
 {
     match number {
-        Number::NoSite => false,
-        Number::Alone => marks.is_live(wish),
-        Number::Shared(_) => has_live(live, number, false),
+        BundleNumber::NoSite => false,
+        BundleNumber::Alone => marks.is_live(wish),
+        BundleNumber::Shared(_) => has_live(live, number, false),
     }
 }
 
 /// Whether a bundle has a live wish; `lives` tells it of the wish that was asked about.
-fn has_live(live: &Vec<u32>, number: Number, lives: bool) -> bool
+fn has_live(live: &Vec<u32>, number: BundleNumber, lives: bool) -> bool
     requires { ForSome (count_of number) (λ n. n < length live.now.items) }
     ensures { result ≡ has_live live.now.items number lives }
 {
     match number {
-        Number::NoSite => false,
-        Number::Alone => lives,
-        Number::Shared(number) => live[number as usize] > 0,
+        BundleNumber::NoSite => false,
+        BundleNumber::Alone => lives,
+        BundleNumber::Shared(number) => live[number as usize] > 0,
     }
 }

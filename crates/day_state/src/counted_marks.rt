@@ -1,13 +1,14 @@
 //! The marks of a dossier's wishes, with the numbers of live candidates.
-ghost use Rattle.std.specs.Prelude.{◌≡◌, ◌<◌, ◌≤◌, ◌+◌, ◌-◌, ◌^◌, ◌==◌, ◌&&◌, length, slice_index, All, IfOk, replicate, option_map, map};
+ghost use Rattle.std.specs.Prelude.{◌≡◌, ℕ, ◌<◌, ◌≤◌, ◌+◌, ◌-◌, ◌^◌, ◌==◌, ◌&&◌, false, length, slice_index, All, IfOk, replicate, option_map, map};
 ghost use Rattle.std.specs.Option.{ForSome};
 ghost use Rattle.std.specs.List.{list_any};
-ghost use Rattle.admit_core.specs.State.{State, is_waiting, with_mark_at, has_school, holds_seat, holds_bed, seat_holders, bed_holders};
+ghost use Rattle.admit_core.specs.State.{State, is_live, is_waiting, with_mark_at, has_school, holds_seat, holds_bed, seat_holders, bed_holders};
 ghost use Rattle.admit_core.specs.DossierRows.{candidate_of};
 ghost use Rattle.admit_core.specs.OwnWishes.{own_places};
 ghost use Rattle.admit_core.specs.AutoAnswer.{auto_one, best_live, freed_by};
 ghost use Rattle.day_state.specs.Along.{change_own, changed_by};
 ghost use Rattle.day_state.specs.Best.{best_among};
+ghost use Rattle.day_state.specs.Bundles.{seat_bundle};
 ghost use Rattle.day_state.specs.Kept.{mark_in, lives_at, has_seat_there, has_bed_there, waiting_mark, state_of, IsIndex};
 
 use crate::bundle_numbers::laters_of;
@@ -18,6 +19,7 @@ use crate::mark::{
     lives_in_school, lost, wish_at,
 };
 use crate::marks::Marks;
+use crate::numbers::BundleNumber;
 use admit_core::{Dossier, Freed, Mark, OutOfMemory, Stamp, Wish};
 use std::alloc::Global;
 use std::marker::Model;
@@ -190,6 +192,23 @@ impl<'d> CountedMarks<'d> {
         ensures { result ≡ has_bed_there self.now wish }
     {
         self.in_schools.is_live(wish, &self.marks)
+    }
+
+    /// The number of a wish's bundle in its programme.
+    pub fn seat_bundle(&self, wish: u32) -> BundleNumber
+        requires { wish < length self.now.marks }
+        ensures { result ≡ seat_bundle self.now.dossier wish }
+    {
+        self.in_programmes.number(wish)
+    }
+
+    /// Whether the candidate of a wish that is not live is live in its programme, by the number of
+    /// the wish's bundle there.
+    pub fn is_live_beside(&self, bundle: BundleNumber) -> bool
+        ensures { (k : ℕ) → k < length self.now.marks → bundle ≡ seat_bundle self.now.dossier k
+            → is_live (mark_in self.now.marks k) ≡ false → result ≡ has_seat_there self.now k }
+    {
+        self.in_programmes.is_live_beside(bundle)
     }
 
     /// The preference number of a candidate's best live wish, where they rank their wishes, whose

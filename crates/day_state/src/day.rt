@@ -1,5 +1,5 @@
 //! The state of a dossier's wishes on a day.
-ghost use Rattle.std.specs.Prelude.{◌≡◌, ◌<◌, ◌≤◌, ◌^◌, length, map, ◌↔◌, IfOk, IsOk, IsTrue, ◌&&◌, All, pos, slice_index_or};
+ghost use Rattle.std.specs.Prelude.{◌≡◌, ℕ, ◌<◌, ◌≤◌, ◌^◌, false, length, map, ◌↔◌, IfOk, IsOk, IsTrue, ◌&&◌, All, pos, slice_index_or};
 ghost use Rattle.admit_core.specs.declared.state.Status.TheVariants.{Offered, Accepted};
 ghost use Rattle.admit_core.specs.declared.dossier.AnswerKind.TheVariants.{Accept, Quit};
 ghost use Rattle.admit_core.specs.State.{State, with_mark_at, holds_seat, holds_bed, seat_holders, bed_holders, is_live, is_waiting, changed_to};
@@ -10,7 +10,8 @@ ghost use Rattle.admit_core.specs.Days.{first_evening};
 ghost use Rattle.admit_core.specs.Validity.{IsTarget};
 ghost use Rattle.admit_core.specs.Lapses.{lapse};
 ghost use Rattle.admit_core.specs.AutoAnswer.{auto_one, freed_by};
-ghost use Rattle.day_state.specs.Kept.{mark_in, wish_in, holds_bed_in, IsIndex};
+ghost use Rattle.day_state.specs.Bundles.{seat_bundle};
+ghost use Rattle.day_state.specs.Kept.{mark_in, wish_in, has_seat_there, holds_bed_in, IsIndex};
 ghost use Rattle.day_state.specs.Along.{change_along};
 ghost use Rattle.day_state.specs.Lapsing.{lapsed};
 ghost use Rattle.day_state.specs.Laws.{AreOwn, OwnFit};
@@ -21,6 +22,7 @@ use crate::index::{CandidateIndex, candidate_at};
 use crate::mark::{OwnChange, changed_to, first_mark, kind_fits, lapses};
 use crate::marked::MarkedWishes;
 use crate::marks::Marks;
+use crate::numbers::BundleNumber;
 use admit_core::{Answer, AnswerKind, Dossier, Freed, OutOfMemory, Stamp, Status, Terms};
 use std::alloc::Global;
 use std::marker::Model;
@@ -227,6 +229,27 @@ impl<'d> DayState<'d> {
             (wish_in self.now.dossier.wishes wish).school }
     {
         self.live.is_live_in_its_school(wish)
+    }
+
+    /// The number of a wish's bundle in its programme: its candidate's wishes there. It follows from
+    /// the dossier alone, so it may be kept and asked about in any of its states.
+    pub fn seat_bundle(&self, wish: u32) -> BundleNumber
+        requires { wish < length self.now.dossier.wishes }
+        ensures { result ≡ seat_bundle self.now.dossier wish }
+    {
+        let _ = &self.live; // learns the invariant
+        self.live.seat_bundle(wish)
+    }
+
+    /// Whether the candidate of a wish that is not live is live in its programme, by the number of
+    /// the wish's bundle there. Nothing is read by wish.
+    pub fn is_live_beside(&self, bundle: BundleNumber) -> bool
+        ensures { (k : ℕ) → k < length self.now.dossier.wishes
+            → bundle ≡ seat_bundle self.now.dossier k
+            → is_live (mark_in self.now.marks k) ≡ false → result ≡ has_seat_there self.now k }
+    {
+        let _ = &self.live; // learns the invariant
+        self.live.is_live_beside(bundle)
     }
 
     /// Gives a wish a status. Its stamp stays where it has that status already.

@@ -16,20 +16,20 @@ const ALONE: u32 = 4_294_967_294;
 /// The bundle of a wish: none without a site, the wish alone, or one of more wishes, with its
 /// number.
 #[derive(Clone, Copy)]
-pub enum Number {
+pub enum BundleNumber {
     NoSite,
     Alone,
     Shared(u32),
 }
 
-impl Number {
+impl BundleNumber {
     /// The number of a bundle of two wishes or more.
     pub fn count(self) -> Option<u32>
         ensures { result ≡ count_of self }
     {
         match self {
-            Number::NoSite | Number::Alone => None,
-            Number::Shared(number) => Some(number),
+            BundleNumber::NoSite | BundleNumber::Alone => None,
+            BundleNumber::Shared(number) => Some(number),
         }
     }
 }
@@ -42,10 +42,10 @@ pub struct Numbers {
 
 impl Model for Numbers {
     ghost use Rattle.std.specs.Prelude.{List, map};
-    ghost use Rattle.day_state.specs.declared.numbers.Number.{Number};
+    ghost use Rattle.day_state.specs.declared.numbers.BundleNumber.{BundleNumber};
     ghost use Rattle.day_state.specs.Bundles.{unpacked};
 
-    ghost Value = { List Number };
+    ghost Value = { List BundleNumber };
 
     ghost view = { λ n. map unpacked n.packed.items };
 }
@@ -60,7 +60,7 @@ impl Numbers {
     }
 
     /// The number of a wish.
-    pub fn get(&self, wish: u32) -> Number
+    pub fn get(&self, wish: u32) -> BundleNumber
         requires { wish < length self.now }
         ensures { result ≡ number_at self.now wish }
     {
@@ -68,7 +68,7 @@ impl Numbers {
     }
 
     /// Gives a wish another number.
-    pub fn set(&mut self, wish: u32, number: Number)
+    pub fn set(&mut self, wish: u32, number: BundleNumber)
         requires place { wish < length self.old }
         requires number { ForSome (count_of number) (λ n. n < 4294967294) }
         ensures { self.new ≡ slice_set self.old wish number }
@@ -77,7 +77,7 @@ impl Numbers {
     }
 
     /// Gives the next wish its number.
-    pub fn push(&mut self, number: Number) -> Result<(), OutOfMemory>
+    pub fn push(&mut self, number: BundleNumber) -> Result<(), OutOfMemory>
         requires { ForSome (count_of number) (λ n. n < 4294967294) }
         ensures { OnOk result (self.new ≡ self.old ++ number ∷ []) }
     {
@@ -87,24 +87,24 @@ impl Numbers {
 }
 
 /// What stands for a number.
-fn packed(number: Number) -> u32
+fn packed(number: BundleNumber) -> u32
     requires { ForSome (count_of number) (λ n. n < 4294967294) }
     ensures { unpacked result ≡ number }
 {
     match number {
-        Number::NoSite => NO_SITE,
-        Number::Alone => ALONE,
-        Number::Shared(number) => number,
+        BundleNumber::NoSite => NO_SITE,
+        BundleNumber::Alone => ALONE,
+        BundleNumber::Shared(number) => number,
     }
 }
 
 /// The number that is stood for.
-fn unpacked(packed: u32) -> Number
+fn unpacked(packed: u32) -> BundleNumber
     ensures { result ≡ unpacked packed }
 {
     match packed {
-        NO_SITE => Number::NoSite,
-        ALONE => Number::Alone,
-        number => Number::Shared(number),
+        NO_SITE => BundleNumber::NoSite,
+        ALONE => BundleNumber::Alone,
+        number => BundleNumber::Shared(number),
     }
 }
