@@ -15,6 +15,7 @@ use Rattle.admit_core.specs.Lists.{is_among}
 use Rattle.admit_core.specs.State.{is_school}
 use Rattle.day_state.proofs.Along.{among-filter}
 use Rattle.day_state.proofs.Ordering.{stable_own}
+use Rattle.day_state.specs.declared.numbers.BundleNumber.TheVariants.{NoSite}
 use Rattle.linked_demand.specs.declared.boarders.Boarder.{Boarder}
 use Rattle.linked_demand.specs.declared.rows.RowWish.{RowWish}
 use Rattle.linked_demand.specs.Boarders.{boards_in, rank_at, wishes_of, AreBoarders, AreByPlace, AreByRank, IsBoarder}
@@ -45,7 +46,7 @@ all_by_rank d places by_rank k lt =
     ∙ among-filter (boards_at d) k (length d.wishes) lt
 
 abbrev no_boarder : Boarder
-no_boarder = record { wish = 0; school = 0; rank = 0; programme = 0; shared = false }
+no_boarder = record { wish = 0; school = 0; rank = 0; programme = 0; bundle = NoSite; shared = false }
 
 pub places_within : (d : DossierRows) (bs : List Boarder) → All (IsBoarder d) bs
     → All (λ k. k < length d.wishes) (wishes_of bs)

@@ -15,6 +15,7 @@ use Rattle.admit_core.specs.Proposals.{demanded_ranks}
 use Rattle.admit_core.proofs.Tests.{Ascends, same_members, ascends_ascending}
 use Rattle.admit_core.proofs.DemandLaws.{demanded}
 use Rattle.admit_core.proofs.Plain.{same_test}
+use Rattle.day_state.specs.declared.numbers.BundleNumber.TheVariants.{NoSite}
 use Rattle.linked_demand.specs.declared.rows.RowWish.{RowWish}
 use Rattle.linked_demand.specs.Links.{LinksRow, WaitsAt}
 use Rattle.linked_demand.specs.Opens.{opens_of}
@@ -161,9 +162,9 @@ module _ (l : LinksRow) (bars : List ℕ) (h : ℕ) (row : List RowWish) (right 
         wish = k;
         programme = 0;
         place = 0;
+        bundle = NoSite;
         shared = false;
         called_by_limit = false;
-        doubled = false;
       } in
       let low = open_below l.state bars w m w.school h inner.0 middle.1 opens in
       let (j, y, found, rank, wish) = right.all x w m

@@ -12,6 +12,7 @@ use Rattle.admit_core.specs.declared.dossier.Wish.{Wish}
 use Rattle.admit_core.specs.declared.state.Mark.{Mark}
 use Rattle.admit_core.specs.State.{State, entries, is_waiting, holds_bed, has_school, is_school}
 use Rattle.admit_core.specs.Proposals.{is_open, is_behind_bar}
+use Rattle.day_state.specs.declared.numbers.BundleNumber.TheVariants.{NoSite}
 use Rattle.linked_demand.specs.declared.rows.RowWish.{RowWish}
 use Rattle.linked_demand.specs.Opens.{opens_of, is_past}
 use Rattle.linked_demand.specs.Rows.{IsRow, closed, CutsAt}
@@ -158,9 +159,9 @@ module _ (s : State) (bars : List ℕ) (h to : ℕ) (row kept : List RowWish) (a
         wish = i;
         programme = 0;
         place = 0;
+        bundle = NoSite;
         shared = false;
         called_by_limit = false;
-        doubled = false;
       } in
       let (k, y, found, rank, wish) = right.all x w m
       (record {

@@ -14,7 +14,7 @@ use Rattle.admit_core.specs.State.{State}
 use Rattle.linked_demand.specs.declared.rows.RowWish.{RowWish}
 use Rattle.linked_demand.specs.Boarders.{boards_in, rank_at, AreBySchool}
 use Rattle.linked_demand.specs.Rows.{item_at, row_in, rows_to, AreByRankEach, AreEnds, AreFirst, AreOpenFirst}
-use Rattle.linked_demand.specs.Rows.{CanBeCut, IsFront, IsItem, RanksRise, StayOpen}
+use Rattle.linked_demand.specs.Rows.{CanBeCut, IsFront, IsItem, RanksRise, StayOpen, TellsOfSchool}
 use Rattle.linked_demand.specs.Links.{LinksRow}
 use Rattle.linked_demand.specs.Rounds.{IsRound}
 use Rattle.linked_demand.proofs.Falling.{in_front}
@@ -54,10 +54,11 @@ module _ (d : DossierRows) (orders : List CallOrder) (boarders : List (Vec RowWi
       }
 
   -- all boarders of a school
-  pub own_within : (h : ℕ) (own : Vec RowWish Global) → slice_get boarders h ≡ Some own
-      → All (λ x. x.wish < length d.wishes) own.items
-  own_within h own found k e lt =
-      (item_right h own found k (get_or own.items k e) (slice_get-get_or own.items k e lt)).within
+  pub own_tell : (h : ℕ) (own : Vec RowWish Global) → slice_get boarders h ≡ Some own
+      → All (TellsOfSchool d) own.items
+  own_tell h own found k e lt =
+      let right = item_right h own found k (get_or own.items k e) (slice_get-get_or own.items k e lt) in
+      record { within = right.within; shared = ap (λ (x : RowWish). x.shared) right.item }
 
   module _ (ends : List ℕ) (h : ℕ) (front : List RowWish) (first : AreFirst boarders ends h front) where
     in_own : (k : ℕ) (x : RowWish) → slice_get front k ≡ Some x → slice_get first.own.items k ≡ Some x

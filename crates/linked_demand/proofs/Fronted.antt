@@ -33,7 +33,7 @@ closed_both false false sure false t = refl
 closed_both listed true sure reached t = absurd (false≢true (sym t))
 
 -- no place past a range is one of it
-none_past : (q : ℕ → Bool) (k a n : ℕ) → a + n ≤ k → is_among k (filter q (range_with_len a n)) ≡ false
+pub none_past : (q : ℕ → Bool) (k a n : ℕ) → a + n ≤ k → is_among k (filter q (range_with_len a n)) ≡ false
 none_past q k a zero le = refl
 none_past q k a (suc n) le =
     let later = none_past q k (a + 1) n (omega (arith, le)) in

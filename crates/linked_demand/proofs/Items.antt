@@ -12,8 +12,9 @@ use Rattle.admit_core.specs.declared.dossier.Wish.{Wish}
 use Rattle.admit_core.specs.declared.state.Mark.{Mark}
 use Rattle.admit_core.specs.declared.ranking.CallOrder.{CallOrder}
 use Rattle.admit_core.specs.DossierRows.{DossierRows}
-use Rattle.admit_core.specs.State.{State, holds_seat}
-use Rattle.day_state.specs.Kept.{has_seat_there, wish_in}
+use Rattle.admit_core.specs.State.{State, holds_seat, is_live}
+use Rattle.day_state.specs.Bundles.{seat_bundle}
+use Rattle.day_state.specs.Kept.{has_seat_there, mark_in, wish_in}
 use Rattle.linked_demand.specs.declared.boarders.Boarder.{Boarder}
 use Rattle.linked_demand.specs.declared.rows.RowWish.{RowWish}
 use Rattle.linked_demand.specs.Boarders.{IsBoarder}
@@ -22,13 +23,13 @@ use Rattle.linked_demand.specs.Line.{LineRow, is_reached}
 use Rattle.linked_demand.specs.Links.{IsLinked, IsPlaceOf, IsSeatPlace, LinksRow, WaitsAt}
 use Rattle.linked_demand.specs.Opens.{line_of}
 use Rattle.linked_demand.specs.Rows.{item_at, line_place, row_item}
-use Rattle.linked_demand.specs.Seats.{is_called_by_limit, is_doubled}
+use Rattle.linked_demand.specs.Seats.{is_called_by_limit}
 use Rattle.linked_demand.specs.Wants.{IsReached, stops_wanting, wants_with}
 use Rattle.linked_demand.proofs.Closing.{Closes, claim_right, closes_read, proposed_at_is, proposed_right, wish_of}
 use Rattle.linked_demand.proofs.Closing.{wish_there, wish_within}
 use Rattle.linked_demand.proofs.Leaving.{Reads}
 use Rattle.linked_demand.proofs.Ticking.{claim_fits}
-use Rattle.linked_demand.proofs.Waiting.{no_seat, single_seat}
+use Rattle.linked_demand.proofs.Waiting.{not_live}
 
 -- the one place of a number is that of its first one
 pub place_is : (c : ℕ) (xs : List ℕ) (k : ℕ) → IsPlaceOf c xs k → position_or_len (nat_eq c) xs ≡ k
@@ -45,19 +46,18 @@ wish_of_item d x = record (wish_in d.wishes x.wish) { programme = x.programme }
 pub item_made : (d : DossierRows) (orders : List CallOrder) (places : List ℕ)
     → ((i : ℕ) (w : Wish) → slice_get d.wishes i ≡ Some w → IsSeatPlace d orders w (slice_index places i))
     → (b : Boarder) → IsBoarder d b → (place : ℕ) → place ≡ slice_index places b.wish
-    → (called doubled : Bool) → called ≡ is_called_by_limit d orders (wish_in d.wishes b.wish)
-    → doubled ≡ is_doubled d b.wish
+    → (called : Bool) → called ≡ is_called_by_limit d orders (wish_in d.wishes b.wish)
     → record {
       rank = b.rank;
       wish = b.wish;
       programme = b.programme;
       place = place;
+      bundle = b.bundle;
       shared = b.shared;
       called_by_limit = called;
-      doubled = doubled;
     }
     ≡ item_at d orders b.wish
-item_made d orders places places_are b right place read called doubled called_is doubled_is =
+item_made d orders places places_are b right place read called called_is =
     let w = wish_in d.wishes b.wish in
     let at = wish_there d.wishes b.wish w right.within refl in
     let place_now : place ≡ line_place d orders w =
@@ -69,9 +69,9 @@ item_made d orders places places_are b right place read called doubled called_is
       wish = b.wish;
       programme = right.programme i;
       place = place_now i;
+      bundle = right.bundle i;
       shared = right.shared i;
       called_by_limit = called_is i;
-      doubled = doubled_is i;
     }
 
 module _ {s : State} {orders : List CallOrder} {opens : List Bool} {lines : List LineRow}
@@ -116,20 +116,15 @@ module _ {s : State} {orders : List CallOrder} {opens : List Bool} {lines : List
         let right = claim_right closes_item x.place item_stands all all_read claim claim_read in
         claim_fits closes_item _ _ claim right (length s.dossier.wishes) refl
 
-    -- where that is of one wish, the candidate is not live in the programme
-    pub item_single : (all : List (List ℕ)) → all ≡ get_or claims x.programme all → (claim : List ℕ)
-        → claim ≡ get_or all x.place [] → length claim ≡ 1 → has_seat_there s x.wish ≡ false
-    item_single all all_read claim claim_read =
+    -- its wish is not live
+    pub item_waits : is_live (mark_in s.marks x.wish) ≡ false
+    item_waits =
         let k = closes_item in
-        let right = claim_right k x.place item_stands all all_read claim claim_read in
-        single_seat s links.marks_each x.wish (wish_of_item s.dossier x) k.mark k.at claim right
+        not_live s x.wish (wish_of_item s.dossier x) k.mark k.at
 
-    -- where it says that its candidate has no other wish in the programme, they are not live there
-    pub item_alone : x.doubled ≡ false → has_seat_there s x.wish ≡ false
-    item_alone none =
-        let k = closes_item in
-        no_seat s links.marks_each x.wish (wish_of_item s.dossier x) k.mark k.at
-        (sym (ap (λ (y : RowWish). y.doubled) item_here) ∙ none)
+    -- it names the bundle of its wish
+    pub item_bundle : x.bundle ≡ seat_bundle s.dossier x.wish
+    item_bundle = ap (λ (y : RowWish). y.bundle) item_here
 
     -- it tells who needs no seat
     pub item_sure : (x.called_by_limit || has_seat_there s x.wish) ≡ get_or sure x.wish false

@@ -1,9 +1,8 @@
 -- Reading order. Each file says in its first line what it shows.
 -- Tools: Keeping, Passing, Keyed, Dealing, Putting, PlaceOrder, Marked, Counting.
 -- The lineup: CalledRows, ClaimSpans, Lining, Doubled, Seating, Lined.
--- Open wishes and flags: Opens, Falling, Closing, Flagging, Waiting, AnyOpen, MayNeedNoSeat,
--- Boarding, Shutting.
--- How far seats reach: Reach, Leaving; the proposed wishes: Walking, Fronting, Listing, Fronted.
+-- Open wishes and flags: Opens, Falling, Closing, Flagging, Waiting, AnyOpen, Boarding, Shutting.
+-- How far seats reach: Reach, Leaving; the proposed wishes: Walking, Fronting, Listing, Fronted, MayNeedNoSeat.
 -- Rows of the schools: RowsTo, RowsRight, FirstBoarders, Items, RowSteps, RowFronts, Demanded, Naming.
 -- A wish is closed: Moving, Ticking, Marking, Staying; the end of a row falls: Cutting, Telling.
 -- A bar falls: OneFall, Answered, RoundFalls, TickLaw, Spending.

@@ -6,8 +6,8 @@ use Rattle.std.proofs.Common.{Some, None, zero-add}
 use Rattle.std.specs.Prelude.{is_some}
 use Rattle.std.specs.List.{range_with_len}
 use Rattle.std.proofs.lemmas.Bool.{cases_Bool, cases_eq, cases_lt, eq-eqb, eqb-false, eqb-true, le-leb, le-ltb, lt-leb}
-use Rattle.std.proofs.lemmas.Bool.{lt-ltb, ne_eqb}
-use Rattle.std.proofs.lemmas.List.{ext_get_or, get_or-map, get_or-set_other, get_or-set_same, length-map}
+use Rattle.std.proofs.lemmas.Bool.{and_parts, false≢true, lt-ltb, ne_eqb}
+use Rattle.std.proofs.lemmas.List.{ext_get_or, get_or_past, get_or-map, get_or-set_other, get_or-set_same, length-map}
 use Rattle.std.proofs.lemmas.List.FromFn.{get_or-map-range_with_len, length-map-range_with_len}
 use Rattle.std.proofs.lemmas.Option.{unwrap_or-slice_get}
 use Rattle.admit_core.proofs.Plain.{or_false}
@@ -48,6 +48,22 @@ pub record AreShut (s : State) (bars : List ℕ) (n : ℕ) (flags : List Bool) :
 none_first : (school : Option ℕ) → is_first 0 school ≡ false
 none_first None = refl
 none_first (Some h) = le-ltb h 0 (omega arith)
+
+-- what is open then waits
+pub shut_waits : (s : State) (bars : List ℕ) (n : ℕ) (flags : List Bool) → AreShut s bars n flags
+    → (k : ℕ) → get_or flags k false ≡ true → is_waiting (mark_in s.marks k) ≡ true
+shut_waits s bars n flags shut k opened =
+    elim (cases_lt k (length flags)) [
+      | inl lt ↦ (and_parts (is_waiting (mark_in s.marks k)) _
+          (sym (shut.each k (omega (arith, lt, shut.as_long))) ∙ opened)).0
+      | inr past ↦ absurd (false≢true (sym (get_or_past flags k false past) ∙ opened))
+    ]
+
+-- whether there is a bed is asked only where a wish is open
+pub asked_open : (flag asked has : Bool) → (flag ≡ true → asked ≡ has)
+    → (flag && not (not asked)) ≡ (flag && not (not has))
+asked_open true asked has same = ap (λ b. not (not b)) (same refl)
+asked_open false asked has same = refl
 
 unasked : (a b c : Bool) → b ≡ false → a ≡ (a && not (b && c))
 unasked true b c none = rw none refl

@@ -69,6 +69,12 @@ none_lives test d ms k not_live (x ∷ xs) none =
     or_from (is_live (mark_in ms x) && own) (list_any (lives_at d.wishes ms test) xs) first
     (none_lives test d ms k not_live xs parts.1)
 
+-- a wish that waits is not live
+pub not_live : (s : State) (k : ℕ) (w : Wish) (m : Mark) → WaitsAt s k w m → is_live (mark_in s.marks k) ≡ false
+not_live s k w m at =
+    let mark = (entry_is s.dossier.wishes s.marks k w m at.here).1 in
+    waiting_is_not_live (mark_in s.marks k).status (ap is_waiting mark ∙ at.waits)
+
 module _ (s : State) (long : length s.marks ≡ length s.dossier.wishes) (k : ℕ) where
   abbrev d : DossierRows
   d = s.dossier
@@ -82,12 +88,10 @@ module _ (s : State) (long : length s.marks ≡ length s.dossier.wishes) (k : �
   -- a wish that waits is not live in its programme where no other one is of it
   pub no_seat : (w : Wish) (m : Mark) → WaitsAt s k w m → is_doubled s.dossier k ≡ false → has_seat_there s k ≡ false
   no_seat w m at single =
-      let mark = (entry_is d.wishes s.marks k w m at.here).1 in
-      let not_live = waits_not_live (ap is_waiting mark ∙ at.waits) in
       let own = λ (w : Wish). w.programme == mine.programme in
       ap (λ (c : ℕ). holds_seat s c mine.programme) (sym (candidate_is d.wishes k))
       ∙ sym (own_any own s (candidate_of d k) long)
-      ∙ none_lives own d s.marks k not_live (own_places d (candidate_of d k)) single
+      ∙ none_lives own d s.marks k (not_live s k w m at) (own_places d (candidate_of d k)) single
 
   -- nor in its school where no other one can have it
   pub no_bed : is_waiting (mark_in s.marks k) ≡ true → may_share_school s.dossier k ≡ false → has_bed_there s k ≡ false
@@ -225,24 +229,3 @@ closed_wait s opens i waits k opened =
           | inl within ↦ get_or-set_same opens i false false within
           | inr past ↦ get_or_past (set opens i false) i false (omega (arith, past, length-set opens i false))
         ]
-
-only_one : (k : ℕ) (xs : List ℕ) → length xs ≡ 1 → is_among k xs ≡ true → xs ≡ k ∷ []
-only_one k [] one among = absurd (omega (arith, one))
-only_one k (x ∷ []) one among =
-    ap (λ (j : ℕ). j ∷ []) (sym (eqb-true k x (sym (or-false (nat_eq k x)) ∙ among)))
-only_one k (x ∷ y ∷ xs) one among = absurd (omega (arith, one))
-
--- a wish that waits and is a claim by itself is not live in its programme
-pub single_seat : (s : State) → length s.marks ≡ length s.dossier.wishes → (k : ℕ) (w : Wish) (m : Mark)
-    → WaitsAt s k w m → (claim : List ℕ) → claim ≡ claim_of s.dossier w.programme w.candidate → length claim ≡ 1
-    → has_seat_there s k ≡ false
-single_seat s long k w m at claim claim_is one =
-    let d = s.dossier in
-    let p = w.programme in
-    let c = w.candidate in
-    let here = wish_of d.wishes s.marks k w m at.here in
-    let among : is_among k (claim_of d p c) ≡ true =
-    among_claim d p c k w here ∙ and_from (nat_eq c c) (nat_eq p p) (eq-eqb c c refl) (eq-eqb p p refl) in
-    let single : claim_of d p c ≡ k ∷ [] =
-    only_one k (claim_of d p c) (sym (ap length claim_is) ∙ one) among in
-    no_seat s long k w m at (alone_single d p c k w here single)

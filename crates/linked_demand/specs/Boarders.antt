@@ -5,6 +5,7 @@ use Rattle.std.specs.declared.alloc.Global.{Global}
 use Rattle.admit_core.specs.declared.ranking.CallOrder.{CallOrder}
 use Rattle.admit_core.specs.DossierRows.{DossierRows}
 use Rattle.admit_core.specs.State.{is_school}
+use Rattle.day_state.specs.Bundles.{seat_bundle}
 use Rattle.day_state.specs.Kept.{wish_in}
 use Rattle.linked_demand.specs.declared.boarders.Boarder.{Boarder}
 use Rattle.linked_demand.specs.declared.rows.RowWish.{RowWish}
@@ -18,6 +19,7 @@ pub record IsBoarder (d : DossierRows) (b : Boarder) : Type 0 where
   pub school : (wish_in d.wishes b.wish).school ≡ Some b.school
   pub rank : b.rank ≡ (wish_in d.wishes b.wish).board_rank
   pub programme : b.programme ≡ (wish_in d.wishes b.wish).programme
+  pub bundle : b.bundle ≡ seat_bundle d b.wish
   pub there : b.school < length d.schools
   pub shared : b.shared ≡ may_share_school d b.wish
 

@@ -11,11 +11,12 @@ use Rattle.admit_core.specs.declared.dossier.Wish.{Wish}
 use Rattle.admit_core.specs.declared.state.Mark.{Mark}
 use Rattle.admit_core.specs.State.{State, entries, holds_bed, has_school, is_waiting}
 use Rattle.admit_core.specs.Proposals.{is_open}
+use Rattle.day_state.specs.Bundles.{seat_bundle}
 use Rattle.day_state.specs.Kept.{has_bed_there, mark_in, wish_in}
 use Rattle.linked_demand.specs.declared.rows.RowWish.{RowWish}
 use Rattle.linked_demand.specs.Links.{AllOpenWait, LinksRow, WaitsAt}
 use Rattle.linked_demand.specs.Opens.{line_of}
-use Rattle.linked_demand.specs.Seats.{is_called_by_limit, is_doubled, may_share_school}
+use Rattle.linked_demand.specs.Seats.{is_called_by_limit, may_share_school}
 
 -- the place of a wish's candidate in the line of its programme
 abbrev pub line_place : DossierRows → List CallOrder → Wish → ℕ
@@ -28,9 +29,9 @@ item_of d orders k w = record {
   wish = k;
   programme = w.programme;
   place = line_place d orders w;
+  bundle = seat_bundle d k;
   shared = may_share_school d k;
   called_by_limit = is_called_by_limit d orders w;
-  doubled = is_doubled d k;
 }
 
 -- and of the wish at a place
@@ -44,6 +45,11 @@ row_item s orders k = item_at s.dossier orders k
 pub record IsItem (d : DossierRows) (orders : List CallOrder) (x : RowWish) : Type 0 where
   pub within : x.wish < length d.wishes
   pub item : x ≡ item_at d orders x.wish
+
+-- an item tells whether its wish's candidate may have another one with the school
+pub record TellsOfSchool (d : DossierRows) (x : RowWish) : Type 0 where
+  pub within : x.wish < length d.wishes
+  pub shared : x.shared ≡ may_share_school d x.wish
 
 -- each item of a row is that of its wish
 abbrev pub AreItems : State → List CallOrder → List RowWish → Type 0

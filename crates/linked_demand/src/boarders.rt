@@ -11,18 +11,19 @@ use crate::notes::Notes;
 use crate::rows::{RowWish, put_in, rows_with_room};
 use crate::wishes::wish_count;
 use admit_core::{CallOrders, OutOfMemory};
-use day_state::DayState;
+use day_state::{BundleNumber, DayState};
 use proposals::{Ranked, sort_by_rank, wish_at};
 use std::alloc::Global;
 
-/// A wish with a school: its rank there, its programme, and whether its candidate may have another
-/// wish with the school.
+/// A wish with a school: its rank there, its programme, the number of its bundle in the programme,
+/// and whether its candidate may have another wish with the school.
 #[derive(Clone, Copy)]
 struct Boarder {
     wish: u32,
     school: u32,
     rank: u32,
     programme: u32,
+    bundle: BundleNumber,
     shared: bool,
 }
 
@@ -80,6 +81,7 @@ fn boarder_at(state: &DayState<'_>, place: u32) -> Option<Boarder>
             school,
             rank: wish.board_rank,
             programme: wish.programme,
+            bundle: state.seat_bundle(place),
             shared: may_share(state, place, school),
         }),
     }
@@ -147,9 +149,9 @@ fn item_of(state: &DayState<'_>, orders: &CallOrders, notes: &Notes, boarder: Bo
         wish,
         programme: boarder.programme,
         place: notes.place(wish),
+        bundle: boarder.bundle,
         shared: boarder.shared,
         called_by_limit: notes.is_called_by_limit(wish),
-        doubled: notes.is_doubled(wish),
     }
 }
 

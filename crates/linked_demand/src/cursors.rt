@@ -4,6 +4,7 @@ ghost use Rattle.std.specs.List.{list_any};
 
 use crate::open_wishes::OpenWishes;
 use admit_core::OutOfMemory;
+use day_state::BundleNumber;
 use std::alloc::Global;
 
 /// For each claim of more than one wish a place of it: the wishes before it are closed. A wish that
@@ -30,48 +31,46 @@ fn next_open(opens: &OpenWishes, claim: &[u32], from: usize) -> usize
     at
 }
 
-/// Which cursor is a claim's, by the wishes that may stand beside another one in their claim: none
-/// where there is one wish.
-fn slot_of(beside: &[u32], claim: &[u32]) -> usize {
-    if claim.len() < 2 {
-        return beside.len();
+/// Which cursor is a claim's, by the number of its bundle: none where it is of one wish.
+fn slot_of(bundle: BundleNumber) -> usize {
+    match bundle.count() {
+        None => usize::MAX,
+        Some(number) => number as usize,
     }
-    let first = claim[0];
-    beside.partition_point(|wish| *wish < first)
 }
 
 impl Cursors {
-    /// Cursors for the claims of so many wishes.
+    /// Cursors for so many claims, by the numbers of their bundles.
     pub fn new(alloc: Global, count: usize) -> Result<Cursors, OutOfMemory> {
         let places = vec![in alloc; 0usize; count]?;
         Ok(Cursors { places })
     }
 
     /// Where the search in a claim of so many wishes goes on.
-    fn from(&self, slot: usize, count: usize) -> usize
+    fn from(&self, bundle: BundleNumber, count: usize) -> usize
         ensures { result ≤ count }
     {
-        if slot < self.places.len() && self.places[slot] < count {
-            return self.places[slot];
+        match self.places.as_slice().get(slot_of(bundle)) {
+            Some(place) if *place <= count => *place,
+            _ => 0,
         }
-        0
     }
 
     /// Notes where a search ended.
-    fn note(&mut self, slot: usize, place: usize) {
+    fn note(&mut self, bundle: BundleNumber, place: usize) {
+        let slot = slot_of(bundle);
         if slot < self.places.len() {
             self.places[slot] = place;
         }
     }
 
     /// Whether a wish of a claim is open.
-    fn is_any_open(&mut self, opens: &OpenWishes, beside: &[u32], claim: &[u32]) -> bool
+    fn is_any_open(&mut self, opens: &OpenWishes, bundle: BundleNumber, claim: &[u32]) -> bool
         ensures { result ≡ list_any (λ k. slice_index_or opens.now k false) claim.now }
     {
-        let slot = slot_of(beside, claim);
-        let from = self.from(slot, claim.len());
+        let from = self.from(bundle, claim.len());
         let at = next_open(opens, claim, from);
-        self.note(slot, at);
+        self.note(bundle, at);
         if at < claim.len() {
             return true;
         }
@@ -83,12 +82,12 @@ impl Cursors {
         &mut self,
         is_live: bool,
         opens: &OpenWishes,
-        beside: &[u32],
+        bundle: BundleNumber,
         claim: &[u32],
     ) -> bool
         ensures { result ≡ (not is_live && list_any (λ k. slice_index_or opens.now k false)
             claim.now) }
     {
-        !is_live && self.is_any_open(opens, beside, claim)
+        !is_live && self.is_any_open(opens, bundle, claim)
     }
 }

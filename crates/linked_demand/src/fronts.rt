@@ -1,41 +1,53 @@
 //! The proposed wishes as a list: of the open wishes those that need no seat, and those in the
 //! claims that the seats reach.
-ghost use Rattle.std.specs.Prelude.{◌≡◌, ◌≤◌, ◌<◌, ◌&&◌, false, length, take, slice_index_or, All, OnOk};
+ghost use Rattle.std.specs.Prelude.{◌≡◌, ◌≤◌, ◌&&◌, ◌||◌, ◌++◌, false, filter, length, take, slice_index_or, All, OnOk};
 ghost use Rattle.admit_core.specs.Lists.{is_among};
-ghost use Rattle.linked_demand.specs.Fronts.{sure_open, listed_open, claimed_open, reached_open, ListsAlso, AreFronts};
-ghost use Rattle.linked_demand.specs.Opens.{all_sure};
+ghost use Rattle.admit_core.specs.State.{is_live};
+ghost use Rattle.day_state.specs.Kept.{has_seat_there, mark_in};
+ghost use Rattle.linked_demand.specs.Doubts.{IsDoubt, is_sure_open, wishes_of};
+ghost use Rattle.linked_demand.specs.Fronts.{claimed_open, reached_open, ListsAlso, AreFronts};
+ghost use Rattle.linked_demand.specs.Links.{AllOpenWait};
 
 use crate::claims::Claims;
-use crate::notes::Notes;
+use crate::doubts::InDoubt;
 use crate::open_wishes::OpenWishes;
-use crate::seats::needs_no_seat;
 use admit_core::OutOfMemory;
 use day_state::DayState;
 
-/// Whether the wish at a place is open and needs no seat.
-fn is_sure_open(state: &DayState<'_>, opens: &OpenWishes, notes: &Notes, place: u32) -> bool
-    requires { place < length state.now.dossier.wishes }
-    ensures { result ≡ sure_open opens.now (all_sure state.now notes.now.called_by_limit) place }
+/// Whether a wish in doubt that is not live needs no seat.
+fn is_sure(state: &DayState<'_>, doubt: InDoubt) -> bool
+    requires { IsDoubt state.now.dossier doubt }
+    ensures { is_live (mark_in state.now.marks doubt.wish) ≡ false
+        → result ≡ (doubt.called_by_limit || has_seat_there state.now doubt.wish) }
 {
-    opens.get(place) && needs_no_seat(state, notes, place)
+    doubt.called_by_limit || state.is_live_beside(doubt.bundle)
 }
 
-/// Lists those of some wishes that are open and need no seat.
+/// Whether a wish in doubt is open and needs no seat. Mostly it needs one, and this is asked first:
+/// nothing is read by wish for it.
+fn is_sure_open(state: &DayState<'_>, opens: &OpenWishes, doubt: InDoubt) -> bool
+    requires waits { AllOpenWait state.now opens.now }
+    requires doubt { IsDoubt state.now.dossier doubt }
+    ensures { result ≡ is_sure_open state.now opens.now doubt }
+{
+    is_sure(state, doubt) && opens.get(doubt.wish)
+}
+
+/// Lists those of the wishes in doubt that are open and need no seat.
 pub fn list_sure(
     state: &DayState<'_>,
     opens: &OpenWishes,
-    notes: &Notes,
-    wishes: &[u32],
+    doubts: &[InDoubt],
     found: &mut Vec<u32>,
 ) -> Result<(), OutOfMemory>
-    requires { All (λ k. k < length state.now.dossier.wishes) wishes.now }
-    ensures { OnOk result (ListsAlso (listed_open opens.now
-        (all_sure state.now notes.now.called_by_limit) wishes.now)
-        found.old.items found.new.items) }
+    requires waits { AllOpenWait state.now opens.now }
+    requires doubts { All (IsDoubt state.now.dossier) doubts.now }
+    ensures { OnOk result (found.new.items ≡ found.old.items
+        ++ wishes_of (filter (is_sure_open state.now opens.now) doubts.now)) }
 {
-    for wish in wishes {
-        if is_sure_open(state, opens, notes, *wish) {
-            found.push(*wish)?;
+    for doubt in doubts {
+        if is_sure_open(state, opens, *doubt) {
+            found.push(doubt.wish)?;
         }
     }
     Ok(())

@@ -13,6 +13,7 @@ mod claims;
 mod closed;
 mod cursors;
 mod cut;
+mod doubts;
 mod ends;
 mod fresh;
 mod fronts;

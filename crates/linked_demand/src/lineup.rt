@@ -14,6 +14,7 @@ ghost use Rattle.linked_demand.specs.Seats.{AreSeated, IsLineup, is_below, is_pa
 use crate::boarders::boarders_by_school;
 use crate::calling::{CalledWish, called_by_programme};
 use crate::claims::Claims;
+use crate::doubts::{InDoubt, wishes_in_doubt};
 use crate::notes::Notes;
 use crate::rows::RowWish;
 use crate::wishes::wish_count;
@@ -125,7 +126,7 @@ pub struct Lineup {
     pub(crate) claims: Vec<Claims>,
     pub(crate) notes: Notes,
     pub(crate) boarders: Vec<Vec<RowWish>>,
-    pub(crate) may_need_no_seat: Vec<u32>,
+    pub(crate) may_need_no_seat: Vec<InDoubt>,
 }
 
 // Not derived: so a lineup is dropped in one step where it is held, and not by each list.
@@ -152,11 +153,10 @@ impl Lineup {
         requires { AreCallOrders state.now.dossier.groups orders.now.orders }
         ensures { IfOk result (IsLineupOf state.now.dossier orders.now.orders) }
     {
-        let count = wish_count(state);
-        let mut notes = Notes::none(alloc, count)?;
+        let mut notes = Notes::none(alloc, wish_count(state))?;
         let claims = claims_of(alloc, state, orders, &mut notes)?;
         let boarders = boarders_by_school(alloc, state, orders, &notes)?;
-        let may_need_no_seat = notes.wishes_in_doubt(alloc, count)?;
+        let may_need_no_seat = wishes_in_doubt(alloc, state, orders, &notes)?;
         Ok(Lineup {
             claims,
             notes,

@@ -1,8 +1,9 @@
 //! Who is served in each programme while wishes are closed.
 ghost use Rattle.std.specs.Prelude.{◌≡◌, ◌+◌, ◌<◌, ◌&&◌, ◌||◌, false, not, length, filter, slice_set, slice_index_or, count_by, IfOk};
 ghost use Rattle.std.specs.List.{enumerate_from, range_with_len};
-ghost use Rattle.admit_core.specs.State.{entries};
-ghost use Rattle.day_state.specs.Kept.{has_seat_there};
+ghost use Rattle.admit_core.specs.State.{entries, is_live};
+ghost use Rattle.day_state.specs.Bundles.{seat_bundle};
+ghost use Rattle.day_state.specs.Kept.{has_seat_there, mark_in};
 ghost use Rattle.linked_demand.specs.Marks.{is_new, MarksWishes};
 ghost use Rattle.linked_demand.specs.Lineups.{IsLineupOf};
 ghost use Rattle.linked_demand.specs.Opens.{all_sure, opens_of};
@@ -24,7 +25,7 @@ use crate::marks::Marks;
 use crate::notes::Notes;
 use crate::open_wishes::OpenWishes;
 use crate::opening::open_under;
-use crate::rows::RowWish;
+use crate::rows::{RowWish, has_item_bed, is_item_live};
 use crate::seats::{needs_no_seat, reached_of};
 use crate::wishes::waits;
 use admit_core::{CallOrders, OutOfMemory, Steps};
@@ -44,20 +45,11 @@ fn is_seated(state: &DayState<'_>, notes: &Notes, wish: u32, reached: bool) -> b
     reached || needs_no_seat(state, notes, wish)
 }
 
-/// Whether the candidate of an item's wish, which waits, is live in its programme: they are not
-/// where they have no other one there.
-fn is_item_live(state: &DayState<'_>, item: RowWish) -> bool
-    requires wish { item.wish < length state.now.dossier.wishes }
-    requires alone { item.doubled ≡ false → has_seat_there state.now item.wish ≡ false }
-    ensures { result ≡ has_seat_there state.now item.wish }
-{
-    item.doubled && state.is_live_in_its_programme(item.wish)
-}
-
 /// Whether an open wish of a row has a seat, by what its item tells.
 fn is_item_seated(state: &DayState<'_>, item: RowWish, reached: bool) -> bool
     requires wish { item.wish < length state.now.dossier.wishes }
-    requires alone { item.doubled ≡ false → has_seat_there state.now item.wish ≡ false }
+    requires waits { is_live (mark_in state.now.marks item.wish) ≡ false }
+    requires bundle { item.bundle ≡ seat_bundle state.now.dossier item.wish }
     ensures { result ≡ (reached
         || (item.called_by_limit || has_seat_there state.now item.wish)) }
 {
@@ -133,7 +125,8 @@ impl<'a, 'd> SeatLinks<'a, 'd> {
         let _ = state.marks(); // one for each wish
         let opens = open_under(alloc, state, orders, &lineup.boarders, bars)?;
         let reached = reached_of(alloc, state, orders, lineup, &opens)?;
-        let cursors = Cursors::new(alloc, lineup.may_need_no_seat.len())?;
+        let claims = lineup.may_need_no_seat.len() / 2; // each has two of these wishes or more
+        let cursors = Cursors::new(alloc, claims)?;
         Ok(SeatLinks {
             state,
             orders,
@@ -179,12 +172,10 @@ impl<'a, 'd> SeatLinks<'a, 'd> {
         let lineup = self.lineup;
         let programme = item.programme as usize;
         let claims = &lineup.claims[programme];
-        let beside = lineup.may_need_no_seat.as_slice();
         let before = self.reached[programme];
         let leaves = leaves_by_closing(
             self.state,
             claims,
-            beside,
             &mut self.cursors,
             &mut self.opens,
             item,
@@ -219,16 +210,12 @@ impl<'a, 'd> SeatLinks<'a, 'd> {
         self.opens.get(wish) && !self.state.is_live_in_its_school(wish)
     }
 
-    /// Whether the wish of an item waits, and its candidate has no bed in its school. It is not
-    /// asked who is live there where a candidate has no other wish with the school.
+    /// Whether the wish of an item waits, and its candidate has no bed in its school.
     pub fn needs_bed(&self, item: RowWish) -> bool
         requires { IsItem self.now.state.dossier self.now.orders item }
         ensures { result ≡ needs_bed self.now.state item }
     {
-        if !waits(self.state, item.wish) {
-            return false;
-        }
-        !item.shared || !self.state.is_live_in_its_school(item.wish)
+        waits(self.state, item.wish) && !has_item_bed(self.state, item)
     }
 
     /// The school in which a wish demands a bed: it is proposed, and its candidate has none there.
@@ -263,7 +250,6 @@ impl<'a, 'd> SeatLinks<'a, 'd> {
         list_sure(
             self.state,
             &self.opens,
-            &lineup.notes,
             &lineup.may_need_no_seat,
             &mut found,
         )?;

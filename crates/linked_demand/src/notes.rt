@@ -1,6 +1,5 @@
 //! What is known of each wish from the line of its programme.
-ghost use Rattle.std.specs.Prelude.{◌≡◌, ◌<◌, ◌^◌, false, filter, length, replicate, slice_index_or, All, IfOk};
-ghost use Rattle.std.specs.List.{range_with_len};
+ghost use Rattle.std.specs.Prelude.{◌≡◌, ◌<◌, ◌^◌, false, length, replicate, slice_index_or, All, IfOk};
 ghost use Rattle.linked_demand.specs.Notes.{IsNoted, PutAt, flags_of, is_in_doubt, note_of, nothing_noted};
 
 use admit_core::OutOfMemory;
@@ -116,32 +115,17 @@ impl Notes {
     }
 
     /// Whether a wish's candidate has another one in its programme.
-    pub fn is_doubled(&self, wish: u32) -> bool
+    fn is_doubled(&self, wish: u32) -> bool
         ensures { result ≡ slice_index_or self.now.doubled wish false }
     {
         note_at(&self.notes, wish) % 4 % 2 == 1
     }
 
-    /// Whether a wish may need no seat while it waits.
-    fn is_in_doubt(&self, wish: u32) -> bool
+    /// Whether a wish may need no seat while it waits: it is called by a limit, or its candidate has
+    /// another one in the programme, which may be live.
+    pub fn is_in_doubt(&self, wish: u32) -> bool
         ensures { result ≡ is_in_doubt self.now wish }
     {
         self.is_called_by_limit(wish) || self.is_doubled(wish)
-    }
-
-    /// Which of the first so many wishes may need no seat while they wait, by place: those that are
-    /// called by a limit, and those whose candidate has another one in the programme, which may be
-    /// live.
-    pub fn wishes_in_doubt(&self, alloc: Global, count: u32) -> Result<Vec<u32>, OutOfMemory>
-        ensures { IfOk result (λ v. v.items ≡ filter (is_in_doubt self.now)
-            (range_with_len 0 count)) }
-    {
-        let mut in_doubt = Vec::new(alloc);
-        for wish in 0..count {
-            if self.is_in_doubt(wish) {
-                in_doubt.push(wish)?;
-            }
-        }
-        Ok(in_doubt)
     }
 }

@@ -1,20 +1,24 @@
 //! Which wishes are open at the bars with which a round begins.
-ghost use Rattle.std.specs.Prelude.{◌≡◌, ℕ, ◌<◌, ◌&&◌, false, length, not, slice_index_or, All, IfOk};
+ghost use Rattle.std.specs.Prelude.{◌≡◌, ℕ, ◌<◌, ◌&&◌, true, false, length, not, slice_index_or, All, IfOk};
 ghost use Rattle.admit_core.specs.Lists.{is_among};
-ghost use Rattle.day_state.specs.Kept.{has_bed_there};
+ghost use Rattle.admit_core.specs.State.{is_waiting};
+ghost use Rattle.day_state.specs.Kept.{has_bed_there, mark_in};
 ghost use Rattle.linked_demand.specs.Opens.{opens_of};
 ghost use Rattle.linked_demand.specs.Boarders.{AreBySchool, items_wishes};
+ghost use Rattle.linked_demand.specs.Rows.{TellsOfSchool};
 
 use crate::ends::end_of;
 use crate::open_wishes::OpenWishes;
-use crate::rows::RowWish;
+use crate::rows::{RowWish, has_item_bed};
 use admit_core::{CallOrders, OutOfMemory};
 use day_state::DayState;
 use std::alloc::Global;
 
 /// Closes the wishes of boarders of a school who have no bed there.
 fn close_behind(state: &DayState<'_>, behind: &[RowWish], opens: &mut OpenWishes)
-    requires wishes { All (λ x. x.wish < length state.now.dossier.wishes) behind.now }
+    requires wishes { All (TellsOfSchool state.now.dossier) behind.now }
+    requires waits { (k : ℕ) → slice_index_or opens.old k false ≡ true
+        → is_waiting (mark_in state.now.marks k) ≡ true }
     requires opens { length opens.old ≡ length state.now.dossier.wishes }
     ensures as_long { length opens.new ≡ length opens.old }
     ensures flags { (k : ℕ) → k < length opens.old → slice_index_or opens.new k false
@@ -22,7 +26,7 @@ fn close_behind(state: &DayState<'_>, behind: &[RowWish], opens: &mut OpenWishes
         && not (has_bed_there state.now k))) }
 {
     for item in behind {
-        let has_bed = state.is_live_in_its_school(item.wish);
+        let has_bed = has_item_bed(state, *item);
         opens.close_if(item.wish, !has_bed);
     }
 }

@@ -1,5 +1,6 @@
 use Rattle.std.proofs.Common.{ℕ, ◌<◌, ◌≡◌, false, List, length, get_or, nat_eq, sym, ◌∙◌, ap, arith, subst}
 use Rattle.std.proofs.lemmas.List.{length-map, take_all}
+use Rattle.day_state.specs.declared.numbers.BundleNumber.TheVariants.{NoSite}
 use Rattle.linked_demand.specs.declared.boarders.Boarder.{Boarder}
 use Rattle.linked_demand.specs.Boarders.{boards_in, wishes_of, AreBoarders}
 use Rattle.linked_demand.specs.Keyed.{AreRowsOf}
@@ -15,7 +16,7 @@ loop-boarder-preserved c =
     let right : AreBoarders d boarders = rw c.as_slice-boarder-items.ensures.value c.in_ok-boarders.ensures in
     let places = wishes_of boarders in
     let i = c.loop-boarder.boarder-index in
-    let none : Boarder = record { wish = 0; school = 0; rank = 0; programme = 0; shared = false } in
+    let none : Boarder = record { wish = 0; school = 0; rank = 0; programme = 0; bundle = NoSite; shared = false } in
     let b = get_or boarders i none in
     let lt : i < length boarders = c.loop-boarder-test.true in
     let k_is : get_or places i 0 ≡ b.wish = place_of boarders i none lt in

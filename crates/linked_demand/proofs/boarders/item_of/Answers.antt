@@ -12,5 +12,4 @@ returns c =
     let here = wish_there d.wishes k (wish_in d.wishes k) right.within refl in
     let notes = c.requires.notes in
     item_made d c.args.orders.now.orders c.args.notes.now.places notes.places_are c.args.boarder right
-    _ c.place.ensures _ _ (c.is_called_by_limit.ensures ∙ notes.called_are k (wish_in d.wishes k) here)
-    (c.is_doubled.ensures ∙ notes.doubled_are k (wish_in d.wishes k) here)
+    _ c.place.ensures _ (c.is_called_by_limit.ensures ∙ notes.called_are k (wish_in d.wishes k) here)

@@ -2,9 +2,10 @@ use Rattle.std.proofs.Common.{false, ◌≡◌, ◌-◌, ◌+◌, ◌≤◌, ℕ
 use Rattle.std.proofs.Common.{sym, ◌∙◌}
 use Rattle.std.specs.Prelude.{slice_get}
 use Rattle.std.proofs.lemmas.Option.{slice_get-get_or}
+use Rattle.day_state.specs.declared.numbers.BundleNumber.TheVariants.{NoSite}
 use Rattle.linked_demand.specs.declared.rows.RowWish.{RowWish}
 use Rattle.linked_demand.specs.Links.{LinksRow}
-use Rattle.linked_demand.specs.Rows.{needs_bed, row_in}
+use Rattle.linked_demand.specs.Rows.{IsItem, needs_bed, row_in}
 use Rattle.linked_demand.proofs.Cutting.{cut_there, item_still, open_still, read_in_row, same_at, same_links}
 use Rattle.linked_demand.proofs.Cutting.{so_far_start}
 use Rattle.linked_demand.proofs.Cutting.{so_far_step, waits_still}
@@ -19,9 +20,9 @@ no_item = record {
   wish = 0;
   programme = 0;
   place = 0;
+  bundle = NoSite;
   shared = false;
   called_by_limit = false;
-  doubled = false;
 }
 
 pub loop-end-init : goal.loop-end-init
@@ -37,6 +38,18 @@ loop-end-init g c =
       steps = omega (arith, all, none_new start c.args.bars.now start);
       marked = none_marked start c.args.bars.now start c.args.marked.now;
     }
+
+pub needs_bed-requires : goal.needs_bed-requires
+needs_bed-requires g c =
+    let front = c.args.front.now in
+    let far = c.loop-end.invariant.cut in
+    let end : ℕ = c.loop-end.end in
+    let n : ℕ = c.loop-end.end - 1 in
+    let next : end ≡ n + 1 = omega arith in
+    let x = get_or front n no_item in
+    let P = λ (l : LinksRow). IsItem l.state.dossier l.orders x in
+    subst P (sym far.now_is)
+    (c.requires.front.own n no_item (omega (arith, c.loop-end.invariant.within, next)))
 
 pub close-requires : goal.close-requires
 close-requires g c =

@@ -1,38 +1,36 @@
-use Rattle.std.proofs.Common.{ℕ, get_or, refl, sym, ◌∙◌}
-use Rattle.linked_demand.specs.Fronts.{sure_open}
-use Rattle.linked_demand.specs.Opens.{all_sure}
-use Rattle.linked_demand.proofs.Listing.{lists_all, lists_left, lists_none, lists_some, passing}
+use Rattle.std.proofs.Common.{List, ◌++◌, filter, sym, ◌∙◌, ap}
+use Rattle.std.proofs.lemmas.List.{take_all}
+use Rattle.linked_demand.specs.declared.doubts.InDoubt.{InDoubt}
+use Rattle.linked_demand.specs.Doubts.{is_sure_open, wishes_of}
+use Rattle.linked_demand.proofs.Keeping.{add_none}
+use Rattle.linked_demand.proofs.MayNeedNoSeat.{sure_left, sure_some}
 use Rattle.linked_demand.proofs.fronts.list_sure.Goals as goal
 use Rattle.linked_demand.proofs.fronts.list_sure.Goals.{then-is_sure_open+in_ok-push, else-is_sure_open}
 
-pub loop-wish-init : goal.loop-wish-init
-loop-wish-init c =
-    lists_none (passing (sure_open c.args.opens.now (all_sure c.args.state.now c.args.notes.now.called_by_limit))
-    c.args.wishes.now 0)
-    c.args.found.now.items (λ k. refl)
+pub loop-doubt-init : goal.loop-doubt-init
+loop-doubt-init c = add_none c.args.found.now.items
 
-pub loop-wish-preserved : goal.loop-wish-preserved
-loop-wish-preserved c =
-    let q = sure_open c.args.opens.now (all_sure c.args.state.now c.args.notes.now.called_by_limit) in
-    let ks = c.args.wishes.now in
-    let i = c.loop-wish.wish-index in
-    let x : ℕ = get_or ks i 0 in
+pub loop-doubt-preserved : goal.loop-doubt-preserved
+loop-doubt-preserved c =
+    let p = is_sure_open c.args.state.now c.args.opens.now in
+    let xs = c.args.doubts.now in
+    let i = c.loop-doubt.doubt-index in
     let old = c.args.found.now.items in
-    let now = c.loop-wish.found.items in
+    let now = c.loop-doubt.found.items in
     elim c.if-is_sure_open.branch [
       | then-is_sure_open+in_ok-push w ↦
           rw w.found-is
-          (lists_some q ks i x old now w.push.new.self.items c.loop-wish-test.true refl
-          (sym c.is_sure_open.ensures ∙ w.if-is_sure_open.true) w.in_ok-push.ensures.items c.loop-wish.invariant)
+          (sure_some p xs i old now w.push.new.self.items c.loop-doubt-test.true
+          (sym c.is_sure_open.ensures ∙ w.if-is_sure_open.true) w.in_ok-push.ensures.items c.loop-doubt.invariant)
       | else-is_sure_open w ↦
           rw w.found-is
-          (lists_left q ks i x old now c.loop-wish-test.true refl
-          (sym c.is_sure_open.ensures ∙ w.if-is_sure_open.false) c.loop-wish.invariant)
+          (sure_left p xs i old now c.loop-doubt-test.true (sym c.is_sure_open.ensures ∙ w.if-is_sure_open.false)
+          c.loop-doubt.invariant)
     ]
 
 pub returns : goal.returns
 returns c =
-    lists_all (sure_open c.args.opens.now (all_sure c.args.state.now c.args.notes.now.called_by_limit))
-    c.args.wishes.now
-    c.loop-wish.wish-index
-    c.args.found.now.items c.loop-wish.found.items c.loop-wish-test.false c.loop-wish.invariant
+    let p = is_sure_open c.args.state.now c.args.opens.now in
+    c.loop-doubt.invariant
+    ∙ ap (λ (xs : List InDoubt). c.args.found.now.items ++ wishes_of (filter p xs))
+    (take_all c.loop-doubt.doubt-index c.args.doubts.now c.loop-doubt-test.false)

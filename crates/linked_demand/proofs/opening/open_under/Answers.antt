@@ -10,9 +10,9 @@ use Rattle.admit_core.specs.Lists.{is_among}
 use Rattle.admit_core.specs.Validity.{IsValid}
 use Rattle.linked_demand.specs.declared.rows.RowWish.{RowWish}
 use Rattle.linked_demand.specs.Boarders.{boards_in, items_wishes}
-use Rattle.linked_demand.specs.Rows.{row_item}
-use Rattle.linked_demand.proofs.Shutting.{behind_is, shut_all, shut_more}
-use Rattle.linked_demand.proofs.FirstBoarders.{by_rank_each, own_within}
+use Rattle.linked_demand.specs.Rows.{TellsOfSchool, row_item}
+use Rattle.linked_demand.proofs.Shutting.{behind_is, shut_all, shut_more, shut_waits}
+use Rattle.linked_demand.proofs.FirstBoarders.{by_rank_each, own_tell}
 use Rattle.linked_demand.proofs.opening.open_under.Goals as goal
 
 pub end_of-end-requires : goal.end_of-end-requires
@@ -36,13 +36,17 @@ close_behind-requires-clause-wishes c =
     let lt : h < length boarders =
     omega (arith, c.loop-school-test.true, c.requires.bars, c.requires.boarders.rows_are.one_each) in
     let found = slice_get_read boarders (length boarders) h own refl lt c.index-boarders-school.is in
-    let all = own_within d c.args.orders.now.orders boarders c.requires.boarders h own found in
+    let all = own_tell d c.args.orders.now.orders boarders c.requires.boarders h own found in
     let read : List RowWish = c.as_slice-own.result.now in
-    let Q : RowWish → Type 0 = λ x. x.wish < length d.wishes in
+    let Q : RowWish → Type 0 = TellsOfSchool d in
     let P = λ (xs : List RowWish). All Q xs in
     let end : ℕ = c.end_of-end.result in
     subst P (sym (take_all (length read - end) (drop end read) (omega (arith, length-drop end read))))
     (All-drop Q end read (subst P (sym c.as_slice-own.ensures.value) all))
+
+pub close_behind-requires-clause-waits : goal.close_behind-requires-clause-waits
+close_behind-requires-clause-waits c =
+    shut_waits c.args.state.now c.args.bars.now c.loop-school.school c.loop-school.opens c.loop-school.invariant
 
 pub loop-school-preserved : goal.loop-school-preserved
 loop-school-preserved c =

@@ -1,11 +1,11 @@
-use Rattle.std.proofs.Common.{◌≡◌, ℕ, ◌+◌, Bool, List, [], arith, ap, length, drop, refl, sym, ◌∙◌, get_or, false}
+use Rattle.std.proofs.Common.{◌≡◌, ℕ, ◌+◌, Bool, List, arith, ap, length, drop, refl, sym, ◌∙◌, false}
 use Rattle.std.proofs.Common.{slice_set, subst}
 use Rattle.std.specs.Prelude.{if◌then◌else◌}
 use Rattle.linked_demand.specs.Line.{last_new, next}
 use Rattle.linked_demand.specs.Links.{AllOpenWait, LinksRow}
 use Rattle.linked_demand.specs.Wants.{claim_at, wants_along, AllNeedSeatAlone}
 use Rattle.linked_demand.proofs.Closing.{wish_within, programme_within, claims_each, row_within}
-use Rattle.linked_demand.proofs.Items.{closes_item, item_reads, item_single, item_stands}
+use Rattle.linked_demand.proofs.Items.{closes_item, item_bundle, item_reads, item_stands, item_waits}
 use Rattle.linked_demand.proofs.Leaving.{before_within, front_moved, reached_each, reach_put, row_below, row_still}
 use Rattle.linked_demand.proofs.Ticking.{fresh_fits, told_front}
 use Rattle.linked_demand.proofs.links.SeatLinks.close.Goals as goal
@@ -16,13 +16,12 @@ leaves_by_closing-leaves-requires g c =
     let k = closes_item links c.args.self.now c.self.view_is c.args.item c.requires.waits c.requires.item in
     let at = item_stands links c.args.self.now c.self.view_is c.args.item c.requires.waits c.requires.item in
     let row = c.index-claims.result.now in
-    let claim = get_or row c.args.item.place [] in
     record {
       wish = wish_within k;
       opens = links.opens_each;
       place = row_within k c.args.item.place at row c.index-claims.ensures;
-      alone = item_single links c.args.self.now c.self.view_is c.args.item c.requires.waits c.requires.item row
-          c.index-claims.ensures claim refl;
+      waits = item_waits links c.args.self.now c.self.view_is c.args.item c.requires.waits c.requires.item;
+      bundle = item_bundle links c.args.self.now c.self.view_is c.args.item c.requires.waits c.requires.item;
     }
 
 pub index-claims-requires : goal.index-claims-requires

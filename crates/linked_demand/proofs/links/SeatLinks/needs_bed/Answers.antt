@@ -1,23 +1,22 @@
-use Rattle.std.proofs.Common.{◌≡◌, true, false, not, ap, length, subst, sym, ◌∙◌}
-use Rattle.std.proofs.lemmas.Bool.{and_from, not-true}
+use Rattle.std.proofs.Common.{◌≡◌, true, ap, not, subst, sym, ◌∙◌}
 use Rattle.admit_core.specs.State.{is_waiting}
-use Rattle.day_state.specs.Kept.{has_bed_there, mark_in}
+use Rattle.day_state.specs.Kept.{mark_in}
 use Rattle.linked_demand.specs.declared.rows.RowWish.{RowWish}
 use Rattle.linked_demand.specs.Links.{LinksRow}
-use Rattle.linked_demand.specs.Seats.{may_share_school}
-use Rattle.linked_demand.proofs.Waiting.{no_bed}
+use Rattle.linked_demand.specs.Rows.{TellsOfSchool, needs_bed}
 use Rattle.linked_demand.proofs.links.SeatLinks.needs_bed.Goals as goal
 
-pub returns-then-not-item : goal.returns-then-not-item
-returns-then-not-item c =
-    let s = c.args.self.now.state in
-    let k = c.args.item.wish in
-    let Q = λ (l : LinksRow). (is_waiting (mark_in l.state.marks k) ≡ true)
-    × (length l.state.marks ≡ length l.state.dossier.wishes) in
-    let (waits, long) =
-    subst Q c.self.view_is (sym c.waits.ensures ∙ c.if-not-waits.false, c.self.invariant.reach.links.marks_each) in
-    let single : may_share_school s.dossier k ≡ false =
-    sym (ap (λ (x : RowWish). x.shared) c.requires.item) ∙ not-true c.args.item.shared c.if-not-item.true in
-    c.if-not-item.true
-    ∙ sym (and_from (is_waiting (mark_in s.marks k)) (not (has_bed_there s k)) waits
-    (ap not (no_bed s long k waits single)))
+pub has_item_bed-requires : goal.has_item_bed-requires
+has_item_bed-requires c =
+    let P = λ (l : LinksRow). TellsOfSchool l.state.dossier c.args.item in
+    subst P (sym c.self.view_is) (record {
+      within = c.requires.within;
+      shared = ap (λ (x : RowWish). x.shared) c.requires.item;
+    })
+
+pub returns-then-waits : goal.returns-then-waits
+returns-then-waits c =
+    let waits : is_waiting (mark_in c.self.inside.state.now.marks c.args.item.wish) ≡ true =
+    sym c.waits.ensures ∙ c.if-waits.true in
+    let P = λ (l : LinksRow). not c.has_item_bed.result ≡ needs_bed l.state c.args.item in
+    subst P c.self.view_is (rw waits (ap not (c.has_item_bed.ensures waits)))

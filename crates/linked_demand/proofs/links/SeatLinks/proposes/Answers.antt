@@ -1,7 +1,7 @@
 use Rattle.std.proofs.Common.{ℕ, ◌||◌, Bool, arith, ap, ◌∙◌}
 use Rattle.linked_demand.specs.Opens.{seat_row}
 use Rattle.linked_demand.proofs.Closing.{programme_within, wish_within}
-use Rattle.linked_demand.proofs.Items.{closes_item, item_alone, item_proposed, item_stands, item_sure}
+use Rattle.linked_demand.proofs.Items.{closes_item, item_bundle, item_proposed, item_stands, item_sure, item_waits}
 use Rattle.linked_demand.proofs.Leaving.{reach_right, reached_each, reached_is, row_there}
 use Rattle.linked_demand.proofs.links.SeatLinks.proposes.Goals as goal
 
@@ -17,7 +17,8 @@ is_item_seated-requires c =
     let k = closes_item reach.links c.args.self.now c.self.view_is c.args.item c.requires.waits c.requires.item in
     record {
       wish = wish_within k;
-      alone = item_alone reach.links c.args.self.now c.self.view_is c.args.item c.requires.waits c.requires.item;
+      waits = item_waits reach.links c.args.self.now c.self.view_is c.args.item c.requires.waits c.requires.item;
+      bundle = item_bundle reach.links c.args.self.now c.self.view_is c.args.item c.requires.waits c.requires.item;
     }
 
 pub returns : goal.returns
