@@ -239,8 +239,8 @@ impl<'a, 'd> LastDesk<'a, 'd> {
         }
     }
 
-    /// The dossier, and of the present state the marks of its wishes alone. Where days were run both
-    /// are there, and no memory is taken.
+    /// The dossier, and of the present state the marks of its wishes alone. Where days were run,
+    /// both are there, and no memory is taken.
     pub fn into_marks(self, alloc: Global) -> Result<(&'d Dossier, Marks), OutOfMemory>
         ensures dossier { IfOk result (λ parts. parts.0.now ≡ self.entry.desk.present.dossier) }
         ensures marks { IfOk result (λ parts. parts.1 ≡ self.entry.desk.present.marks) }
