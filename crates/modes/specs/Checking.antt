@@ -3,6 +3,7 @@ use Rattle.std.specs.Prelude.{◌≡◌, ℕ, ◌+◌, ◌<◌, List, [], ◌∷
 use Rattle.std.specs.Prelude.{MatchResult, Vec, codes, length, option_map, ⊤}
 use Rattle.std.specs.Fmt.{decimal}
 use Rattle.std.specs.Option.{option_or}
+use Rattle.std.specs.declared.alloc.Global.{Global}
 use Rattle.admit_core.specs.CallOrder.{AreCallOrders}
 use Rattle.admit_core.specs.ChainLines.{chain_fault_text}
 use Rattle.admit_core.specs.Chains.{day_fault}
@@ -15,6 +16,7 @@ use Rattle.admit_core.specs.declared.chain.CheckReason.{CheckReason}
 use Rattle.admit_core.specs.declared.chain.DayChain.{DayChain}
 use Rattle.admit_core.specs.declared.ranking.CallOrder.{CallOrder}
 use Rattle.admit_core.specs.declared.records.Terms.{Terms}
+use Rattle.admit_core.specs.declared.refusal.OutOfMemory.{OutOfMemory}
 use Rattle.certificate.specs.Grammar.{read}
 use Rattle.certificate.specs.ProvedDays.{AreProvedDays, evening_after, evening_by}
 use Rattle.certificate.specs.VerdictText.{verdict_text}
@@ -28,15 +30,13 @@ use Rattle.request.specs.declared.modes.Mode.{Mode}
 use Rattle.request.specs.declared.modes.Mode.TheVariants.{Check}
 use Rattle.modes.specs.Jobs.{FitsAnswers, dossier, terms_of}
 use Rattle.modes.specs.Replay.{final_lines}
+use Rattle.modes.specs.declared.exit.Exit.{Exit}
+use Rattle.modes.specs.declared.exit.Exit.TheVariants.{Done, Refused, NotProved}
 use Rattle.modes.specs.declared.reply.Reply.{Reply}
 use Rattle.modes.specs.declared.unproved.Unproved.{Unproved}
 use Rattle.modes.specs.declared.unproved.Unproved.TheVariants as unproved
 use Rattle.modes.specs.declared.unproved.Why.{Why}
 use Rattle.modes.specs.declared.unproved.Why.TheVariants.{NoChain, Unfit, Rejected}
-use Rattle.std.specs.declared.alloc.Global.{Global}
-use Rattle.admit_core.specs.declared.refusal.OutOfMemory.{OutOfMemory}
-use Rattle.modes.specs.declared.exit.Exit.{Exit}
-use Rattle.modes.specs.declared.exit.Exit.TheVariants.{Done, Refused, NotProved}
 
 -- a fault of a day's chain
 abbrev pub rejected_at : Option (ℕ × CheckReason) → Option Why
