@@ -18,11 +18,11 @@ use Rattle.desk_day.specs.Running.{RunningStates}
 use Rattle.desk_day.proofs.PassesSoFar.{SoFar, chosen_more, so_far_end, so_far_more, so_far_none, told_more}
 
 -- what is kept of a pass offers what the pass does
-pub offers_kept : (keeps : Bool) (s new : State) (orders : List CallOrder) (ceilings : List ℕ) (stamp : Stamp)
-    (choice : List ℕ → List ℕ → ℕ) (told told_after : List ℕ) (found : PassRecord)
+pub offers_kept : (keeps : Bool) {s new : State} {orders : List CallOrder} {ceilings : List ℕ} {stamp : Stamp}
+    {choice : List ℕ → List ℕ → ℕ} {told told_after : List ℕ} {found : PassRecord}
     → (is : IsKeptOf (kept_pass keeps) (IsPassOffered s new orders ceilings stamp choice told told_after) found)
     → found.offers ≡ proposed s orders is.0.bars
-offers_kept keeps s new orders ceilings stamp choice told told_after found is =
+offers_kept keeps is =
     ap (λ (p : PassRecord). p.offers) is.2 ∙ is.1.by.is_pass.offers
 
 -- one more is kept
@@ -55,9 +55,9 @@ picked_none keeps orders ceilings day s choice told kept none long few = (
 )
 
 -- one more
-module _ (keeps : Bool) (orders : List CallOrder) (ceilings : List ℕ) (day number : ℕ) (start now : State)
-    (choice choice_now : List ℕ → List ℕ → ℕ) (told told_now told_next : List ℕ) (kept more : List PassEnd)
-    (end : PassEnd) (after : RunningStates)
+module _ (keeps : Bool) {orders : List CallOrder} {ceilings : List ℕ} {day number : ℕ} {start now : State}
+    {choice choice_now : List ℕ → List ℕ → ℕ} {told told_now told_next : List ℕ} {kept more : List PassEnd}
+    {end : PassEnd} {after : RunningStates}
     (so_far : IsKeptOf (map (kept_end keeps))
     (PickedSoFar orders ceilings day number start now choice told told_now) kept)
     (picked : IsKeptOf (kept_end keeps)

@@ -16,6 +16,7 @@ use Rattle.desk_day.specs.DayPasses.{AreChosenPasses, TellsAlong, TellsMore, Tel
 use Rattle.round.specs.KeptFalls.{IsKeptOf}
 use Rattle.desk_day.specs.KeptDays.{IsPassPicked, kept_end}
 use Rattle.desk_day.specs.Running.{RunningStates}
+use Rattle.desk_day.specs.Telling.{Telling}
 use Rattle.desk_day.proofs.KeptPasses.{PickedSoFar}
 use Rattle.desk_day.proofs.PassesSoFar.{Earlier, tells_from, tells_of_falls}
 
@@ -37,9 +38,12 @@ told_whole s orders ceilings choice told told_after pass is told_of chosen = (
 )
 
 module _ (orders : List CallOrder) (ceilings : List ℕ) (day : ℕ) (choice : List ℕ → List ℕ → ℕ) where
+  abbrev from_to : List ℕ → List ℕ → Telling
+  from_to told told_after = record { before = told; after = told_after; choice = choice }
+
   -- what was told before is a prefix of it
   told_along : (k : ℕ) (s : State) (told told_after : List ℕ) (passes : List PassEnd)
-      → TellsAlong orders ceilings day k s choice told told_after passes → TellsMore told told_after
+      → TellsAlong orders ceilings (stamp_of day k) s (from_to told told_after) passes → TellsMore told told_after
   told_along k s told told_after [] is = tells_of_falls (boarding s orders ceilings) choice told told_after is
   told_along k s told told_after (p ∷ ps) is =
       tells_from told (told ++ schools_of p.pass.falls) told_after (schools_of p.pass.falls) refl
@@ -47,20 +51,12 @@ module _ (orders : List CallOrder) (ceilings : List ℕ) (day : ℕ) (choice : L
       (told ++ schools_of p.pass.falls) told_after ps
       is.3)
 
-  pub told_more : (s : State) (told told_after : List ℕ)
-      → TellsOfPasses orders ceilings day s choice told told_after → TellsMore told told_after
-  told_more s told told_after is = told_along 1 s told told_after is.0 is.1
-
-  -- nothing yet
-  pub told_nothing : (s : State) (told : List ℕ) → TellsOfPasses orders ceilings day s choice told told
-  told_nothing s told = ([], none_told (boarding s orders ceilings) choice told)
-
   -- of the passes so far and of falls of the next one
   pub told_on : (k : ℕ) (s : State) (first told told_after : List ℕ) (passes : List PassEnd) (now : State)
       → Earlier orders ceilings day k s passes now → AreChosenPasses orders ceilings day k s choice first passes
       → told ≡ first ++ schools_of_passes passes
       → TellsOfFalls (boarding now orders ceilings) choice told told_after
-      → TellsAlong orders ceilings day k s choice first told_after passes
+      → TellsAlong orders ceilings (stamp_of day k) s (from_to first told_after) passes
   told_on k s first told told_after [] now so_far chosen told_is is =
       rw (so_far, told_is ∙ append-nil first) at is
   told_on k s first told told_after (p ∷ ps) now so_far chosen told_is is = (
@@ -77,7 +73,7 @@ module _ (orders : List CallOrder) (ceilings : List ℕ) (day : ℕ) (choice : L
   told_all : (k : ℕ) (s : State) (told : List ℕ) (passes : List PassEnd) (evening : State)
       → Passes orders ceilings day k s passes evening → AreChosenPasses orders ceilings day k s choice told passes
       → (front : List PassEnd)
-      × TellsAlong orders ceilings day k s choice told (told ++ schools_of_passes passes) front
+      × TellsAlong orders ceilings (stamp_of day k) s (from_to told (told ++ schools_of_passes passes)) front
   told_all k s told [] evening are chosen = absurd are
   told_all k s told (p ∷ []) evening are chosen = (
     [],
@@ -88,10 +84,15 @@ module _ (orders : List CallOrder) (ceilings : List ℕ) (day : ℕ) (choice : L
       let own = schools_of p.pass.falls in
       let next = closing s orders p.pass.bars (stamp_of day k) in
       let more = told_all (k + 1) next (told ++ own) (q ∷ ps) evening are.2 chosen.1 in
-      let P = λ (l : List ℕ). TellsAlong orders ceilings day (k + 1) next choice (told ++ own) l more.0 in (
+      let P = λ (l : List ℕ). TellsAlong orders ceilings (stamp_of day (k + 1)) next (from_to (told ++ own) l) more.0
+      in (
         p ∷ more.0,
         (are.0, are.1, chosen.0, subst P (append_assoc told own (schools_of_passes (q ∷ ps))) more.1),
       )
+
+  -- nothing yet
+  pub told_nothing : (s : State) (told : List ℕ) → TellsOfPasses orders ceilings day s choice told told
+  told_nothing s told = ([], none_told (boarding s orders ceilings) choice told)
 
   pub told_to_the_end : (s : State) (told told_after : List ℕ) (passes : List PassEnd) (evening : State)
       → Passes orders ceilings day 1 s passes evening → AreChosenPasses orders ceilings day 1 s choice told passes
@@ -101,6 +102,12 @@ module _ (orders : List CallOrder) (ceilings : List ℕ) (day : ℕ) (choice : L
       let P = λ (l : List ℕ). TellsOfPasses orders ceilings day s choice told l in
       subst P (sym told_of) (told_all 1 s told passes evening are chosen)
 
+-- what was told before is a prefix of what is told of passes
+pub told_more : {s : State} {orders : List CallOrder} {ceilings : List ℕ} {day : ℕ} {choice : List ℕ → List ℕ → ℕ}
+    {told told_after : List ℕ} → TellsOfPasses orders ceilings day s choice told told_after → TellsMore told told_after
+told_more {s} {orders} {ceilings} {day} {choice} {told} {told_after} is =
+    told_along orders ceilings day choice 1 s told told_after is.0 is.1
+
 -- the same of a state that is seen as this one
 pub told_seen : (seen now : State) → seen ≡ now → (orders : List CallOrder) (ceilings : List ℕ)
     (choice : List ℕ → List ℕ → ℕ) (told told_after : List ℕ)
@@ -109,16 +116,16 @@ pub told_seen : (seen now : State) → seen ≡ now → (orders : List CallOrder
 told_seen seen now same orders ceilings choice told told_after =
     subst (λ (s : State). TellsOfFalls (boarding s orders ceilings) choice told told_after) same
 
-pub told_there : (s t : State) → s ≡ t → (orders : List CallOrder) (ceilings : List ℕ) (day : ℕ)
-    (choice : List ℕ → List ℕ → ℕ) (told told_after : List ℕ)
+pub told_there : {s t : State} → s ≡ t → {orders : List CallOrder} {ceilings : List ℕ} {day : ℕ}
+    {choice : List ℕ → List ℕ → ℕ} {told told_after : List ℕ}
     → TellsOfPasses orders ceilings day s choice told told_after
     → TellsOfPasses orders ceilings day t choice told told_after
-told_there s t same orders ceilings day choice told told_after =
+told_there same {orders} {ceilings} {day} {choice} {told} {told_after} =
     subst (λ (r : State). TellsOfPasses orders ceilings day r choice told told_after) same
 
 -- in the midst of the passes of a day
-module _ (keeps : Bool) (orders : List CallOrder) (ceilings : List ℕ) (day number : ℕ) (start now : State)
-    (choice choice_now : List ℕ → List ℕ → ℕ) (told told_now told_after : List ℕ) (kept : List PassEnd)
+module _ (keeps : Bool) {orders : List CallOrder} {ceilings : List ℕ} {day number : ℕ} {start now : State}
+    {choice choice_now : List ℕ → List ℕ → ℕ} {told told_now told_after : List ℕ} {kept : List PassEnd}
     (so_far : IsKeptOf (map (kept_end keeps))
     (PickedSoFar orders ceilings day number start now choice told told_now) kept)
     (same : choice_now ≡ choice) where
@@ -131,11 +138,11 @@ module _ (keeps : Bool) (orders : List CallOrder) (ceilings : List ℕ) (day num
             so_far.1.chosen so_far.1.told_of (subst P same is),
       )
 
-  pub told_behind_pass : (end : PassEnd) (after : RunningStates)
+  pub told_behind_pass : {end : PassEnd} {after : RunningStates}
       → IsKeptOf (kept_end keeps)
       (IsPassPicked orders ceilings (stamp_of day number) now choice_now told_now told_after after) end
       → TellsOfPasses orders ceilings day start choice told told_after
-  told_behind_pass end after picked =
+  told_behind_pass picked =
       told_in_pass
       (told_whole now orders ceilings choice_now told_now told_after picked.0.pass picked.1.made.ended.pass
       picked.1.told_of picked.1.chosen)

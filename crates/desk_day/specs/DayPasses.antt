@@ -14,6 +14,7 @@ use Rattle.day_state.specs.Along.{change_along}
 use Rattle.bar_fixpoint.specs.Runs.{schools_of}
 use Rattle.bar_fixpoint.specs.Chosen.{AreChosen, TellsOfFalls}
 use Rattle.round.specs.PassLaws.{KeepsPassLaws}
+use Rattle.desk_day.specs.Telling.{Telling, behind}
 
 -- the state in which the wishes at these places have become offered
 abbrev pub offered_along : List ℕ → Stamp → State → State
@@ -69,21 +70,21 @@ PassesKeepLaws orders ceilings day k s (pass ∷ rest) =
 abbrev pub TellsMore : List ℕ → List ℕ → Type 0
 TellsMore before after = (picks : List ℕ) × (after ≡ before ++ picks)
 
--- a picker told of the falls of these passes, each of which freed something, and then of falls of
--- the next one, which may have ended early
-abbrev pub TellsAlong : List CallOrder → List ℕ → ℕ → ℕ → State → (List ℕ → List ℕ → ℕ) → List ℕ
-    → List ℕ → List PassEnd → Type 0
-TellsAlong orders ceilings day k s choice told told_after [] =
-    TellsOfFalls (boarding s orders ceilings) choice told told_after
-TellsAlong orders ceilings day k s choice told told_after (pass ∷ rest) =
-    IsPassEnd s orders ceilings (stamp_of day k) pass
+-- a picker told of the falls of these passes, of which the first has this stamp and each freed
+-- something, and then of falls of the next one, which may have ended early
+abbrev pub TellsAlong : List CallOrder → List ℕ → Stamp → State → Telling → List PassEnd → Type 0
+TellsAlong orders ceilings stamp s telling [] =
+    TellsOfFalls (boarding s orders ceilings) telling.choice telling.before telling.after
+TellsAlong orders ceilings stamp s telling (pass ∷ rest) =
+    IsPassEnd s orders ceilings stamp pass
     × IsTrue (not (frees_nothing pass.freed))
-    × AreChosen (boarding s orders ceilings) choice told ceilings pass.pass.falls
-    × TellsAlong orders ceilings day (k + 1) (closing s orders pass.pass.bars (stamp_of day k))
-    choice (told ++ schools_of pass.pass.falls) told_after rest
+    × AreChosen (boarding s orders ceilings) telling.choice telling.before ceilings pass.pass.falls
+    × TellsAlong orders ceilings (stamp_of stamp.day (stamp.pass + 1))
+    (closing s orders pass.pass.bars stamp) (behind (schools_of pass.pass.falls) telling) rest
 
 -- what a picker told where memory ran out in a day whose passes begin with the opening s
 abbrev pub TellsOfPasses : List CallOrder → List ℕ → ℕ → State → (List ℕ → List ℕ → ℕ)
     → List ℕ → List ℕ → Type 0
 TellsOfPasses orders ceilings day s choice told told_after =
-    (passes : List PassEnd) × TellsAlong orders ceilings day 1 s choice told told_after passes
+    (passes : List PassEnd) × TellsAlong orders ceilings (stamp_of day 1) s
+    (record { before = told; after = told_after; choice = choice }) passes

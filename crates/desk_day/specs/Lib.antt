@@ -14,3 +14,4 @@ pub mod Idle
 pub mod Once
 pub mod Running
 pub mod KeptDays
+pub mod Telling

@@ -83,8 +83,9 @@ module _ (plan : Plan) (d : ℕ) (old new : DeskStates) (before after : Lent)
     undone = record { own = ends.undone; others = only.told; fits = ends.unfit };
     back = record {
       choice = choices ends.choice;
-      told = more (told_more plan.orders (ceilings_of old.present.dossier d) d (before.choice name)
-          (morning plan.terms d old.present) (before.told name) (after.told name) ends.undone);
+      told = more (told_more {s = morning plan.terms d old.present} {orders = plan.orders}
+          {ceilings = ceilings_of old.present.dossier d} {day = d} {choice = before.choice name}
+          {told = before.told name} {told_after = after.told name} ends.undone);
     };
   }
 

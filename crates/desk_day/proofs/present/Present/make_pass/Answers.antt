@@ -28,7 +28,7 @@ with_offered-requires-clause-offers g c =
     offers_within c.self.inside.state c.pass_keeping.new.state c.args.roster.now.orders
     c.in_ok-pass.ensures.pass.0.bars c.as_slice.result.now
     (ap (λ (t : State). t.dossier) c.in_ok-pass.ensures.pass.1.offers)
-    (c.as_slice.ensures ∙ offers_kept _ _ _ _ _ _ _ _ _ _ c.in_ok-pass.ensures.pass)
+    (c.as_slice.ensures ∙ offers_kept _ c.in_ok-pass.ensures.pass)
 
 pub returns-in_err-asked-clause-early : goal.returns-in_err-asked-clause-early
 returns-in_err-asked-clause-early g c =
@@ -44,7 +44,7 @@ returns-clause-offered g c =
     ap (λ (ms : List Mark). length ms) (sym c.marks.ensures.marks) ∙ c.marks.ensures.one_each in
     c.in_ok-pass.ensures.pass.1.offers
     ∙ sym (offered_there s s c.args.roster.now.orders bars offers c.args.stamp long refl
-    (offers_kept _ _ _ _ _ _ _ _ _ _ c.in_ok-pass.ensures.pass))
+    (offers_kept _ c.in_ok-pass.ensures.pass))
     ∙ ap (λ (t : State). offered_along offers c.args.stamp t) c.self.view_is
 
 pub returns-clause-asked : goal.returns-clause-asked
@@ -62,4 +62,4 @@ returns-clause-asked g c =
     (subst (λ (d : DossierRows). AreAsked d offers c.replace-before.result asked) there named) in
     subst (λ (t : State). AsksAfter t offers c.args.stamp asked) c.self.view_is
     (asks_after c.self.inside.unanswered asked s c.args.roster.now.orders bars offers c.args.stamp long
-    (offers_kept _ _ _ _ _ _ _ _ _ _ c.in_ok-pass.ensures.pass) c.self.invariant asks)
+    (offers_kept _ c.in_ok-pass.ensures.pass) c.self.invariant asks)

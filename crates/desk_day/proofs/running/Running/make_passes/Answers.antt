@@ -34,16 +34,16 @@ passes-init g c =
 
 pub passes-smaller : goal.passes-smaller
 passes-smaller g c =
-    picked_fewer _ _ _ _ _ _ _ _ _ _ _ _ _ _ _ _ c.passes.invariant.so_far c.in_ok-end.ensures.made
+    picked_fewer _ c.passes.invariant.so_far c.in_ok-end.ensures.made
     c.passes.invariant.choice c.in_ok-push.ensures.items (sym c.frees_nothing-is_last.ensures ∙ c.if-is_last.false)
 
 pub passes-preserved : goal.passes-preserved
 passes-preserved g c =
     let none = sym c.frees_nothing-is_last.ensures ∙ c.if-is_last.false in
     record {
-      so_far = picked_more _ _ _ _ _ _ _ _ _ _ _ _ _ _ _ _ c.passes.invariant.so_far c.in_ok-end.ensures.made
+      so_far = picked_more _ c.passes.invariant.so_far c.in_ok-end.ensures.made
           c.passes.invariant.choice c.in_ok-push.ensures.items none c.make_pass.ensures.dossier;
-      opening = picked_opening _ _ _ _ _ _ _ _ _ _ _ _ _ _ _ _ c.passes.invariant.so_far c.in_ok-end.ensures.made
+      opening = picked_opening _ c.passes.invariant.so_far c.in_ok-end.ensures.made
           c.passes.invariant.choice c.in_ok-push.ensures.items none;
       choice = c.make_pass.ensures.choice ∙ c.passes.invariant.choice;
     }
@@ -59,7 +59,7 @@ make_pass-requires g c =
 
 pub returns-then-is_last-clause-made : goal.returns-then-is_last-clause-made
 returns-then-is_last-clause-made g c =
-    picked_all _ _ _ _ _ _ _ _ _ _ _ _ _ _ _ _ c.passes.invariant.so_far c.in_ok-end.ensures.made
+    picked_all _ c.passes.invariant.so_far c.in_ok-end.ensures.made
     c.passes.invariant.choice c.in_ok-push.ensures.items (sym c.frees_nothing-is_last.ensures ∙ c.if-is_last.true)
 
 pub returns-then-is_last-clause-choice : goal.returns-then-is_last-clause-choice
@@ -73,7 +73,7 @@ returns-in_err-end-clause-made g c = IfOk-from_err _ _ c.from_residual.ensures.0
 
 pub returns-in_err-end-clause-early : goal.returns-in_err-end-clause-early
 returns-in_err-end-clause-early g c =
-    on_err _ (told_in_pass _ _ _ _ _ _ _ _ _ _ _ _ _ c.passes.invariant.so_far c.passes.invariant.choice
+    on_err _ (told_in_pass _ c.passes.invariant.so_far c.passes.invariant.choice
     c.in_err-end.ensures.early)
 
 pub returns-in_err-end-clause-choice : goal.returns-in_err-end-clause-choice
@@ -87,7 +87,7 @@ returns-in_err-push-clause-made g c = IfOk-from_err _ _ c.from_residual-in_err-p
 
 pub returns-in_err-push-clause-early : goal.returns-in_err-push-clause-early
 returns-in_err-push-clause-early g c =
-    on_err _ (told_behind_pass _ _ _ _ _ _ _ _ _ _ _ _ _ c.passes.invariant.so_far c.passes.invariant.choice _ _
+    on_err _ (told_behind_pass _ c.passes.invariant.so_far c.passes.invariant.choice
     c.in_ok-end.ensures.made)
 
 pub returns-in_err-push-clause-choice : goal.returns-in_err-push-clause-choice

@@ -36,8 +36,8 @@ returns-in_err-passes-clause-undone g c = ran_out _ _ c.from_residual-in_err-pas
     (record {
       unfit = c.in_ok-lapsed.ensures.fits;
       unopened = tt;
-      untold = told_more _ _ _ _ _ _ _ c.in_err-passes.ensures.early;
-      asked = told_there _ _ c.in_ok-lapsed.ensures.present _ _ _ _ _ _ c.in_err-passes.ensures.early;
+      untold = told_more c.in_err-passes.ensures.early;
+      asked = told_there c.in_ok-lapsed.ensures.present c.in_err-passes.ensures.early;
     })
 
 pub returns-in_err-passes-clause-dossier : goal.returns-in_err-passes-clause-dossier
@@ -54,7 +54,7 @@ returns-in_err-done-clause-undone g c =
       unfit = c.in_ok-lapsed.ensures.fits;
       unopened = tt;
       untold = (_, picked.told_of);
-      asked = told_there _ _ c.in_ok-lapsed.ensures.present _ _ _ _ _ _
+      asked = told_there c.in_ok-lapsed.ensures.present
           (told_to_the_end _ _ _ _ _ _ _ _ _ picked.made.passes picked.chosen picked.told_of);
     })
 
