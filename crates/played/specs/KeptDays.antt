@@ -34,14 +34,25 @@ abbrev pub IsPlayedKept : Bool → DossierRows → Option Terms → ℕ → Pick
 IsPlayedKept keeps d terms number who before kept after =
     IsKeptOf (kept_played keeps) (λ whole. IsPlayed d terms number who before whole after) kept
 
--- how the days of a dossier end that are asked for: they were played, and what an outcome has of
--- their records and of their end is kept of them; or memory ran out
-abbrev pub EndsWanted : {X E : Type 0} → Wanted → List CallOrder → DossierRows → Option Terms → Lent
-    → Lent → Result X E → (X → List DayRecord) → (X → Result DeskLeft Refusal) → Type 0
-EndsWanted wanted orders d terms before after result days end =
+-- what the days of a run go by: a dossier, its call orders and the terms of its offers
+pub record Grounds : Type 0 where
+  pub dossier : DossierRows
+  pub orders : List CallOrder
+  pub terms : Option Terms
+
+-- what days leave: their records, and the desk after them or the refusal that cut them short
+pub record DaysLeft : Type 0 where
+  pub days : List DayRecord
+  pub end : Result DeskLeft Refusal
+
+-- how the days that are asked for end: they were played, and what an outcome has of their records
+-- and of their end is kept of them; or memory ran out
+abbrev pub EndsWanted : {X E : Type 0} → Wanted → Grounds → Lent → Lent → Result X E
+    → (X → DaysLeft) → Type 0
+EndsWanted wanted by before after result left =
     MatchResult result
-    (λ x. EndsBy orders wanted.number
-    (λ played. IsPlayedKept (are_kept wanted.falls) d terms wanted.number wanted.who before played after)
-    (days x) (end x))
-    (λ _. BreaksDays (record { orders = orders; terms = terms; who = wanted.who }) wanted.number
-    (first_desk d) before after)
+    (λ x. EndsBy by.orders wanted.number
+    (λ played. IsPlayedKept (are_kept wanted.falls) by.dossier by.terms wanted.number wanted.who
+    before played after) (left x).days (left x).end)
+    (λ _. BreaksDays (record { orders = by.orders; terms = by.terms; who = wanted.who })
+    wanted.number (first_desk by.dossier) before after)

@@ -104,10 +104,15 @@ fn play_some<'a, 'd>(
     ensures there { AreThere pickers.new }
     ensures back { AreBack (lent (λ p. told p) (λ p. choice p) pickers.old)
         (lent (λ p. told p) (λ p. choice p) pickers.new) }
-    ensures ends { EndsWanted wanted orders.now.orders dossier.now (option_copied terms.entry)
+    ensures ends { EndsWanted wanted
+        (record {
+          dossier = dossier.now;
+          orders = orders.now.orders;
+          terms = option_copied terms.entry;
+        })
         (lent (λ p. told p) (λ p. choice p) pickers.old)
         (lent (λ p. told p) (λ p. choice p) pickers.new)
-        result (λ p. p.days.items) (λ p. p.end) }
+        result (λ p. record { days = p.days.items; end = p.end }) }
 {
     let (mut desk, roster) = DeskAlong::begin(alloc, dossier, orders)?.into_parts();
     let mut days = Vec::new(alloc);
@@ -187,10 +192,15 @@ pub fn play_wanted<'a, 'd>(
         (lent (λ p. told p) (λ p. choice p) pickers.new) }
     ensures idle { wanted.number ≡ 0 → IsUnasked (lent (λ p. told p) (λ p. choice p) pickers.old)
         (lent (λ p. told p) (λ p. choice p) pickers.new) result }
-    ensures ends { EndsWanted wanted orders.now.orders dossier.now (option_copied terms.entry)
+    ensures ends { EndsWanted wanted
+        (record {
+          dossier = dossier.now;
+          orders = orders.now.orders;
+          terms = option_copied terms.entry;
+        })
         (lent (λ p. told p) (λ p. choice p) pickers.old)
         (lent (λ p. told p) (λ p. choice p) pickers.new)
-        result (λ p. p.days.items) (λ p. p.end) }
+        result (λ p. record { days = p.days.items; end = p.end }) }
 {
     if wanted.number == 0 {
         return Ok(unplayed(alloc, dossier, orders));
