@@ -1,5 +1,5 @@
 -- A day whose chain is tested.
-use Rattle.std.proofs.Common.{◌≡◌, ◌∙◌, ℕ, ◌+◌, List, [], ◌∷◌, Option, None, Some, Result, Ok, Err, IfOk, IfSome, All}
+use Rattle.std.proofs.Common.{◌≡◌, ◌≢◌, ◌∙◌, ℕ, ◌+◌, List, [], ◌∷◌, Option, None, Some, Result, Ok, Err, IfOk, IfSome, All}
 use Rattle.std.proofs.Common.{ap, length, map, refl, subst, sym}
 use Rattle.std.specs.Prelude.{Vec}
 use Rattle.std.specs.declared.alloc.Global.{Global}
@@ -8,7 +8,7 @@ use Rattle.std.specs.List.{range_with_len}
 use Rattle.std.specs.Option.{option_or}
 use Rattle.admit_core.proofs.ChainLaws.{chains_tell_the_day, no_fault_where_valid}
 use Rattle.admit_core.specs.ChainLaws.{passes_told}
-use Rattle.admit_core.specs.Chains.{IsDayChain, closing_by, day_fault}
+use Rattle.admit_core.specs.Chains.{IsDayChain, closing_by, day_fault, passes_fault}
 use Rattle.admit_core.specs.Days.{IsDay, ceilings_of, first_evening, lapsed_on, morning, unfit_on}
 use Rattle.admit_core.specs.DossierRows.{DossierRows}
 use Rattle.admit_core.specs.State.{State, free_beds, seats_left}
@@ -31,7 +31,7 @@ use Rattle.intake.specs.Dated.{AreDatedFor}
 use Rattle.intake.specs.declared.terms.DatedTerms.{DatedTerms}
 use Rattle.modes.proofs.Writable.{finals_dated, first_known}
 use Rattle.modes.specs.CheckedDays.{StopsBy, TellsWhy}
-use Rattle.modes.specs.Checking.{EndsProof, IsRefused, IsReply, Replies, rejected_at, why_none, why_not}
+use Rattle.modes.specs.Checking.{EndsProof, IsRefused, IsReply, Replies, rejected_at, why_none, why_not, why_without}
 use Rattle.modes.specs.Replay.{CanBeDated, CanBeWritten}
 use Rattle.modes.specs.declared.exit.Exit.{Exit}
 use Rattle.modes.specs.declared.exit.Exit.TheVariants as exits
@@ -61,6 +61,25 @@ days_stay terms orders day old [] = refl
 days_stay terms orders day old (chain ∷ chains) =
     days_stay terms orders (day + 1) (evening_by terms orders day old chain) chains
     ∙ evening_stays terms orders day old chain
+
+-- why a day is refused whose chain has no pass
+pub without_pass : (terms : Option Terms) (orders : List CallOrder) (day : ℕ) (old : State) (chain : DayChain)
+    → chain.passes ≡ [] → why_not terms orders day old chain ≡ why_without terms day old chain
+without_pass terms orders day old chain none =
+    ap (λ (passes : List PassChain).
+    option_or (option_map (λ x. Unfit (unfit_refusal old.dossier day x)) (unfit_on terms day old))
+    (rejected_at (passes_fault orders (ceilings_of old.dossier day) day chain.next_row 1 (morning terms day old)
+    passes))) none
+
+never_none : (o : Option Why) (why : Why) → option_or o (Some why) ≡ None → ⊥
+never_none None why e = cc
+never_none (Some x) why e = cc
+
+-- a day that is proved has a pass
+pub has_pass : (terms : Option Terms) (orders : List CallOrder) (day : ℕ) (old : State) (chain : DayChain)
+    → why_not terms orders day old chain ≡ None → chain.passes ≢ []
+has_pass terms orders day old chain proved none =
+    never_none _ _ (sym (without_pass terms orders day old chain none) ∙ proved)
 
 -- where all answers fit, the chain's first fault tells why
 module _ (terms : Option Terms) (orders : List CallOrder) (day : ℕ) (old dawn : State) (ceilings : List ℕ)

@@ -1,5 +1,5 @@
 -- The mode `check`: the days of a chain, tested one after another.
-use Rattle.std.specs.Prelude.{◌≡◌, ℕ, ◌+◌, ◌<◌, List, [], ◌∷◌, ◌++◌, Option, Some, None, Result, Ok, Err}
+use Rattle.std.specs.Prelude.{◌≡◌, ◌≢◌, ℕ, ◌+◌, ◌<◌, List, [], ◌∷◌, ◌++◌, Option, Some, None, Result, Ok, Err}
 use Rattle.std.specs.Prelude.{MatchResult, Vec, codes, length, option_map, ⊤}
 use Rattle.std.specs.Fmt.{decimal}
 use Rattle.std.specs.Option.{option_or}
@@ -13,6 +13,7 @@ use Rattle.admit_core.specs.State.{State}
 use Rattle.admit_core.specs.declared.chain.Chain.{Chain}
 use Rattle.admit_core.specs.declared.chain.ChainFault.{ChainFault}
 use Rattle.admit_core.specs.declared.chain.CheckReason.{CheckReason}
+use Rattle.admit_core.specs.declared.chain.CheckReason.TheVariants.{PassMissing}
 use Rattle.admit_core.specs.declared.chain.DayChain.{DayChain}
 use Rattle.admit_core.specs.declared.ranking.CallOrder.{CallOrder}
 use Rattle.admit_core.specs.declared.records.Terms.{Terms}
@@ -47,6 +48,17 @@ abbrev pub why_not : Option Terms → List CallOrder → ℕ → State → DayCh
 why_not terms orders d old chain =
     option_or (option_map (λ x. Unfit (unfit_refusal old.dossier d x)) (unfit_on terms d old))
     (rejected_at (day_fault orders (ceilings_of old.dossier d) d (morning terms d old) chain))
+
+-- why a day is not proved whose chain has no pass
+abbrev pub why_without : Option Terms → ℕ → State → DayChain → Option Why
+why_without terms d old chain =
+    option_or (option_map (λ x. Unfit (unfit_refusal old.dossier d x)) (unfit_on terms d old))
+    (Some (Rejected (record { row = chain.next_row; reason = PassMissing })))
+
+-- the first of these days has a pass
+abbrev pub BeginsWithPass : List DayChain → Type 0
+BeginsWithPass [] = ⊥
+BeginsWithPass (chain ∷ chains) = chain.passes ≢ []
 
 -- why days from day d on are not all proved: by the first of them that is not
 abbrev pub why_none : Option Terms → List CallOrder → ℕ → State → List DayChain → Option Why

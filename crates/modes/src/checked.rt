@@ -1,5 +1,5 @@
 //! The mode `check`: the days of a chain, tested one after another.
-ghost use Rattle.std.specs.Prelude.{◌≡◌, ◌≤◌, ◌<◌, ◌^◌, [], All, IfErr, IfOk, IfSome, IsOk, OnErr, OnOk, length, option_copied};
+ghost use Rattle.std.specs.Prelude.{◌≡◌, ◌≢◌, ◌≤◌, ◌<◌, ◌^◌, [], All, Err, IfErr, IfOk, IfSome, Some, IsOk, OnErr, OnOk, length, option_copied};
 ghost use Rattle.admit_core.specs.Chains.{IsDayChain, day_fault};
 ghost use Rattle.admit_core.specs.Days.{first_evening};
 ghost use Rattle.admit_core.specs.Lapses.{AreTermsFor};
@@ -9,9 +9,11 @@ ghost use Rattle.certificate.specs.Grammar.{read};
 ghost use Rattle.certificate.specs.ProvedDays.{evening_after, evening_by};
 ghost use Rattle.desk_day.specs.RunDay.{IsStampedBy, KeepsStamps};
 ghost use Rattle.intake.specs.Dated.{AreDatedFor, terms_in};
-ghost use Rattle.modes.specs.CheckedDays.{KeepsIn, TellsWhy};
-ghost use Rattle.modes.specs.Checking.{EndsProof, IsChecked, Replies, proved_text, rejected_at, why_line, why_none, why_not};
+ghost use Rattle.modes.specs.CheckedDays.{KeepsIn, NamesSchool, TellsWhy};
+ghost use Rattle.modes.specs.Checking.{BeginsWithPass, EndsProof, IsChecked, Replies, proved_text, rejected_at};
+ghost use Rattle.modes.specs.Checking.{why_line, why_none, why_not, why_without};
 ghost use Rattle.modes.specs.Replay.{CanBeDated};
+ghost use Rattle.modes.specs.declared.unproved.Unproved.TheVariants as unproved;
 ghost use Rattle.modes.specs.declared.unproved.Why.TheVariants.{NoChain};
 
 use crate::job::terms_in;
@@ -19,10 +21,10 @@ use crate::led::Led;
 use crate::replay::push_final_lines;
 use crate::reply::{Reply, StopLine, done, told};
 use crate::unproved::{Unproved, Why};
-use admit_core::{DayChain, Dossier, OutOfMemory, Terms};
-use certificate::{ChainRefusal, CheckStop, Grounds, check_day_on, read_chain};
+use admit_core::{CheckReason, DayChain, Dossier, OutOfMemory, Terms};
+use certificate::{ChainRefusal, CheckStop, Grounds, Rejection, check_day_on, read_chain};
 use day_state::{DayState, MarkedWishes};
-use desk_day::{Present, ceilings_on};
+use desk_day::{DayRefusal, Present, ceilings_on};
 use intake::{DatedTerms, Input};
 use played::LastDesk;
 use std::alloc::Global;
@@ -53,7 +55,31 @@ fn check_morning(
     }
 }
 
-/// Tests the chain of a day from the evening before, and leaves the evening of the day.
+/// Why a day is refused whose chain has no pass: its first answer that does not fit, or else the
+/// pass that is missing. Whether there is memory for what lapses does not matter.
+fn refuse_day(
+    alloc: Global,
+    present: &mut Present<'_>,
+    terms: Option<&Terms>,
+    day: u32,
+    chain: &DayChain,
+) -> Why
+    requires terms { AreTermsFor present.old.dossier (option_copied terms) }
+    requires day { IsDayNumber day }
+    ensures why { why_without (option_copied terms.entry) day present.old chain.now ≡ Some result }
+    ensures school { NamesSchool (length present.old.dossier.schools) result }
+{
+    match present.begin_day(alloc, terms, day) {
+        Err(DayRefusal::Unfit(refusal)) => Why::Unfit(refusal),
+        _ => Why::Rejected(Rejection {
+            row: chain.next_row,
+            reason: CheckReason::PassMissing,
+        }),
+    }
+}
+
+/// Tests the chain of a day from the evening before, and leaves the evening of the day. A day whose
+/// chain has no pass is refused whatever memory there is.
 fn check_next(
     alloc: Global,
     grounds: &Grounds<'_, '_>,
@@ -72,8 +98,12 @@ fn check_next(
     ensures evening { OnOk result (present.new ≡ evening_by (option_copied terms.entry)
         grounds.now.orders day present.old chain.now) }
     ensures stamps { OnOk result (KeepsStamps day present.old present.new) }
+    ensures memory { result ≡ Err unproved.OutOfMemory → chain.now.passes ≢ [] }
     ensures school { IfErr result (KeepsIn (length present.old.dossier.schools)) }
 {
+    if chain.passes.is_empty() {
+        return Err(Unproved::Refused(refuse_day(alloc, present, terms, day, chain)));
+    }
     let ceilings = ceilings_on(alloc, present.now().dossier(), day)?;
     let _ = present.begin_day(alloc, terms, day)?;
     check_morning(alloc, grounds, &ceilings, present, day, chain)
@@ -100,6 +130,7 @@ fn check_days(
         present.new.marks) }
     ensures school { IfErr result (KeepsIn (length present.old.dossier.schools)) }
     ensures always { days.now ≡ [] → IsOk result }
+    ensures memory { result ≡ Err unproved.OutOfMemory → BeginsWithPass days.now }
 {
     for (place, chain) in days.iter().enumerate() {
         check_next(alloc, grounds, terms, present, place as u32 + 1, chain)?;

@@ -1,12 +1,13 @@
-use Rattle.std.proofs.Common.{◌∙◌, ◌+◌, ◌≤◌, ap, arith, drop, subst, sym}
+use Rattle.std.proofs.Common.{◌∙◌, ◌+◌, ◌≤◌, Err, ap, arith, drop, subst, sym}
+use Rattle.std.proofs.lemmas.Result.{err_from_is_err_and}
 use Rattle.std.specs.Option.{option_copied}
 use Rattle.admit_core.specs.DossierRows.{DossierRows}
 use Rattle.admit_core.specs.Lapses.{AreTermsFor}
 use Rattle.admit_core.specs.State.{State}
 use Rattle.certificate.proofs.Lowering.{drop_item}
 use Rattle.certificate.specs.ProvedDays.{evening_after}
-use Rattle.modes.specs.Checking.{why_none}
-use Rattle.modes.proofs.CheckedDay.{days_go_on, evening_goes_on, evening_stays}
+use Rattle.modes.specs.Checking.{BeginsWithPass, why_none}
+use Rattle.modes.proofs.CheckedDay.{days_go_on, evening_goes_on, evening_stays, has_pass}
 use Rattle.modes.proofs.checked.check_days.Goals as goal
 
 pub check_next-requires-clause-same : goal.check_next-requires-clause-same
@@ -39,9 +40,19 @@ loop-place-preserved c =
       dossier = ap (λ (t : State). t.dossier) after.evening
           ∙ evening_stays terms orders (i + 1) s chain ∙ inv.dossier;
       stamped = λ all. after.stamps 366 within (inv.stamped all);
+      begins = λ more. inv.begins (subst BeginsWithPass (sym here)
+          (has_pass terms orders (i + 1) s chain after.found));
     }
 
 pub check_next-requires-clause-day : goal.check_next-requires-clause-day
 check_next-requires-clause-day c =
     let within = c.loop-place-test.true in
     record { from_one = omega arith; at_most = omega (arith, c.requires.days) }
+
+pub returns-in_err-check_next-clause-memory : goal.returns-in_err-check_next-clause-memory
+returns-in_err-check_next-clause-memory c =
+    let here = drop_item c.args.days.now c.loop-place.place c.index-days-place.result c.loop-place-test.true
+    c.index-days-place.is in
+    let told = err_from_is_err_and c.from_residual.result c.from_residual.ensures.1 in
+    λ ended. c.loop-place.invariant.begins (subst BeginsWithPass (sym here)
+    (c.in_err-check_next.ensures.memory (ap Err (sym told.2) ∙ sym told.1 ∙ ended)))

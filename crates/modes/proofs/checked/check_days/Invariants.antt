@@ -2,7 +2,7 @@ use Rattle.std.proofs.Common.{◌≡◌, ◌+◌, All, drop}
 use Rattle.std.specs.Option.{option_copied}
 use Rattle.certificate.specs.ProvedDays.{evening_after}
 use Rattle.desk_day.specs.RunDay.{IsStampedBy}
-use Rattle.modes.specs.Checking.{why_none}
+use Rattle.modes.specs.Checking.{BeginsWithPass, why_none}
 use Rattle.modes.proofs.checked.check_days.Given as goal
 
 abbrev pub invariant-loop-place : goal.invariant-loop-place
@@ -16,4 +16,5 @@ invariant-loop-place l =
           ≡ evening_after terms orders (l.place + 1) l.present rest;
       dossier : l.present.dossier ≡ l.fn.present.dossier;
       stamped : All (IsStampedBy 366) l.fn.present.marks → All (IsStampedBy 366) l.present.marks;
+      begins : BeginsWithPass rest → BeginsWithPass l.days;
     }
