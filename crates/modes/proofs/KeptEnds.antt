@@ -23,7 +23,7 @@ use Rattle.modes.specs.Asking.{ArePicks, Asked, BreaksEnding, BreaksLent, Breaks
 use Rattle.modes.specs.Beds.{IsAsked}
 use Rattle.modes.specs.Endings.{EndsAfter, EndsWith, IsEndOf, IsRefusedWith, lines_before}
 use Rattle.modes.specs.Explained.{IsExplained}
-use Rattle.modes.specs.Jobs.{Seen, keeps_falls, picker_after}
+use Rattle.modes.specs.Jobs.{JobView, keeps_falls, picker_after}
 use Rattle.modes.specs.declared.exit.Exit.{Exit}
 use Rattle.modes.specs.declared.reply.Reply.{Reply}
 
@@ -62,16 +62,16 @@ module _ (keeps : Bool) (d : DossierRows) (ids : Ids) (orders : List CallOrder) 
 abbrev kept_in : Mode → Played → Played
 kept_in mode whole = kept_played (keeps_falls mode) whole
 
-module _ (seen : Seen) (whole : Played) where
+module _ (view : JobView) (whole : Played) where
   end_whole : (mode : Mode) (desk : DeskStates) (exit : Exit) (text : List ℕ)
-      → IsEndOf mode seen (kept_in mode whole) desk exit text → IsEndOf mode seen whole desk exit text
+      → IsEndOf mode view (kept_in mode whole) desk exit text → IsEndOf mode view whole desk exit text
   end_whole modes.Replay desk exit text ends =
-      subst (λ (p : Played). IsEndOf modes.Replay seen p desk exit text) (played_whole whole) ends
+      subst (λ (p : Played). IsEndOf modes.Replay view p desk exit text) (played_whole whole) ends
   end_whole modes.Chain desk exit text ends =
-      subst (λ (p : Played). IsEndOf modes.Chain seen p desk exit text) (played_whole whole) ends
+      subst (λ (p : Played). IsEndOf modes.Chain view p desk exit text) (played_whole whole) ends
   end_whole (modes.Explain wish) desk exit text ends = (
     ends.0,
-    explained_whole (keeps_falls (modes.Explain wish)) seen.dossier seen.index whole.orders whole.days desk
+    explained_whole (keeps_falls (modes.Explain wish)) view.dossier view.index whole.orders whole.days desk
         wish text ends.1,
   )
   end_whole (modes.Beds school) desk exit text ends =
@@ -82,35 +82,35 @@ module _ (seen : Seen) (whole : Played) where
           place = tells.place;
           pass = tells.pass;
           figures = tells.figures;
-          is_asked = asked_whole keeps seen.dossier seen.index whole.orders whole.days desk school tells.place
+          is_asked = asked_whole keeps view.dossier view.index whole.orders whole.days desk school tells.place
               tells.pass tells.is_asked;
           is_text = tells.is_text;
         },
       )
   end_whole (modes.Sample number) desk exit text ends =
-      subst (λ (p : Played). IsEndOf (modes.Sample number) seen p desk exit text) (played_whole whole) ends
+      subst (λ (p : Played). IsEndOf (modes.Sample number) view p desk exit text) (played_whole whole) ends
   end_whole _ desk exit text ends = ends
 
-  lines_whole : (mode : Mode) → lines_before mode seen (kept_in mode whole) ≡ lines_before mode seen whole
-  lines_whole modes.Replay = ap (λ (p : Played). lines_before modes.Replay seen p) (played_whole whole)
+  lines_whole : (mode : Mode) → lines_before mode view (kept_in mode whole) ≡ lines_before mode view whole
+  lines_whole modes.Replay = ap (λ (p : Played). lines_before modes.Replay view p) (played_whole whole)
   lines_whole _ = refl
 
   with_whole : (end : Result DeskStates Refusal) (exit : Exit) (text : List ℕ)
-      → EndsWith end seen (kept_in seen.request.mode whole) exit text → EndsWith end seen whole exit text
-  with_whole (Ok desk) exit text ends = end_whole seen.request.mode desk exit text ends
+      → EndsWith end view (kept_in view.request.mode whole) exit text → EndsWith end view whole exit text
+  with_whole (Ok desk) exit text ends = end_whole view.request.mode desk exit text ends
   with_whole (Err refusal) exit text ends =
-      subst (λ (lines : List ℕ). IsRefusedWith refusal lines exit text) (lines_whole seen.request.mode) ends
+      subst (λ (lines : List ℕ). IsRefusedWith refusal lines exit text) (lines_whole view.request.mode) ends
 
   -- what the picker tells that is lent
   picks_whole : (mode : Mode) (desk : DeskStates) (before : Asked) (picks : List ℕ)
-      → ArePicks mode seen (kept_in mode whole) desk before picks → ArePicks mode seen whole desk before picks
+      → ArePicks mode view (kept_in mode whole) desk before picks → ArePicks mode view whole desk before picks
   picks_whole (modes.Beds school) desk before picks are =
       let keeps = keeps_falls (modes.Beds school) in
       record {
         place = are.place;
         pass = are.pass;
         figures = are.figures;
-        is_asked = asked_whole keeps seen.dossier seen.index whole.orders whole.days desk school are.place are.pass
+        is_asked = asked_whole keeps view.dossier view.index whole.orders whole.days desk school are.place are.pass
             are.is_asked;
         are_figures = are.are_figures;
         tells = are.tells;
@@ -118,47 +118,47 @@ module _ (seen : Seen) (whole : Played) where
   picks_whole _ desk before picks are = are
 
   lent_whole : (name : Option PickerName) (desk : DeskStates) (before after : Lent)
-      → TellsLent name (ArePicks seen.request.mode seen (kept_in seen.request.mode whole) desk) before after
-      → TellsLent name (ArePicks seen.request.mode seen whole desk) before after
+      → TellsLent name (ArePicks view.request.mode view (kept_in view.request.mode whole) desk) before after
+      → TellsLent name (ArePicks view.request.mode view whole desk) before after
   lent_whole None desk before after tells = tt
   lent_whole (Some name) desk before after tells =
-      (tells.0, picks_whole seen.request.mode desk _ tells.0 tells.1, tells.2)
+      (tells.0, picks_whole view.request.mode desk _ tells.0 tells.1, tells.2)
 
   tells_whole : (end : Result DeskStates Refusal) (before after : Lent)
-      → TellsAfter end seen (kept_in seen.request.mode whole) before after → TellsAfter end seen whole before after
-  tells_whole (Ok desk) before after tells = lent_whole (picker_after seen.request) desk before after tells
+      → TellsAfter end view (kept_in view.request.mode whole) before after → TellsAfter end view whole before after
+  tells_whole (Ok desk) before after tells = lent_whole (picker_after view.request) desk before after tells
   tells_whole (Err refusal) before after tells = tells
 
   -- what it told where memory ran out
   broken_whole : (mode : Mode) (desk : DeskStates) (before : Asked) (told : List ℕ)
-      → BreaksPicks mode seen (kept_in mode whole) desk before told → BreaksPicks mode seen whole desk before told
+      → BreaksPicks mode view (kept_in mode whole) desk before told → BreaksPicks mode view whole desk before told
   broken_whole (modes.Beds school) desk before told (inl same) = inl same
   broken_whole (modes.Beds school) desk before told (inr breaks) =
       let keeps = keeps_falls (modes.Beds school) in
       inr (record {
         place = breaks.place;
         pass = breaks.pass;
-        is_asked = asked_whole keeps seen.dossier seen.index whole.orders whole.days desk school breaks.place
+        is_asked = asked_whole keeps view.dossier view.index whole.orders whole.days desk school breaks.place
             breaks.pass breaks.is_asked;
         breaks = breaks.breaks;
       })
   broken_whole _ desk before told breaks = breaks
 
   broken_lent : (name : Option PickerName) (desk : DeskStates) (before after : Lent)
-      → BreaksLent name (BreaksPicks seen.request.mode seen (kept_in seen.request.mode whole) desk) before after
-      → BreaksLent name (BreaksPicks seen.request.mode seen whole desk) before after
+      → BreaksLent name (BreaksPicks view.request.mode view (kept_in view.request.mode whole) desk) before after
+      → BreaksLent name (BreaksPicks view.request.mode view whole desk) before after
   broken_lent None desk before after breaks = tt
   broken_lent (Some name) desk before after breaks =
-      broken_whole seen.request.mode desk _ (after.told name) breaks
+      broken_whole view.request.mode desk _ (after.told name) breaks
 
   breaks_whole : (end : Result DeskStates Refusal) (before after : Lent)
-      → BreaksEnding end seen (kept_in seen.request.mode whole) before after → BreaksEnding end seen whole before after
-  breaks_whole (Ok desk) before after breaks = broken_lent (picker_after seen.request) desk before after breaks
+      → BreaksEnding end view (kept_in view.request.mode whole) before after → BreaksEnding end view whole before after
+  breaks_whole (Ok desk) before after breaks = broken_lent (picker_after view.request) desk before after breaks
   breaks_whole (Err refusal) before after breaks = breaks
 
   kept_after : {E : Type 0} (between after : Lent) (result : Result Reply E)
-      → EndsAfter whole.end seen (kept_in seen.request.mode whole) between after result
-      → EndsAfter whole.end seen whole between after result
+      → EndsAfter whole.end view (kept_in view.request.mode whole) between after result
+      → EndsAfter whole.end view whole between after result
   kept_after between after result ends = record {
     ends = IfOk-weaker result _ _ (λ reply is. with_whole whole.end reply.exit reply.text.items is) ends.ends;
     tells = IfOk-weaker result _ _ (λ reply is. tells_whole whole.end between after is) ends.tells;
@@ -167,9 +167,10 @@ module _ (seen : Seen) (whole : Played) where
   }
 
 -- how a run ends after days of which its mode keeps what it tells
-pub ends_after_whole : {E : Type 0} (seen : Seen) (kept whole : Played) (between after : Lent) (result : Result Reply E)
-    → kept ≡ kept_played (keeps_falls seen.request.mode) whole
-    → EndsAfter kept.end seen kept between after result → EndsAfter whole.end seen whole between after result
-ends_after_whole seen kept whole between after result same ends =
-    kept_after seen whole between after result
-    (subst (λ (p : Played). EndsAfter p.end seen p between after result) same ends)
+pub ends_after_whole : {E : Type 0} (view : JobView) (kept whole : Played) (between after : Lent)
+    (result : Result Reply E)
+    → kept ≡ kept_played (keeps_falls view.request.mode) whole
+    → EndsAfter kept.end view kept between after result → EndsAfter whole.end view whole between after result
+ends_after_whole view kept whole between after result same ends =
+    kept_after view whole between after result
+    (subst (λ (p : Played). EndsAfter p.end view p between after result) same ends)

@@ -26,7 +26,7 @@ use Rattle.request.specs.Modes.{runs_days}
 use Rattle.request.specs.Request.{IsRequest}
 use Rattle.request.specs.declared.request.Request.{Request}
 use Rattle.modes.specs.Endings.{CanBeEnded, CanEnd}
-use Rattle.modes.specs.Jobs.{Seen, days_of}
+use Rattle.modes.specs.Jobs.{JobView, days_of}
 use Rattle.modes.specs.Replay.{CanBeDated, CanBeWritten}
 use Rattle.modes.proofs.Writable.{kept_written, played_written}
 
@@ -35,17 +35,17 @@ few_days request is = elim (cases_Bool (runs_days request.mode))
     [ inl runs ↦ rw runs is.days | inr none ↦ rw none (omega arith) ]
 
 -- the days that came about can be written, and so can the evening after them
-pub written : (seen : Seen) (played : Played) → CanEnd seen played
-    → All (CanBeWritten seen.dossier seen.dated) played.days × ForOk played.end
-    (λ desk. CanBeDated seen.dated desk.present)
-written seen played can =
+pub written : (view : JobView) (played : Played) → CanEnd view played
+    → All (CanBeWritten view.dossier view.dated) played.days × ForOk played.end
+    (λ desk. CanBeDated view.dated desk.present)
+written view played can =
     let whole = can.plays.0 in
     let all =
-    played_written seen.dossier seen.dated (days_of seen.request) seen.request.picker can.before whole can.after
-    (few_days seen.request can.request) can.dated can.plays.1 in
-    subst (λ (p : Played). All (CanBeWritten seen.dossier seen.dated) p.days
-    × ForOk p.end (λ desk. CanBeDated seen.dated desk.present)) (sym can.plays.2)
-    (kept_written can.keeps seen.dossier seen.dated whole.days all.0, all.1)
+    played_written view.dossier view.dated (days_of view.request) view.request.picker can.before whole can.after
+    (few_days view.request can.request) can.dated can.plays.1 in
+    subst (λ (p : Played). All (CanBeWritten view.dossier view.dated) p.days
+    × ForOk p.end (λ desk. CanBeDated view.dated desk.present)) (sym can.plays.2)
+    (kept_written can.keeps view.dossier view.dated whole.days all.0, all.1)
 
 as_many : (terms : Option Terms) (number : ℕ) (days : List DayRecord) (last : DeskStates)
     (end : Result DeskStates Refusal) → DaysEndAfter terms number days last end
@@ -71,17 +71,17 @@ desk_at_first terms number days last (Ok found) first plan before lead ends desk
 desk_at_first terms number days last (Err refusal) first plan before lead ends desk same none = absurd (cc)
 
 -- the days led to a desk
-pub ends_on : (seen : Seen) (played : Played) (desk : DeskStates) → CanEnd seen played → played.end ≡ Ok desk
-    → CanBeEnded seen played desk
-ends_on seen played desk can same =
+pub ends_on : (view : JobView) (played : Played) (desk : DeskStates) → CanEnd view played → played.end ≡ Ok desk
+    → CanBeEnded view played desk
+ends_on view played desk can same =
     let whole = can.plays.0 in
     let plays = can.plays.1 in
-    let terms = terms_in seen.dated in
-    let number = days_of seen.request in
-    let who = seen.request.picker in
+    let terms = terms_in view.dated in
+    let number = days_of view.request in
+    let who = view.request.picker in
     let led : whole.end ≡ Ok desk = ap (λ (p : Played). p.end) (sym can.plays.2) ∙ same in
-    let all = written seen played can in
-    subst (λ (p : Played). CanBeEnded seen p desk) (sym can.plays.2) (record {
+    let all = written view played can in
+    subst (λ (p : Played). CanBeEnded view p desk) (sym can.plays.2) (record {
       request = can.request;
       named = can.named;
       index = can.index;
@@ -90,29 +90,30 @@ ends_on seen played desk can same =
       number =
           length-map whole.days (kept_day can.keeps)
           ∙ as_many terms number whole.days plays.last whole.end plays.ends desk led;
-      days = subst (λ (p : Played). All (CanBeWritten seen.dossier seen.dated) p.days) can.plays.2 all.0;
+      days = subst (λ (p : Played). All (CanBeWritten view.dossier view.dated) p.days) can.plays.2 all.0;
       offers = all.1 desk same;
-      last = desk_after_kept can.keeps seen.dossier whole.orders whole.days desk
-          (desk_played seen.dossier terms number who can.before whole can.after plays desk led);
-      idle = desk_at_first terms number whole.days plays.last whole.end (first_desk seen.dossier)
+      last = desk_after_kept can.keeps view.dossier whole.orders whole.days desk
+          (desk_played view.dossier terms number who can.before whole can.after plays desk led);
+      idle = desk_at_first terms number whole.days plays.last whole.end (first_desk view.dossier)
           (plan_of terms who whole) can.before plays.days plays.ends desk led;
     })
 
 -- the same of what is kept of the days then
-pub ends_led : (seen : Seen) (played : Played) (desk : DeskStates) → CanEnd seen played → played.end ≡ Ok desk
-    → CanBeEnded seen (record { orders = played.orders; days = played.days; end = Ok desk }) desk
-ends_led seen played desk can same =
-    subst (λ (end : Result DeskStates Refusal). CanBeEnded seen
+pub ends_led : (view : JobView) (played : Played) (desk : DeskStates) → CanEnd view played → played.end ≡ Ok desk
+    → CanBeEnded view (record { orders = played.orders; days = played.days; end = Ok desk }) desk
+ends_led view played desk can same =
+    subst (λ (end : Result DeskStates Refusal). CanBeEnded view
     (record { orders = played.orders; days = played.days; end = end }) desk) same
-    (ends_on seen played desk can same)
+    (ends_on view played desk can same)
 
 -- and of call orders of another name
-pub ends_led_by : (seen : Seen) (one other : List CallOrder) (days : List DayRecord) (end : Result DeskStates Refusal)
-    (desk : DeskStates) → CanEnd seen (record { orders = other; days = days; end = end }) → end ≡ Ok desk → one ≡ other
-    → CanBeEnded seen (record { orders = one; days = days; end = Ok desk }) desk
-ends_led_by seen one other days end desk can is same =
-    subst (λ (o : List CallOrder). CanBeEnded seen (record { orders = o; days = days; end = Ok desk }) desk) (sym same)
-    (ends_led seen (record { orders = other; days = days; end = end }) desk can is)
+pub ends_led_by : (view : JobView) (one other : List CallOrder) (days : List DayRecord)
+    (end : Result DeskStates Refusal)
+    (desk : DeskStates) → CanEnd view (record { orders = other; days = days; end = end }) → end ≡ Ok desk → one ≡ other
+    → CanBeEnded view (record { orders = one; days = days; end = Ok desk }) desk
+ends_led_by view one other days end desk can is same =
+    subst (λ (o : List CallOrder). CanBeEnded view (record { orders = o; days = days; end = Ok desk }) desk) (sym same)
+    (ends_led view (record { orders = other; days = days; end = end }) desk can is)
 
 -- what is found by its id is one of so many
 pub found_within : (ids : List ℕ) (n id place : ℕ) → length ids ≡ n → position (nat_eq id) ids ≡ Some place → place < n

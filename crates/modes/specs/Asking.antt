@@ -8,7 +8,7 @@ use Rattle.request.specs.declared.modes.Mode.{Mode}
 use Rattle.request.specs.declared.modes.Mode.TheVariants.{Beds, Market}
 use Rattle.request.specs.declared.pickers.PickerName.{PickerName}
 use Rattle.modes.specs.Beds.{BreaksFigures, PicksForFigures}
-use Rattle.modes.specs.Jobs.{Seen, picker_after}
+use Rattle.modes.specs.Jobs.{JobView, picker_after}
 use Rattle.modes.specs.Market.{BreaksMarket, PicksForMarket}
 
 -- a picker: what it has told, and what it answers, by what it has told and the places it is asked
@@ -21,13 +21,13 @@ abbrev pub asked : Lent → PickerName → Asked
 asked lent name = record { told = lent.told name; choice = lent.choice name }
 
 -- what the picker that each mode asks tells in the ending; most modes ask nobody
-abbrev pub ArePicks : Mode → Seen → Played → DeskStates → Asked → List ℕ → Type 0
-ArePicks (Beds school) seen played desk before picks =
-    PicksForFigures seen.dossier seen.index played.orders played.days desk school before.choice
+abbrev pub ArePicks : Mode → JobView → Played → DeskStates → Asked → List ℕ → Type 0
+ArePicks (Beds school) view played desk before picks =
+    PicksForFigures view.dossier view.index played.orders played.days desk school before.choice
     before.told picks
-ArePicks Market seen played desk before picks =
-    PicksForMarket seen.dossier played.orders before.choice before.told picks
-ArePicks _ seen played desk before picks = picks ≡ []
+ArePicks Market view played desk before picks =
+    PicksForMarket view.dossier played.orders before.choice before.told picks
+ArePicks _ view played desk before picks = picks ≡ []
 
 -- these are the picks that a picker told of
 abbrev pub TellsPicks : (List ℕ → Type 0) → List ℕ → List ℕ → Type 0
@@ -40,20 +40,20 @@ TellsLent (Some name) Picks before after =
     TellsPicks (Picks (asked before name)) (before.told name) (after.told name)
 
 -- what is told after the days: nothing where they were cut short
-abbrev pub TellsAfter : Result DeskStates Refusal → Seen → Played → Lent → Lent → Type 0
-TellsAfter (Ok desk) seen played =
-    TellsLent (picker_after seen.request) (ArePicks seen.request.mode seen played desk)
-TellsAfter (Err refusal) seen played = Untold
+abbrev pub TellsAfter : Result DeskStates Refusal → JobView → Played → Lent → Lent → Type 0
+TellsAfter (Ok desk) view played =
+    TellsLent (picker_after view.request) (ArePicks view.request.mode view played desk)
+TellsAfter (Err refusal) view played = Untold
 
 -- what the picker that each mode asks told where memory ran out in the ending: a beginning of what
 -- the ending would have told it
-abbrev pub BreaksPicks : Mode → Seen → Played → DeskStates → Asked → List ℕ → Type 0
-BreaksPicks (Beds school) seen played desk before told =
-    BreaksFigures seen.dossier seen.index played.orders played.days desk school before.choice
+abbrev pub BreaksPicks : Mode → JobView → Played → DeskStates → Asked → List ℕ → Type 0
+BreaksPicks (Beds school) view played desk before told =
+    BreaksFigures view.dossier view.index played.orders played.days desk school before.choice
     before.told told
-BreaksPicks Market seen played desk before told =
-    BreaksMarket seen.dossier played.orders before.choice before.told told
-BreaksPicks _ seen played desk before told = told ≡ before.told
+BreaksPicks Market view played desk before told =
+    BreaksMarket view.dossier played.orders before.choice before.told told
+BreaksPicks _ view played desk before told = told ≡ before.told
 
 -- what the picker that is lent told then, where one is
 abbrev pub BreaksLent : Option PickerName → (Asked → List ℕ → Type 0) → Lent → Lent → Type 0
@@ -61,10 +61,10 @@ BreaksLent None Breaks before after = ⊤
 BreaksLent (Some name) Breaks before after = Breaks (asked before name) (after.told name)
 
 -- what was told where memory ran out after the days
-abbrev pub BreaksEnding : Result DeskStates Refusal → Seen → Played → Lent → Lent → Type 0
-BreaksEnding (Ok desk) seen played =
-    BreaksLent (picker_after seen.request) (BreaksPicks seen.request.mode seen played desk)
-BreaksEnding (Err refusal) seen played = Untold
+abbrev pub BreaksEnding : Result DeskStates Refusal → JobView → Played → Lent → Lent → Type 0
+BreaksEnding (Ok desk) view played =
+    BreaksLent (picker_after view.request) (BreaksPicks view.request.mode view played desk)
+BreaksEnding (Err refusal) view played = Untold
 
 -- no picker but the one that is lent is asked
 abbrev pub OthersUntold : Option PickerName → Lent → Lent → Type 0

@@ -65,15 +65,15 @@ abbrev pub terms_of : Job → Option Terms
 terms_of job = terms_in (dated_of job)
 
 -- what the modes see of a job: no tables, which are dropped before the days
-pub record Seen : Type 0 where
+pub record JobView : Type 0 where
   pub request : Request
   pub dossier : DossierRows
   pub index : Ids
   pub chain : List ℕ
   pub dated : Option DatedTerms
 
-abbrev pub seen_by : Request → Input → Option DatedTerms → Seen
-seen_by request input dated =
+abbrev pub view_of : Request → Input → Option DatedTerms → JobView
+view_of request input dated =
     record {
       request = request;
       dossier = input.dossier;
@@ -82,7 +82,7 @@ seen_by request input dated =
       dated = dated;
     }
 
-abbrev pub seen_of : Job → Seen
+abbrev pub seen_of : Job → JobView
 seen_of job =
     record {
       request = job.request;

@@ -8,7 +8,7 @@ ghost use Rattle.modes.specs.Beds.{BreaksFigures, BreaksFiguring, IsOnlyText, Is
 ghost use Rattle.modes.specs.Endings.{IsDoneSaying};
 ghost use Rattle.played.specs.LastDays.{IsDeskAfter};
 
-use crate::led::Led;
+use crate::all_played::AllPlayed;
 use crate::reply::{Reply, done};
 use admit_core::{DayRecord, Dossier, OutOfMemory};
 use bar_fixpoint::Picker;
@@ -142,29 +142,29 @@ fn school_text(
 pub(crate) fn needed(
     alloc: Global,
     input: &Input,
-    led: Led<'_, '_>,
+    played: AllPlayed<'_, '_>,
     school: u32,
     picker: &mut dyn Picker,
 ) -> Result<Reply, OutOfMemory>
     requires named { IsTrue (is_among school input.now.index.schools) }
-    requires some_day { 0 < length led.days.items }
+    requires some_day { 0 < length played.days.items }
     requires desk { IsDeskAfter
-        input.now.dossier led.last.orders led.days.items led.last.desk }
+        input.now.dossier played.last.orders played.days.items played.last.desk }
 
     ensures text { IfOk result (λ reply. IsDoneSaying
-        (TellsFigures input.now.dossier input.now.index led.entry.last.orders
-        led.entry.days.items led.entry.last.desk school)
+        (TellsFigures input.now.dossier input.now.index played.entry.last.orders
+        played.entry.days.items played.entry.last.desk school)
         reply.exit reply.text.items) }
     ensures picks { IfOk result (λ _. TellsPicks
-        (PicksForFigures input.now.dossier input.now.index led.entry.last.orders
-        led.entry.days.items led.entry.last.desk school (choice picker.old) (told picker.old))
+        (PicksForFigures input.now.dossier input.now.index played.entry.last.orders
+        played.entry.days.items played.entry.last.desk school (choice picker.old) (told picker.old))
         (told picker.old) (told picker.new)) }
     ensures breaks { OnErr result (BreaksFigures input.now.dossier input.now.index
-        led.entry.last.orders led.entry.days.items led.entry.last.desk school
+        played.entry.last.orders played.entry.days.items played.entry.last.desk school
         (choice picker.old) (told picker.old) (told picker.new)) }
     ensures choice { choice picker.new ≡ choice picker.old }
 {
-    let (days, along) = led.into_along(alloc)?;
+    let (days, along) = played.into_along(alloc)?;
     let text = school_text(alloc, input, days.as_slice(), &along, school, picker)?;
     Ok(done(text))
 }

@@ -3,7 +3,7 @@ ghost use Rattle.std.specs.Prelude.{◌≡◌, IfOk};
 ghost use Rattle.modes.specs.Blocked.{blocked_text};
 ghost use Rattle.modes.specs.Endings.{IsDoneWith};
 
-use crate::led::Led;
+use crate::all_played::AllPlayed;
 use crate::reply::{Reply, done};
 use admit_core::OutOfMemory;
 use day_state::DayState;
@@ -26,11 +26,11 @@ fn blocked_text(
 
 /// How the mode `envy` ends, along the roster of the days. All of the desk but its present state
 /// is given up before the wishes are gone through.
-pub(crate) fn envied(alloc: Global, led: Led<'_, '_>) -> Result<Reply, OutOfMemory>
+pub(crate) fn envied(alloc: Global, played: AllPlayed<'_, '_>) -> Result<Reply, OutOfMemory>
     ensures { IfOk result (λ reply. IsDoneWith
-        (blocked_text led.entry.last.desk.present led.entry.last.orders)
+        (blocked_text played.entry.last.desk.present played.entry.last.orders)
         reply.exit reply.text.items) }
 {
-    let (evening, roster) = led.into_last().into_now_along(alloc)?;
+    let (evening, roster) = played.into_last().into_now_along(alloc)?;
     Ok(done(blocked_text(alloc, &evening, &roster)?))
 }

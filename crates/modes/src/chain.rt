@@ -3,7 +3,7 @@ ghost use Rattle.std.specs.Prelude.{All, IfOk};
 ghost use Rattle.certificate.specs.ChainText.{HasPassesOf, chain_text};
 ghost use Rattle.modes.specs.Endings.{IsDoneWith};
 
-use crate::led::Led;
+use crate::all_played::AllPlayed;
 use crate::reply::{Reply, done};
 use admit_core::{Dossier, OutOfMemory};
 use certificate::write_chain;
@@ -13,13 +13,13 @@ use std::alloc::Global;
 pub(crate) fn chained(
     alloc: Global,
     dossier: &Dossier,
-    led: Led<'_, '_>,
+    played: AllPlayed<'_, '_>,
 ) -> Result<Reply, OutOfMemory>
-    requires { All (HasPassesOf dossier.now) led.days.items }
+    requires { All (HasPassesOf dossier.now) played.days.items }
     ensures { IfOk result (λ reply. IsDoneWith
-        (chain_text dossier.now led.entry.days.items)
+        (chain_text dossier.now played.entry.days.items)
         reply.exit reply.text.items) }
 {
-    let days = led.into_days();
+    let days = played.into_days();
     Ok(done(write_chain(alloc, dossier, days.as_slice())?))
 }

@@ -16,8 +16,8 @@ ghost use Rattle.modes.specs.Replay.{CanBeDated};
 ghost use Rattle.modes.specs.declared.unproved.Unproved.TheVariants as unproved;
 ghost use Rattle.modes.specs.declared.unproved.Why.TheVariants.{NoChain};
 
+use crate::all_played::AllPlayed;
 use crate::job::terms_in;
-use crate::led::Led;
 use crate::replay::push_final_lines;
 use crate::reply::{Reply, StopLine, done, told};
 use crate::unproved::{Unproved, Why};
@@ -265,16 +265,16 @@ pub(crate) fn tested(
     alloc: Global,
     input: &Input,
     dated: Option<&DatedTerms>,
-    led: Led<'_, '_>,
+    played: AllPlayed<'_, '_>,
 ) -> Result<Reply, OutOfMemory>
     requires index { input.now.index ≡ ids_in input.now.dossier }
     requires dated { IfSome (option_copied dated) (AreDatedFor input.now.dossier) }
-    requires first { led.last.desk.present ≡ first_evening input.now.dossier }
+    requires first { played.last.desk.present ≡ first_evening input.now.dossier }
     ensures { IfOk result (λ reply. IsChecked
-        input.now.dossier input.now.chain (option_copied dated.entry) led.entry.last.orders
+        input.now.dossier input.now.chain (option_copied dated.entry) played.entry.last.orders
         reply.exit reply.text.items) }
 {
-    let last = led.into_last();
+    let last = played.into_last();
     let line = StopLine::new(alloc)?;
     tested_with(alloc, line, input, dated, last)
 }

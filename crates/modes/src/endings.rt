@@ -1,11 +1,12 @@
 //! How a run ends after its days, by its mode.
 ghost use Rattle.std.specs.Prelude.{◌≡◌, All, IfOk, IsSome, Ok, Err, option_copied};
-ghost use Rattle.modes.specs.Endings.{CanEnd, CanEndLed, EndsAfter, EndsLed, IsRefusedWith, LendsLed, asked_by, lines_before, seen_in};
-ghost use Rattle.modes.specs.Jobs.{seen_by};
+ghost use Rattle.modes.specs.Endings.{CanEnd, CanEndPlayed, EndsAfter, EndsPlayed, IsRefusedWith, LendsPlayed, asked_by, lines_before, view_in};
+ghost use Rattle.modes.specs.Jobs.{view_of};
 ghost use Rattle.modes.specs.Replay.{CanBeWritten};
 ghost use Rattle.played.specs.LastDesks.{desk_in};
 ghost use Rattle.played.specs.Lent.{AreThere, choice_in, standing, told_in};
 
+use crate::all_played::AllPlayed;
 use crate::beds::needed;
 use crate::blocked::envied;
 use crate::chain::chained;
@@ -13,7 +14,6 @@ use crate::checked::tested;
 use crate::exit::Exit;
 use crate::explained::explained;
 use crate::job::picker_after;
-use crate::led::Led;
 use crate::market::matched;
 use crate::order::ordered;
 use crate::replay::{days_text, replayed};
@@ -49,9 +49,9 @@ fn cut_short(
     days: Vec<DayRecord>,
     refusal: Refusal,
 ) -> Result<Reply, OutOfMemory>
-    requires { All (CanBeWritten (seen_in task.now).dossier (seen_in task.now).dated) days.items }
+    requires { All (CanBeWritten (view_in task.now).dossier (view_in task.now).dated) days.items }
     ensures { IfOk result (λ reply. IsRefusedWith refusal
-        (lines_before (seen_in task.now).request.mode (seen_in task.now)
+        (lines_before (view_in task.now).request.mode (view_in task.now)
         (record { orders = orders.now.orders; days = days.items; end = Err refusal }))
         reply.exit reply.text.items) }
 {
@@ -70,19 +70,19 @@ fn cut_short(
 fn answered(
     alloc: Global,
     task: &Task<'_>,
-    led: Led<'_, '_>,
+    played: AllPlayed<'_, '_>,
     asking: Asking,
     picker: &mut dyn Picker,
 ) -> Result<Reply, OutOfMemory>
-    requires asks { (seen_in task.now).request.mode ≡ asked_by asking }
-    requires can { CanEndLed task.now led }
-    ensures { LendsLed task.now led.entry
+    requires asks { (view_in task.now).request.mode ≡ asked_by asking }
+    requires can { CanEndPlayed task.now played }
+    ensures { LendsPlayed task.now played.entry
         (record { told = told picker.old; choice = choice picker.old })
         (record { told = told picker.new; choice = choice picker.new }) result }
 {
     match asking {
-        Asking::Beds { school } => needed(alloc, task.input, led, school, picker),
-        Asking::Market => matched(alloc, &task.input.dossier, led, picker),
+        Asking::Beds { school } => needed(alloc, task.input, played, school, picker),
+        Asking::Market => matched(alloc, &task.input.dossier, played, picker),
     }
 }
 
@@ -90,15 +90,15 @@ fn answered(
 fn lent(
     alloc: Global,
     task: &Task<'_>,
-    led: Led<'_, '_>,
+    played: AllPlayed<'_, '_>,
     asking: Asking,
     place: &mut Option<Box<dyn Picker>>,
 ) -> Result<Reply, OutOfMemory>
-    requires asks { (seen_in task.now).request.mode ≡ asked_by asking }
-    requires can { CanEndLed task.now led }
+    requires asks { (view_in task.now).request.mode ≡ asked_by asking }
+    requires can { CanEndPlayed task.now played }
     requires there { IsSome place.old }
     ensures there { IsSome place.new }
-    ensures ends { LendsLed task.now led.entry
+    ensures ends { LendsPlayed task.now played.entry
         (record {
           told = told_in (λ p. told p) place.old;
           choice = choice_in (λ p. choice p) place.old;
@@ -111,7 +111,7 @@ fn lent(
     let Some(mut picker) = place.take() else {
         unreachable!()
     };
-    let reply = answered(alloc, task, led, asking, &mut *picker);
+    let reply = answered(alloc, task, played, asking, &mut *picker);
     *place = Some(picker);
     reply
 }
@@ -120,15 +120,15 @@ fn lent(
 fn asked(
     alloc: Global,
     task: &Task<'_>,
-    led: Led<'_, '_>,
+    played: AllPlayed<'_, '_>,
     asking: Asking,
     pickers: &mut Pickers,
 ) -> Result<Reply, OutOfMemory>
-    requires asks { (seen_in task.now).request.mode ≡ asked_by asking }
-    requires can { CanEndLed task.now led }
+    requires asks { (view_in task.now).request.mode ≡ asked_by asking }
+    requires can { CanEndPlayed task.now played }
     requires there { AreThere pickers.old }
     ensures there { AreThere pickers.new }
-    ensures ends { EndsLed task.now led.entry
+    ensures ends { EndsPlayed task.now played.entry
         (standing (λ p. told p) (λ p. choice p) pickers.old)
         (standing (λ p. told p) (λ p. choice p) pickers.new) result }
 {
@@ -136,9 +136,9 @@ fn asked(
         unreachable!()
     };
     match name {
-        PickerName::First => lent(alloc, task, led, asking, &mut pickers.first),
-        PickerName::Last => lent(alloc, task, led, asking, &mut pickers.last),
-        PickerName::Turn => lent(alloc, task, led, asking, &mut pickers.turn),
+        PickerName::First => lent(alloc, task, played, asking, &mut pickers.first),
+        PickerName::Last => lent(alloc, task, played, asking, &mut pickers.last),
+        PickerName::Turn => lent(alloc, task, played, asking, &mut pickers.turn),
     }
 }
 
@@ -147,27 +147,27 @@ fn asked(
 fn ended(
     alloc: Global,
     task: &Task<'_>,
-    led: Led<'_, '_>,
+    played: AllPlayed<'_, '_>,
     pickers: &mut Pickers,
 ) -> Result<Reply, OutOfMemory>
-    requires can { CanEndLed task.now led }
+    requires can { CanEndPlayed task.now played }
     requires there { AreThere pickers.old }
     ensures there { AreThere pickers.new }
-    ensures ends { EndsLed task.now led.entry
+    ensures ends { EndsPlayed task.now played.entry
         (standing (λ p. told p) (λ p. choice p) pickers.old)
         (standing (λ p. told p) (λ p. choice p) pickers.new) result }
 {
     let input = task.input;
     match task.request.mode {
-        Mode::Order => ordered(alloc, &input.dossier, led),
-        Mode::Replay => replayed(alloc, input, task.dated, led),
-        Mode::Chain => chained(alloc, &input.dossier, led),
-        Mode::Check => tested(alloc, input, task.dated, led),
-        Mode::Explain { wish } => explained(alloc, input, led, wish),
-        Mode::Envy => envied(alloc, led),
-        Mode::Beds { school } => asked(alloc, task, led, Asking::Beds { school }, pickers),
-        Mode::Market => asked(alloc, task, led, Asking::Market, pickers),
-        Mode::Sample { number } => sampled(alloc, &input.dossier, number, led),
+        Mode::Order => ordered(alloc, &input.dossier, played),
+        Mode::Replay => replayed(alloc, input, task.dated, played),
+        Mode::Chain => chained(alloc, &input.dossier, played),
+        Mode::Check => tested(alloc, input, task.dated, played),
+        Mode::Explain { wish } => explained(alloc, input, played, wish),
+        Mode::Envy => envied(alloc, played),
+        Mode::Beds { school } => asked(alloc, task, played, Asking::Beds { school }, pickers),
+        Mode::Market => asked(alloc, task, played, Asking::Market, pickers),
+        Mode::Sample { number } => sampled(alloc, &input.dossier, number, played),
     }
 }
 
@@ -183,7 +183,7 @@ pub fn ending(
     pickers: &mut Pickers,
 ) -> Result<Reply, OutOfMemory>
     requires can { CanEnd
-        (seen_by request.now input.now (option_copied dated))
+        (view_of request.now input.now (option_copied dated))
         (record {
           orders = orders.now.orders;
           days = played.days.items;
@@ -193,7 +193,7 @@ pub fn ending(
     requires there { AreThere pickers.old }
     ensures there { AreThere pickers.new }
     ensures ends { EndsAfter (desk_in played.entry.end)
-        (seen_by request.now input.now (option_copied dated.entry))
+        (view_of request.now input.now (option_copied dated.entry))
         (record {
           orders = orders.now.orders;
           days = played.entry.days.items;
@@ -209,7 +209,7 @@ pub fn ending(
     };
     let Played { days, end } = played;
     match end {
-        Ok(last) => ended(alloc, &task, Led { days, last }, pickers),
+        Ok(last) => ended(alloc, &task, AllPlayed { days, last }, pickers),
         Err(refusal) => cut_short(alloc, &task, orders, days, refusal),
     }
 }

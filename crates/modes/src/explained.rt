@@ -6,7 +6,7 @@ ghost use Rattle.modes.specs.Endings.{IsDoneSaying};
 ghost use Rattle.modes.specs.Explained.{IsExplained};
 ghost use Rattle.played.specs.LastDays.{IsDeskAfter};
 
-use crate::led::Led;
+use crate::all_played::AllPlayed;
 use crate::reply::{Reply, done};
 use admit_core::{DayRecord, OutOfMemory, PassEnd};
 use desk_day::ceilings_on;
@@ -58,19 +58,19 @@ fn explained_text(
 pub(crate) fn explained(
     alloc: Global,
     input: &Input,
-    led: Led<'_, '_>,
+    played: AllPlayed<'_, '_>,
     wish: u32,
 ) -> Result<Reply, OutOfMemory>
     requires named { IsTrue (is_among wish input.now.index.wishes) }
-    requires some_day { 0 < length led.days.items }
+    requires some_day { 0 < length played.days.items }
     requires desk { IsDeskAfter
-        input.now.dossier led.last.orders led.days.items led.last.desk }
+        input.now.dossier played.last.orders played.days.items played.last.desk }
     ensures { IfOk result (λ reply. IsDoneSaying
-        (IsExplained input.now.dossier input.now.index led.entry.last.orders
-        led.entry.days.items led.entry.last.desk wish)
+        (IsExplained input.now.dossier input.now.index played.entry.last.orders
+        played.entry.days.items played.entry.last.desk wish)
         reply.exit reply.text.items) }
 {
-    let (days, along) = led.into_along(alloc)?;
+    let (days, along) = played.into_along(alloc)?;
     let text = explained_text(alloc, input, days.as_slice(), &along, wish)?;
     Ok(done(text))
 }

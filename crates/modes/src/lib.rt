@@ -4,6 +4,7 @@
 //! `let reply = ending(alloc, &request, &input, dated, &orders, played, &mut pickers)?;`
 #![tactic(auto)]
 
+mod all_played;
 mod beds;
 mod blocked;
 mod chain;
@@ -12,7 +13,6 @@ mod endings;
 mod exit;
 mod explained;
 mod job;
-mod led;
 mod market;
 mod order;
 mod replay;

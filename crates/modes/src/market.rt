@@ -10,7 +10,7 @@ ghost use Rattle.markets.specs.Bars.{market_system, matched_under};
 ghost use Rattle.markets.specs.Dossiers.{market_candidates, market_of};
 ghost use Rattle.markets.specs.Matchings.{IsStable};
 
-use crate::led::Led;
+use crate::all_played::AllPlayed;
 use crate::reply::{Reply, done};
 use admit_core::{CallOrders, Dossier, OutOfMemory, Steps};
 use bar_fixpoint::Picker;
@@ -93,21 +93,21 @@ fn matched_text(
 pub(crate) fn matched(
     alloc: Global,
     dossier: &Dossier,
-    led: Led<'_, '_>,
+    played: AllPlayed<'_, '_>,
     picker: &mut dyn Picker,
 ) -> Result<Reply, OutOfMemory>
-    requires { AreCallOrders dossier.now.groups led.last.orders }
+    requires { AreCallOrders dossier.now.groups played.last.orders }
 
     ensures text { IfOk result (λ reply. IsDoneSaying
-        (TellsMarket dossier.now led.entry.last.orders) reply.exit reply.text.items) }
+        (TellsMarket dossier.now played.entry.last.orders) reply.exit reply.text.items) }
     ensures picks { IfOk result (λ _. TellsPicks
-        (PicksForMarket dossier.now led.entry.last.orders (choice picker.old) (told picker.old))
+        (PicksForMarket dossier.now played.entry.last.orders (choice picker.old) (told picker.old))
         (told picker.old) (told picker.new)) }
-    ensures breaks { OnErr result (BreaksMarket dossier.now led.entry.last.orders
+    ensures breaks { OnErr result (BreaksMarket dossier.now played.entry.last.orders
         (choice picker.old) (told picker.old) (told picker.new)) }
     ensures choice { choice picker.new ≡ choice picker.old }
 {
-    let orders = led.into_orders();
+    let orders = played.into_orders();
     let text = matched_text(alloc, dossier, orders, picker)?;
     Ok(done(text))
 }

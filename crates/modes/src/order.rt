@@ -3,7 +3,7 @@ ghost use Rattle.std.specs.Prelude.{◌≡◌, [], ◌++◌, IfOk, IsOk, OnOk, s
 ghost use Rattle.modes.specs.Endings.{IsDoneWith};
 ghost use Rattle.modes.specs.Order.{orders_text};
 
-use crate::led::Led;
+use crate::all_played::AllPlayed;
 use crate::reply::{Reply, done};
 use admit_core::{CallOrder, Dossier, OutOfMemory, RankGroup};
 use report::push_order;
@@ -43,13 +43,13 @@ fn orders_text(
 pub(crate) fn ordered(
     alloc: Global,
     dossier: &Dossier,
-    led: Led<'_, '_>,
+    played: AllPlayed<'_, '_>,
 ) -> Result<Reply, OutOfMemory>
     ensures ends { IfOk result (λ reply. IsDoneWith
-        (orders_text dossier.now.groups led.entry.last.orders)
+        (orders_text dossier.now.groups played.entry.last.orders)
         reply.exit reply.text.items) }
     ensures always { dossier.now.groups ≡ [] → IsOk result }
 {
-    let called = led.into_orders().orders.as_slice();
+    let called = played.into_orders().orders.as_slice();
     Ok(done(orders_text(alloc, dossier.groups.as_slice(), called)?))
 }

@@ -3,7 +3,7 @@ ghost use Rattle.std.specs.Prelude.{◌≡◌, ◌++◌, All, IfOk, OnOk, option
 ghost use Rattle.modes.specs.Endings.{IsDoneWith};
 ghost use Rattle.modes.specs.Replay.{CanBeDated, CanBeWritten, day_lines, days_text, final_lines, replay_text};
 
-use crate::led::Led;
+use crate::all_played::AllPlayed;
 use crate::order::push_orders;
 use crate::reply::{Reply, done};
 use admit_core::{CallOrder, DayRecord, Dossier, OutOfMemory};
@@ -107,16 +107,16 @@ pub(crate) fn replayed(
     alloc: Global,
     input: &Input,
     dated: Option<&DatedTerms>,
-    led: Led<'_, '_>,
+    played: AllPlayed<'_, '_>,
 ) -> Result<Reply, OutOfMemory>
-    requires days { All (CanBeWritten input.now.dossier (option_copied dated)) led.days.items }
-    requires offers { CanBeDated (option_copied dated) led.last.desk.present }
+    requires days { All (CanBeWritten input.now.dossier (option_copied dated)) played.days.items }
+    requires offers { CanBeDated (option_copied dated) played.last.desk.present }
     ensures { IfOk result (λ reply. IsDoneWith
         (replay_text input.now.dossier (option_copied dated.entry)
-        led.entry.last.orders led.entry.days.items led.entry.last.desk.present)
+        played.entry.last.orders played.entry.days.items played.entry.last.desk.present)
         reply.exit reply.text.items) }
 {
-    let (days, last) = led.into_parts();
+    let (days, last) = played.into_parts();
     let called = last.orders().orders.as_slice();
     let (dossier, marks) = last.into_marks(alloc)?;
     let evening = MarkedWishes::of(dossier, &marks);

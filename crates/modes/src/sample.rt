@@ -3,7 +3,7 @@ ghost use Rattle.std.specs.Prelude.{IfOk, length};
 ghost use Rattle.modes.specs.Endings.{IsDoneWith};
 ghost use Rattle.report.specs.SampleText.{sample_text};
 
-use crate::led::Led;
+use crate::all_played::AllPlayed;
 use crate::reply::{Reply, done};
 use admit_core::{Dossier, OutOfMemory};
 use report::sample_text;
@@ -14,14 +14,14 @@ pub(crate) fn sampled(
     alloc: Global,
     dossier: &Dossier,
     number: u32,
-    led: Led<'_, '_>,
+    played: AllPlayed<'_, '_>,
 ) -> Result<Reply, OutOfMemory>
     ensures { IfOk result (λ reply. IsDoneWith
         (sample_text number (length dossier.now.wishes)
-        led.entry.days.items led.entry.last.desk.present)
+        played.entry.days.items played.entry.last.desk.present)
         reply.exit reply.text.items) }
 {
-    let (days, last) = led.into_parts();
+    let (days, last) = played.into_parts();
     let evening = last.into_now(alloc)?;
     let wishes = dossier.wishes.len() as u32;
     let text = sample_text(alloc, number, wishes, days.as_slice(), &evening)?;

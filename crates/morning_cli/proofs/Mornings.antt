@@ -23,7 +23,7 @@ use Rattle.intake.specs.declared.input.Input.{Input}
 use Rattle.intake.specs.declared.terms.DatedTerms.{DatedTerms}
 use Rattle.modes.proofs.OnDesks.{ends_led}
 use Rattle.modes.specs.Endings.{CanEnd, EndsAfter, EndsWith, IsDoneWith}
-use Rattle.modes.specs.Jobs.{dated_of, days_of, deadlines_of, dossier, seen_by, terms_of}
+use Rattle.modes.specs.Jobs.{dated_of, days_of, deadlines_of, dossier, view_of, terms_of}
 use Rattle.modes.specs.Replay.{CanBeDated}
 use Rattle.modes.specs.declared.exit.Exit.{Exit}
 use Rattle.modes.specs.declared.reply.Reply.{Reply}
@@ -119,14 +119,14 @@ module _ (asked : Asked) (known : IsAsked asked) (input : Input) (dated given : 
     (number_is : number ≡ days_of asked.request)
     (plays : IsPlayed input.dossier terms number asked.request.picker before played between)
     (own : input.index ≡ ids_in input.dossier) where
-  pub can : CanEnd (seen_by asked.request input dated) played
+  pub can : CanEnd (view_of asked.request input dated) played
   can =
       can_end asked.request known.request input dated given terms number before between played same is terms_are
       number_is plays (subst (λ (mode : Mode). NamesIn mode input.index) (sym known.replay) tt) own
 
   pub offers_dated : (end : Result DeskStates Refusal) → played.end ≡ end
       → IfOk end (λ desk. CanBeDated dated desk.present)
-  offers_dated (Ok desk) e = (ends_led (seen_by asked.request input dated) played desk can e).offers
+  offers_dated (Ok desk) e = (ends_led (view_of asked.request input dated) played desk can e).offers
   offers_dated (Err refusal) e = tt
 
   module _ (job : Job) (is_job : IsJobOf asked.request job) (is_input : IsInputOf job input)
@@ -144,7 +144,7 @@ module _ (asked : Asked) (known : IsAsked asked) (input : Input) (dated given : 
     ends_morning (Err lack) (Ok desk) e ok ends = tt
     ends_morning (Ok reply) (Ok desk) e ok ends =
         let there : desk.present.dossier ≡ input.dossier =
-        (ends_led (seen_by asked.request input dated) played desk can e).last.dossier in
+        (ends_led (view_of asked.request input dated) played desk can e).last.dossier in
         inl (is_morning job asked.request input.dossier input.dates dated number is_job.request is_input.dossier
         is_input.dates (same ∙ given_is) number_is asked.slot before between played desk reply.exit reply.text.items
         (subst (λ (t : Option Terms). IsPlayed input.dossier t number asked.request.picker before played between)
@@ -154,14 +154,14 @@ module _ (asked : Asked) (known : IsAsked asked) (input : Input) (dated given : 
     -- an answer did not fit
     pub ends_refused : {E : Type 0} (after : Lent) (result : Result Reply E) (end : Result DeskStates Refusal)
         → played.end ≡ end → is_err end ≡ true
-        → EndsAfter played.end (seen_by asked.request input dated) played between after result
+        → EndsAfter played.end (view_of asked.request input dated) played between after result
         → IfOk result (λ reply. IsSlotEnding asked.slot job before after reply.exit reply.text.items)
     ends_refused after result (Ok desk) e err ends = absurd (false≢true err)
     ends_refused after (Err lack) (Err refusal) e err ends = tt
     ends_refused after (Ok reply) (Err refusal) e err ends =
-        let by : EndsWith (Err refusal) (seen_by asked.request input dated) played reply.exit reply.text.items =
+        let by : EndsWith (Err refusal) (view_of asked.request input dated) played reply.exit reply.text.items =
         subst (λ (x : Result DeskStates Refusal).
-        EndsWith x (seen_by asked.request input dated) played reply.exit reply.text.items) e ends.ends in
+        EndsWith x (view_of asked.request input dated) played reply.exit reply.text.items) e ends.ends in
         inr (
           by.0,
           reply_ends asked.request known.request input dated given terms number before between played same is

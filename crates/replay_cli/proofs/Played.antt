@@ -25,8 +25,8 @@ use Rattle.modes.specs.Endings.{AreDaysOf, BreaksJob, CanEnd, EndsAfter, EndsWit
 use Rattle.modes.proofs.KeptEnds.{ends_after_whole}
 use Rattle.modes.proofs.CheckedExits.{IsAfterDays, check_done, check_exit, is_after}
 use Rattle.modes.specs.Checking.{CanBeDone, HandsInProof}
-use Rattle.modes.specs.Jobs.{AreDays, IsIdle, Seen, dated_of, days_of, deadlines_of, dossier, keeps_falls}
-use Rattle.modes.specs.Jobs.{picker_after, seen_by, seen_of, terms_of}
+use Rattle.modes.specs.Jobs.{AreDays, IsIdle, JobView, dated_of, days_of, deadlines_of, dossier, keeps_falls}
+use Rattle.modes.specs.Jobs.{picker_after, view_of, seen_of, terms_of}
 use Rattle.modes.specs.declared.exit.Exit.{Exit}
 use Rattle.modes.specs.declared.exit.Exit.TheVariants as exits
 use Rattle.modes.specs.declared.reply.Reply.{Reply}
@@ -57,7 +57,7 @@ no_days request none =
     ]
 
 -- how a run ends, by what the modes see of its job
-pub record Ends (played : Played) (between after : Lent) (exit : Exit) (text : List ℕ) (seen : Seen) : Type 0 where
+pub record Ends (played : Played) (between after : Lent) (exit : Exit) (text : List ℕ) (seen : JobView) : Type 0 where
   pub ends : EndsWith played.end seen played exit text
   pub tells : TellsAfter played.end seen played between after
   pub lends : IsLent (picker_after seen.request) between after
@@ -75,7 +75,7 @@ module _ (job : Job) (request : Request) (d : DossierRows) (ids : Ids) (chain : 
       ∙ ap (λ (q : Request). option_map (dated_from (dossier job) (dates_of job.tables)) (deadlines_of q)) (sym asked)
 
   -- what the modes see of it
-  seen_so : (P : Seen → Type 0)
+  seen_so : (P : JobView → Type 0)
       → P (record { request = request; dossier = d; index = ids; chain = chain; dated = dated }) → P (seen_of job)
   seen_so P holds =
       let Q : Request → DossierRows → Ids → List ℕ → Option DatedTerms → Type 0 =
@@ -123,7 +123,7 @@ module _ (job : Job) (request : Request) (d : DossierRows) (ids : Ids) (chain : 
     played = played;
     between = between;
     days = days_so before between played plays;
-    breaks = seen_so (λ (seen : Seen). BreaksEnding played.end seen played between after) breaks;
+    breaks = seen_so (λ (seen : JobView). BreaksEnding played.end seen played between after) breaks;
     lends = subst (λ (q : Request). IsLent (picker_after q) between after) (sym asked) lends;
   }))
 
@@ -160,13 +160,13 @@ lead_days plan d old before (day ∷ days) new lead = (
   lead_days plan (d + 1) lead.0 (lent_after plan.who day before) days new lead.2,
 )
 
-end_exit : (mode : Mode) (seen : Seen) (played : Played) (desk : DeskStates) (exit : Exit) (text : List ℕ)
+end_exit : (mode : Mode) (seen : JobView) (played : Played) (desk : DeskStates) (exit : Exit) (text : List ℕ)
     → IsEndOf mode seen played desk exit text → IsAfterDays exit
 end_exit modes.Check seen played desk exit text ends =
     check_exit seen.dossier seen.chain seen.dated played.orders exit text ends
 end_exit _ seen played desk exit text ends = is_after exit exits.Done ends.0 tt
 
-exit_after : (end : Result DeskStates Refusal) (seen : Seen) (played : Played) (exit : Exit) (text : List ℕ)
+exit_after : (end : Result DeskStates Refusal) (seen : JobView) (played : Played) (exit : Exit) (text : List ℕ)
     → EndsWith end seen played exit text → IsAfterDays exit
 exit_after (Ok desk) seen played exit text ends = end_exit seen.request.mode seen played desk exit text ends
 exit_after (Err refusal) seen played exit text ends = is_after exit exits.Refused ends.0 tt
@@ -220,7 +220,7 @@ ends_kept : (request : Request) (input : Input) (dated given : Option DatedTerms
     (before between : Lent) (kept : Played) → IsRequest request → dated ≡ given
     → IfSome given (AreDatedFor input.dossier) → NamesIn request.mode input.index → input.index ≡ ids_in input.dossier
     → IsPlayedKept keeps input.dossier (terms_in dated) (days_of request) request.picker before kept between
-    → CanEnd (seen_by request input dated) kept
+    → CanEnd (view_of request input dated) kept
 ends_kept request input dated given keeps before between kept known same is named indexed plays = record {
   request = known;
   dated = subst (λ (x : Option DatedTerms). IfSome x (AreDatedFor input.dossier)) (sym same) is;
@@ -245,7 +245,7 @@ module _ (request : Request) (known : IsRequest request) (input : Input) (dated 
       terms_are plays)
 
   pub can_end : NamesIn request.mode input.index → input.index ≡ ids_in input.dossier
-      → CanEnd (seen_by request input dated) played
+      → CanEnd (view_of request input dated) played
   can_end named indexed =
       ends_kept request input dated given true before between played known same is named indexed
       (played, asked_days, sym (played_whole played))
@@ -253,7 +253,7 @@ module _ (request : Request) (known : IsRequest request) (input : Input) (dated 
   pub reply_ends : {E : Type 0} (after : Lent) (result : Result Reply E) (job : Job)
       → given ≡ option_map (dated_from input.dossier input.dates) (deadlines_of request)
       → IsJobOf request job → IsInputOf job input
-      → EndsAfter played.end (seen_by request input dated) played between after result
+      → EndsAfter played.end (view_of request input dated) played between after result
       → MatchResult result (λ reply. IsEnding job before after reply.exit reply.text.items)
       (λ _. BreaksJob job before after)
   reply_ends after (Err e) job given_is is_job is_input ends =
@@ -286,7 +286,7 @@ module _ (request : Request) (known : IsRequest request) (input : Input) (dated 
       between) terms_are plays)))
 
   pub can_end_kept : NamesIn request.mode input.index → input.index ≡ ids_in input.dossier
-      → CanEnd (seen_by request input dated) kept
+      → CanEnd (view_of request input dated) kept
   can_end_kept named indexed =
       ends_kept request input dated given (keeps_falls request.mode) before between kept known same is named indexed
       kept_days
@@ -294,13 +294,13 @@ module _ (request : Request) (known : IsRequest request) (input : Input) (dated 
   pub reply_ends_kept : {E : Type 0} (after : Lent) (result : Result Reply E) (job : Job)
       → given ≡ option_map (dated_from input.dossier input.dates) (deadlines_of request)
       → IsJobOf request job → IsInputOf job input
-      → EndsAfter kept.end (seen_by request input dated) kept between after result
+      → EndsAfter kept.end (view_of request input dated) kept between after result
       → MatchResult result (λ reply. IsEnding job before after reply.exit reply.text.items)
       (λ _. BreaksJob job before after)
   reply_ends_kept after result job given_is is_job is_input ends =
       reply_ends request known input dated given (terms_in dated) (days_of request) before between kept_days.0 same is
       refl refl kept_days.1 after result job given_is is_job is_input
-      (ends_after_whole (seen_by request input dated) kept kept_days.0 between after result kept_days.2 ends)
+      (ends_after_whole (view_of request input dated) kept kept_days.0 between after result kept_days.2 ends)
 
 -- memory ran out before the days, or on one of them
 pub breaks_untold : (job : Job) (before : Lent) → BreaksJob job before before

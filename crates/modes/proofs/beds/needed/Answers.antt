@@ -65,7 +65,7 @@ returns-clause-text g c =
     let index = c.args.input.now.index in
     let school = c.args.school in (
       c.done.ensures.exit,
-      subst (TellsFigures d index c.args.led.last.orders c.args.led.days.items c.args.led.last.desk school)
+      subst (TellsFigures d index c.args.played.last.orders c.args.played.days.items c.args.played.last.desk school)
           (sym c.done.ensures.text)
           (same_led (λ (o : List CallOrder) (ds : List DayRecord) (k : DeskStates). TellsFigures d index o ds k school
           c.in_ok-text.text.items)

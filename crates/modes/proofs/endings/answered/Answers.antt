@@ -19,7 +19,7 @@ needed-requires-clause-desk g c = c.requires.can.last
 pub needed-requires-clause-some_day : goal.needed-requires-clause-some_day
 needed-requires-clause-some_day g c =
     let request = c.args.task.now.request.now in
-    let number : length c.args.led.days.items ≡ request.days =
+    let number : length c.args.played.days.items ≡ request.days =
     c.requires.can.number
     ∙ ap (λ (m : Mode). if runs_days m then request.days else 0) (c.requires.asks ∙ ap asked_by c.in-Beds.is) in
     omega (arith, number, c.requires.can.request.some_day)

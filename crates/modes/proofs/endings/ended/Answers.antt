@@ -7,7 +7,7 @@ use Rattle.modes.proofs.endings.ended.Goals as goal
 
 pub chained-requires : goal.chained-requires
 chained-requires g c =
-    chain_written c.args.task.now.input.now.dossier (option_copied c.args.task.now.dated) c.args.led.days.items
+    chain_written c.args.task.now.input.now.dossier (option_copied c.args.task.now.dated) c.args.played.days.items
     c.requires.can.days
 
 pub returns-in-Order-clause-ends : goal.returns-in-Order-clause-ends

@@ -26,7 +26,7 @@ returns c =
     let index = c.args.input.now.index in
     let along = c.in_ok-days.ensures.along in (
       c.done.ensures.exit,
-      subst (IsExplained d index c.args.led.last.orders c.args.led.days.items c.args.led.last.desk c.args.wish)
+      subst (IsExplained d index c.args.played.last.orders c.args.played.days.items c.args.played.last.desk c.args.wish)
           (sym c.done.ensures.text)
           (same_led (λ (o : List CallOrder) (ds : List DayRecord) (k : DeskStates). IsExplained d index o ds k
           c.args.wish c.in_ok-text.text.items) (ap (λ (x : DeskBy). x.orders) along)

@@ -14,7 +14,7 @@ matched_text-requires g c =
 pub returns-clause-text : goal.returns-clause-text
 returns-clause-text g c = (
   c.done.ensures.exit,
-  subst (TellsMarket c.args.dossier.now c.args.led.last.orders) (sym c.done.ensures.text)
+  subst (TellsMarket c.args.dossier.now c.args.played.last.orders) (sym c.done.ensures.text)
       (subst (λ (o : List CallOrder). TellsMarket c.args.dossier.now o c.in_ok-text.text.items)
       c.into_orders-orders.ensures
       c.in_ok-text.ensures.text),

@@ -16,7 +16,7 @@ replay_text-requires-clause-days c =
 pub replay_text-requires-clause-offers : goal.replay_text-requires-clause-offers
 replay_text-requires-clause-offers c =
     let left = ap (λ (x : DeskLeft). x.desk.present) c.into_parts-days.ensures.last in
-    let evening : c.of-evening.result ≡ c.args.led.last.desk.present = c.of-evening.ensures
+    let evening : c.of-evening.result ≡ c.args.played.last.desk.present = c.of-evening.ensures
     ∙ (λ i. record { dossier = c.in_ok-dossier.ensures.dossier i; marks = c.in_ok-dossier.ensures.marks i }) ∙ left in
     subst (λ (s : State). CanBeDated (option_copied c.args.dated) s) (sym evening) c.requires.offers
 
@@ -26,7 +26,7 @@ returns c =
     ∙ ap (λ (x : DeskLeft). x.orders) c.into_parts-days.ensures.last in
     let days = c.as_slice.ensures.value ∙ c.into_parts-days.ensures.days in
     let left = ap (λ (x : DeskLeft). x.desk.present) c.into_parts-days.ensures.last in
-    let evening : c.of-evening.result ≡ c.args.led.last.desk.present = c.of-evening.ensures
+    let evening : c.of-evening.result ≡ c.args.played.last.desk.present = c.of-evening.ensures
     ∙ (λ i. record { dossier = c.in_ok-dossier.ensures.dossier i; marks = c.in_ok-dossier.ensures.marks i }) ∙ left in (
       c.done.ensures.exit,
       c.done.ensures.text ∙ c.in_ok-text.ensures

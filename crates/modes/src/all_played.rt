@@ -7,24 +7,24 @@ use std::alloc::Global;
 
 /// All days that were asked for, and what they left: the desk after them, with the call orders by
 /// which they were run and the roster, which is made when it is asked for where no day was run.
-pub(crate) struct Led<'a, 'd> {
+pub(crate) struct AllPlayed<'a, 'd> {
     pub days: Vec<DayRecord>,
     pub last: LastDesk<'a, 'd>,
 }
 
 // Not derived, so that it is dropped in one step where it is held, and not list by list.
-impl Drop for Led<'_, '_> {
+impl Drop for AllPlayed<'_, '_> {
     fn drop(self) {
-        let Led { days: _, last: _ } = self;
+        let AllPlayed { days: _, last: _ } = self;
     }
 }
 
-impl<'a, 'd> Led<'a, 'd> {
+impl<'a, 'd> AllPlayed<'a, 'd> {
     /// The call orders alone.
     pub fn into_orders(self) -> &'a CallOrders
         ensures { result.now.orders ≡ self.entry.last.orders }
     {
-        let Led { days: _, last } = self;
+        let AllPlayed { days: _, last } = self;
         last.orders()
     }
 
@@ -32,7 +32,7 @@ impl<'a, 'd> Led<'a, 'd> {
     pub fn into_days(self) -> Vec<DayRecord>
         ensures { result.items ≡ self.entry.days.items }
     {
-        let Led { days, last: _ } = self;
+        let AllPlayed { days, last: _ } = self;
         days
     }
 
@@ -40,7 +40,7 @@ impl<'a, 'd> Led<'a, 'd> {
     pub fn into_last(self) -> LastDesk<'a, 'd>
         ensures { result ≡ self.entry.last }
     {
-        let Led { days: _, last } = self;
+        let AllPlayed { days: _, last } = self;
         last
     }
 
@@ -56,7 +56,7 @@ impl<'a, 'd> Led<'a, 'd> {
           orders = self.entry.last.orders;
         }) }
     {
-        let Led { days, last } = self;
+        let AllPlayed { days, last } = self;
         let along = last.into_along(alloc)?;
         Ok((days, along))
     }
@@ -66,7 +66,7 @@ impl<'a, 'd> Led<'a, 'd> {
         ensures days { result.0.items ≡ self.entry.days.items }
         ensures last { result.1 ≡ self.entry.last }
     {
-        let Led { days, last } = self;
+        let AllPlayed { days, last } = self;
         (days, last)
     }
 }
