@@ -35,7 +35,7 @@ IsPlayedKept keeps d terms number who before kept after =
     IsKeptOf (kept_played keeps) (λ whole. IsPlayed d terms number who before whole after) kept
 
 -- what the days of a run go by: a dossier, its call orders and the terms of its offers
-pub record Grounds : Type 0 where
+pub record DayGrounds : Type 0 where
   pub dossier : DossierRows
   pub orders : List CallOrder
   pub terms : Option Terms
@@ -47,7 +47,7 @@ pub record DaysLeft : Type 0 where
 
 -- how the days that are asked for end: they were played, and what an outcome has of their records
 -- and of their end is kept of them; or memory ran out
-abbrev pub EndsWanted : {X E : Type 0} → Wanted → Grounds → Lent → Lent → Result X E
+abbrev pub EndsWanted : {X E : Type 0} → Wanted → DayGrounds → Lent → Lent → Result X E
     → (X → DaysLeft) → Type 0
 EndsWanted wanted by before after result left =
     MatchResult result
