@@ -1,5 +1,5 @@
 //! The mode `check`: the days of a chain, tested one after another.
-ghost use Rattle.std.specs.Prelude.{◌≡◌, ◌≢◌, ◌≤◌, ◌<◌, ◌^◌, [], All, Err, IfErr, IfOk, IfSome, Some, IsOk, OnErr, OnOk, length, option_copied};
+ghost use Rattle.std.specs.Prelude.{◌≡◌, ◌≢◌, ◌≤◌, ◌<◌, ◌^◌, [], All, Err, IfErr, IfOk, IfSome, Some, OnErr, OnOk, length, option_copied};
 ghost use Rattle.admit_core.specs.Chains.{IsDayChain, day_fault};
 ghost use Rattle.admit_core.specs.Days.{first_evening};
 ghost use Rattle.admit_core.specs.Lapses.{AreTermsFor};
@@ -129,7 +129,6 @@ fn check_days(
     ensures stamps { OnOk result (All (IsStampedBy 366) present.old.marks → All (IsStampedBy 366)
         present.new.marks) }
     ensures school { IfErr result (KeepsIn (length present.old.dossier.schools)) }
-    ensures always { days.now ≡ [] → IsOk result }
     ensures memory { result ≡ Err unproved.OutOfMemory → BeginsWithPass days.now }
 {
     for (place, chain) in days.iter().enumerate() {
