@@ -18,7 +18,7 @@ use Rattle.admit_core.specs.AutoAnswer.{auto_one, auto_all, seats_freed, beds_fr
 use Rattle.day_state.proofs.Along.{length-with_marks}
 use Rattle.day_state.proofs.Independence.{Agrees, agrees_self}
 use Rattle.day_state.proofs.Places.{candidate_in}
-use Rattle.auto_answer.specs.Asked.{IsCount, answered_at, freed_at}
+use Rattle.auto_answer.specs.AnsweredAt.{IsCount, answered_at, freed_at}
 use Rattle.auto_answer.specs.Laws.{SameOwnMarks, AreAnsweredBut}
 use Rattle.auto_answer.proofs.Again.{answered_once}
 use Rattle.auto_answer.proofs.Answering.{all_mark, joined, one_other, one_here, same_freed, seats_of_all, beds_of_all}

@@ -1,7 +1,7 @@
 //! The automatic answers.
 ghost use Rattle.std.specs.Prelude.{◌≡◌, ◌<◌, All, length};
 ghost use Rattle.admit_core.specs.AutoAnswer.{auto_one, auto_all, freed_by, freed};
-ghost use Rattle.auto_answer.specs.Asked.{IsCount, answered_at, asked_at, freed_asked, freed_at, is_live_ranked};
+ghost use Rattle.auto_answer.specs.AnsweredAt.{IsCount, answered_at, asked_at, freed_asked, freed_at, is_live_ranked};
 ghost use Rattle.auto_answer.specs.Laws.{AreAnsweredBut};
 
 use admit_core::{Freed, Stamp};

@@ -24,7 +24,7 @@ module _ (sys : FallingSystem) (lawful : IsLawful sys) (choice : List ℕ → Li
         (IsAtMost-refl sys.ceilings) fits.under_ceilings early.are_falls)
 
     pub stops_there : EndsEarly sys choice told told_after after → StopsAbove sys choice told told_after after
-    stops_there early = record { above = above_there early; early = early }
+    stops_there early = record { above = above_there early; told_by_then = early }
 
     -- the same by the result
     pub greatest_on : {T E : Type 0} (r : Result T E) (given : List Fall → Type 0)

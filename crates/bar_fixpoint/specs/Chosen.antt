@@ -80,4 +80,4 @@ pub record StopsAbove (sys : FallingSystem) (choice : List ℕ → List ℕ → 
   -- no bar is too low by then
   pub above : AreAboveAllThatFit sys after
   -- what fell by then, and what was told
-  pub early : EndsEarly sys choice told told_after after
+  pub told_by_then : EndsEarly sys choice told told_after after

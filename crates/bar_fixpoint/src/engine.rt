@@ -81,7 +81,7 @@ fn lower_all<F: Falling, K: Keeper, L: Ledger>(
     requires none { K.was_given keeper.old [] }
     ensures fallen { OnOk result (HasFallen (F.system system.old) (choice picker.old)
         (told picker.old) (told picker.new) (F.bars system.new) (K.was_given keeper.new)) }
-    ensures early { OnErr result (EndsEarly (F.system system.old) (choice picker.old)
+    ensures told_by_then { OnErr result (EndsEarly (F.system system.old) (choice picker.old)
         (told picker.old) (told picker.new) (F.bars system.new)) }
     ensures always { F.lends system.old
         → all_overfilled (F.system system.old) (F.bars system.old) ≡ [] → IsOk result }

@@ -217,7 +217,8 @@ bundle_fits sites s numbers live k m long lt short bundled n e =
       goes = omega (arith, is, live_here s.marks bundles b k m lt parts.1);
     })
 
-numbers_long : (sites : Sites) (s : State) (numbers : List BundleNumber) (live : List ℕ) → IsBundled sites s numbers live
+numbers_long : (sites : Sites) (s : State) (numbers : List BundleNumber) (live : List ℕ)
+    → IsBundled sites s numbers live
     → length numbers ≡ length s.dossier.wishes
 numbers_long sites s numbers live bundled =
     let bundles = bundles_of sites s.dossier.wishes in

@@ -1,6 +1,7 @@
 -- How bundles of two wishes or more get their numbers.
 use Rattle.std.proofs.Common.{ℕ, zero, ◌+◌, ◌≤◌, ◌<◌, ◌≡◌, Bool, true, false, cond, ◌&&◌, ◌||◌, List, [], ◌∷◌, ◌++◌}
-use Rattle.std.proofs.Common.{map, length, get_or, take, set, filter, inl, inr, refl, sym, ◌∙◌, ap, arith, Option, Some, None}
+use Rattle.std.proofs.Common.{map, length, get_or, take, set, filter, inl, inr, refl, sym, ◌∙◌, ap, arith, Option, Some}
+use Rattle.std.proofs.Common.{None}
 use Rattle.std.proofs.Common.{suc, nat_eq, eqb, subst, not}
 use Rattle.std.specs.Prelude.{slice_index, ◌==◌, if◌then◌else◌}
 use Rattle.std.specs.Option.{ForSome}
@@ -12,7 +13,8 @@ use Rattle.std.proofs.lemmas.Bool.{cases_Bool, cases_eq, eqb-true, eq-eqb, ne_eq
 use Rattle.std.proofs.lemmas.Bool.{cases_lt, not_from_true, false_from_ne_true}
 use Rattle.std.proofs.lemmas.Cmp.{nat_eq_equiv}
 use Rattle.std.proofs.lemmas.Option.{unwrap_or-slice_get}
-use Rattle.std.proofs.lemmas.List.{length-set, get_or-set_same, get_or-set_other, take_more, get_or-map, length-map, append-nil}
+use Rattle.std.proofs.lemmas.List.{length-set, get_or-set_same, get_or-set_other, take_more, get_or-map, length-map}
+use Rattle.std.proofs.lemmas.List.{append-nil}
 use Rattle.std.proofs.lemmas.List.{get_or_append_left, get_or-append-add, ext_get_or, length-append, take_all}
 use Rattle.std.proofs.lemmas.List.Elements.{All-filter, All-take, filter-append}
 use Rattle.std.proofs.lemmas.List.Folds.{list_any_at, Any-from_list_any, list_any-append}
@@ -237,7 +239,8 @@ number_at_is ns k = unwrap_or-slice_get ns k NoSite
 set_here : (ns : List BundleNumber) (k : ℕ) (v : BundleNumber) → k < length ns → number_at (set ns k v) k ≡ v
 set_here ns k v lt = number_at_is (set ns k v) k ∙ get_or-set_same ns k v NoSite lt
 
-set_there : (ns : List BundleNumber) (k j : ℕ) (v : BundleNumber) → (j ≡ k → ⊥) → number_at (set ns k v) j ≡ number_at ns j
+set_there : (ns : List BundleNumber) (k j : ℕ) (v : BundleNumber) → (j ≡ k → ⊥)
+    → number_at (set ns k v) j ≡ number_at ns j
 set_there ns k j v other =
     number_at_is (set ns k v) j ∙ get_or-set_other ns k j v NoSite other ∙ sym (number_at_is ns j)
 
@@ -313,13 +316,15 @@ numbered_fits bundles shared i shared_is lt few =
     omega (arith, s_lt, long, most, few)
 
 -- all later wishes among the first i have the numbers of their bundles
-pub record AreLedTo (bundles : List (Option ℕ)) (laters : List Later) (old new : List BundleNumber) (i : ℕ) : Type 0 where
+pub record AreLedTo (bundles : List (Option ℕ)) (laters : List Later) (old new : List BundleNumber)
+    (i : ℕ) : Type 0 where
   pub long : length new ≡ length old
   pub each : (k : ℕ) → k < length bundles → number_at new k
       ≡ (if list_any (λ (l : Later). l.wish == k) (take i laters) then number_of bundles (number_in bundles k)
       else number_at old k)
 
-pub led_none : (bundles : List (Option ℕ)) (laters : List Later) (old : List BundleNumber) → AreLedTo bundles laters old old 0
+pub led_none : (bundles : List (Option ℕ)) (laters : List Later) (old : List BundleNumber)
+    → AreLedTo bundles laters old old 0
 led_none bundles laters old = record { long = refl; each = λ k lt. refl }
 
 module _ (bundles : List (Option ℕ)) (firsts : AreFirsts bundles) (laters : List Later) (are : AreLaters bundles laters)
@@ -346,7 +351,8 @@ module _ (bundles : List (Option ℕ)) (firsts : AreFirsts bundles) (laters : Li
       led.each l.first is.begins
       ∙ rw (not_led l i is) (numbered.each l.first is.begins ∙ rw (shares bundles laters are l is) refl)
 
-  pub given_fits : (now : List BundleNumber) (l d : Later) (i : ℕ) (v : BundleNumber) → i < length laters → l ≡ get_or laters i d
+  pub given_fits : (now : List BundleNumber) (l d : Later) (i : ℕ) (v : BundleNumber) → i < length laters
+      → l ≡ get_or laters i d
       → length bundles < 2147483648 → AreLedTo bundles laters old now i → v ≡ number_at now l.first
       → ForSome (count_of v) (λ n. n < 4294967294)
   given_fits now l d i v lt l_is few led v_is n e =
@@ -357,7 +363,8 @@ module _ (bundles : List (Option ℕ)) (firsts : AreFirsts bundles) (laters : Li
       true_most (shared_flags bundles) l.first (omega (arith, is.begins, flags_long bundles)) in
       omega (arith, same, most, is.begins, few)
 
-  pub led_more : (now new : List BundleNumber) (l d : Later) (i : ℕ) (v : BundleNumber) → i < length laters → l ≡ get_or laters i d
+  pub led_more : (now new : List BundleNumber) (l d : Later) (i : ℕ) (v : BundleNumber) → i < length laters
+      → l ≡ get_or laters i d
       → length bare ≡ length bundles → AreLedTo bundles laters old now i → v ≡ number_at now l.first
       → new ≡ set now l.wish v → AreLedTo bundles laters old new (i + 1)
   led_more now new l d i v lt l_is as_long led v_is new_is =

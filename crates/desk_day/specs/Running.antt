@@ -1,5 +1,6 @@
 -- What the desk of a day that runs holds.
-use Rattle.std.specs.Prelude.{◌≡◌, ℕ, ◌+◌, ◌≤◌, ◌<◌, Bool, true, not, List, [], length, Option, None, IsTrue, if◌then◌else◌}
+use Rattle.std.specs.Prelude.{◌≡◌, ℕ, ◌+◌, ◌≤◌, ◌<◌, Bool, true, not, List, [], length, Option, None, IsTrue}
+use Rattle.std.specs.Prelude.{if◌then◌else◌}
 use Rattle.admit_core.specs.declared.ranking.CallOrder.{CallOrder}
 use Rattle.admit_core.specs.declared.records.Lapse.{Lapse}
 use Rattle.admit_core.specs.declared.records.PassEnd.{PassEnd}

@@ -41,7 +41,7 @@ impl Running<'_> {
             (ArePassesPicked roster.now.orders plan.entry.ceilings.now plan.entry.day
             self.old.present (choice picker.old) (told picker.old) (told picker.new) self.new)
             ends.items) }
-        ensures early { OnErr result (TellsOfPasses roster.now.orders plan.entry.ceilings.now
+        ensures told_by_then { OnErr result (TellsOfPasses roster.now.orders plan.entry.ceilings.now
             plan.entry.day self.old.present (choice picker.old) (told picker.old)
             (told picker.new)) }
         ensures choice { choice picker.new ≡ choice picker.old }
@@ -85,7 +85,7 @@ impl Running<'_> {
         ensures made { IfOk result (IsKeptOf (kept_end (are_kept plan.entry.falls))
             (IsPassPicked roster.now.orders plan.entry.ceilings.now stamp self.old.present
             (choice picker.old) (told picker.old) (told picker.new) self.new)) }
-        ensures early { OnErr result (TellsOfFalls
+        ensures told_by_then { OnErr result (TellsOfFalls
             (boarding self.old.present roster.now.orders plan.entry.ceilings.now)
             (choice picker.old) (told picker.old) (told picker.new)) }
         ensures choice { choice picker.new ≡ choice picker.old }

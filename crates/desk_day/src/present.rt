@@ -172,7 +172,7 @@ impl<'d> Present<'d> {
         ensures offered { IfOk result (λ made.
             self.new ≡ offered_along made.0.offers stamp self.old) }
         ensures asked { IfOk result (λ made. AsksAfter self.old made.0.offers stamp made.1) }
-        ensures early { OnErr result (TellsOfFalls
+        ensures told_by_then { OnErr result (TellsOfFalls
             (boarding self.old roster.now.orders plan.entry.ceilings.now)
             (choice picker.old) (told picker.old) (told picker.new)) }
         ensures choice { choice picker.new ≡ choice picker.old }

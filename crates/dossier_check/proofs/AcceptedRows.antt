@@ -8,7 +8,7 @@ use Rattle.admit_core.specs.declared.tables.StateRow.{StateRow}
 use Rattle.admit_core.specs.declared.tables.Tables.{Tables}
 use Rattle.admit_core.specs.Faults.{row_number, first_row}
 use Rattle.admit_core.specs.Relations.{is_accepted, same_candidate, candidate_with, two_accepted}
-use Rattle.dossier_check.specs.Seen.{is_accepted_of}
+use Rattle.dossier_check.specs.RowsBefore.{is_accepted_of}
 use Rattle.dossier_check.proofs.Firsts.{position-none}
 
 -- the candidate of an accepted row

@@ -11,7 +11,7 @@ use Rattle.admit_core.proofs.Plain.{nat_eq_sym, any-map}
 use Rattle.admit_core.specs.declared.tables.WishRow.{WishRow}
 use Rattle.admit_core.specs.Faults.{row_number, first_row}
 use Rattle.dossier_check.specs.Pairs.{pair_eq}
-use Rattle.dossier_check.specs.Seen.{noted_wish, has_preference, AreFirstWishes}
+use Rattle.dossier_check.specs.RowsBefore.{noted_wish, has_preference, AreFirstWishes}
 use Rattle.dossier_check.specs.declared.noted.FirstWish.{FirstWish}
 use Rattle.admit_core.specs.Lists.{is_among}
 use Rattle.dossier_check.proofs.Places.{nat_eq_sound}

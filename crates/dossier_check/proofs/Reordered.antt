@@ -23,7 +23,7 @@ use Rattle.admit_core.specs.Relations.{same_school, same_wish, programme_ids, sc
 use Rattle.admit_core.specs.Relations.{are_mixed, first_wish_of, preference_mixed, preference_taken}
 use Rattle.admit_core.specs.Relations.{wish_tests}
 use Rattle.dossier_check.specs.declared.noted.FirstWish.{FirstWish}
-use Rattle.dossier_check.specs.Seen.{KnowsCandidates}
+use Rattle.dossier_check.specs.RowsBefore.{KnowsCandidates}
 use Rattle.dossier_check.specs.Wished.{has_preference}
 use Rattle.dossier_check.specs.WishTests.{id_repeats, other_tests}
 use Rattle.dossier_check.proofs.FaultFree.{first_passes, rest_pass, pass_all, apart, apart_when, all_known}

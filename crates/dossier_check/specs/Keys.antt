@@ -3,7 +3,7 @@ use Rattle.std.specs.Prelude.{◌≡◌, ℕ, ◌<◌, ◌^◌, List, map, lengt
 use Rattle.admit_core.specs.declared.tables.Tables.{Tables}
 use Rattle.admit_core.specs.Relations.{group_ids, programme_ids, school_ids, wish_ids}
 use Rattle.dossier_check.specs.declared.items.Keys.{Keys}
-use Rattle.dossier_check.specs.Seen.{boarded_pairs}
+use Rattle.dossier_check.specs.RowsBefore.{boarded_pairs}
 
 -- these are the ids by place, few enough for a place to be a u32
 pub record ArePlaces (keys ids : List ℕ) : Type 0 where

@@ -5,7 +5,7 @@ use Rattle.admit_core.specs.Relations.{programme_ids, school_ids}
 use Rattle.dossier_check.specs.declared.known.Known.{Known}
 use Rattle.dossier_check.specs.Dealt.{SaysWhoIsRanked}
 use Rattle.dossier_check.specs.Hashing.{numbers_of}
-use Rattle.dossier_check.specs.Seen.{boarded_pairs}
+use Rattle.dossier_check.specs.RowsBefore.{boarded_pairs}
 use Rattle.keyed_hash.specs.Keys.{keyed_by}
 
 -- the rows before the wishes are found by these, and hashed by a key of all rows

@@ -5,7 +5,7 @@ ghost use Rattle.admit_core.specs.declared.slot.Slot.TheVariants as slots;
 ghost use Rattle.admit_core.specs.Faults.{first_in};
 ghost use Rattle.admit_core.specs.Relations.{answer_tests, wish_ids};
 ghost use Rattle.dossier_check.specs.Outcome.{AnswersFault, MayLack};
-ghost use Rattle.dossier_check.specs.Seen.{KnowsCandidates};
+ghost use Rattle.dossier_check.specs.RowsBefore.{KnowsCandidates};
 
 use crate::day_falls::{DayFalls, ItsDay};
 use crate::noted::FirstWish;
@@ -47,7 +47,7 @@ impl<'a> RowTest<AnswerRow> for TargetUnknown<'a> {
     ghost use Rattle.indexmap.specs.IndexMap.{get};
     ghost use Rattle.admit_core.specs.Faults.{names_unknown};
     ghost use Rattle.admit_core.specs.Relations.{is_target, wish_ids};
-    ghost use Rattle.dossier_check.specs.Seen.{KnowsCandidates};
+    ghost use Rattle.dossier_check.specs.RowsBefore.{KnowsCandidates};
 
     ghost test = { λ c. names_unknown 3 (λ row. is_target c.tables.now row.kind row.target) };
 

@@ -41,7 +41,7 @@ pub(crate) struct DayFalls<Q> {
 
 impl<R, Q: HasDay<R>> RowTest<R> for DayFalls<Q> {
     ghost use Rattle.admit_core.specs.Relations.{day_falls};
-    ghost use Rattle.dossier_check.specs.Seen.{IsLastDay};
+    ghost use Rattle.dossier_check.specs.RowsBefore.{IsLastDay};
 
     ghost test = { λ c. day_falls Q.day };
 

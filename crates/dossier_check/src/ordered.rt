@@ -5,7 +5,7 @@ ghost use Rattle.admit_core.specs.declared.slot.Slot.TheVariants as slots;
 ghost use Rattle.admit_core.specs.Faults.{first_in};
 ghost use Rattle.admit_core.specs.Relations.{wish_tests, wish_ids};
 ghost use Rattle.dossier_check.specs.Known.{IsKnown};
-ghost use Rattle.dossier_check.specs.Seen.{KnowsCandidates};
+ghost use Rattle.dossier_check.specs.RowsBefore.{KnowsCandidates};
 ghost use Rattle.dossier_check.specs.WishTests.{id_repeats, other_tests};
 
 use crate::apart::shown_apart;

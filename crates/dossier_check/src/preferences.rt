@@ -2,7 +2,7 @@
 ghost use Rattle.std.specs.Prelude.{◌≡◌, [], nat_eq, IfOk};
 ghost use Rattle.indexmap.specs.IndexMap.{get};
 ghost use Rattle.dossier_check.specs.Pairs.{pair_eq};
-ghost use Rattle.dossier_check.specs.Seen.{has_preference, AreFirstRows, AreFirstWishes, IsLastCandidate};
+ghost use Rattle.dossier_check.specs.RowsBefore.{has_preference, AreFirstRows, AreFirstWishes, IsLastCandidate};
 
 use crate::apart::Apart;
 use crate::noted::{FirstWish, note_first};
@@ -35,7 +35,7 @@ impl Drop for PreferenceMixed {
 
 impl PreferenceMixed {
     ghost use Rattle.std.specs.Prelude.{ℕ, if◌then◌else◌, IsSome, IfSome, OnErr, None, Some};
-    ghost use Rattle.dossier_check.specs.Seen.{IsLastCandidate};
+    ghost use Rattle.dossier_check.specs.RowsBefore.{IsLastCandidate};
 
     /// The first wish of a candidate who is that of the row before.
     fn first_of_last(&self, candidate: u32) -> Option<FirstWish>
@@ -86,7 +86,7 @@ impl RowTest<WishRow> for PreferenceMixed {
     ghost use Rattle.std.specs.Prelude.{nat_eq};
     ghost use Rattle.indexmap.specs.IndexMap.{get};
     ghost use Rattle.admit_core.specs.Relations.{preference_mixed};
-    ghost use Rattle.dossier_check.specs.Seen.{AreFirstWishes, IsLastCandidate};
+    ghost use Rattle.dossier_check.specs.RowsBefore.{AreFirstWishes, IsLastCandidate};
 
     ghost test = { λ c. preference_mixed };
 
@@ -126,7 +126,7 @@ impl RowTest<WishRow> for PreferenceTaken {
     ghost use Rattle.indexmap.specs.IndexMap.{get};
     ghost use Rattle.admit_core.specs.Relations.{preference_taken};
     ghost use Rattle.dossier_check.specs.Pairs.{pair_eq};
-    ghost use Rattle.dossier_check.specs.Seen.{AreFirstRows, has_preference};
+    ghost use Rattle.dossier_check.specs.RowsBefore.{AreFirstRows, has_preference};
 
     ghost test = { λ c. preference_taken };
 

@@ -11,7 +11,7 @@ ghost use Rattle.dossier_check.specs.Ids.{ids_of};
 ghost use Rattle.dossier_check.specs.Keys.{AreKeysOf};
 ghost use Rattle.dossier_check.specs.Known.{IsKnown};
 ghost use Rattle.dossier_check.specs.Outcome.{AnswersFault, first_in_named, first_in_ranks, first_from_wishes};
-ghost use Rattle.dossier_check.specs.Seen.{boarded_pairs};
+ghost use Rattle.dossier_check.specs.RowsBefore.{boarded_pairs};
 ghost use Rattle.keyed_hash.specs.Keys.{keyed_by};
 
 use crate::answers::check_answers;

@@ -55,7 +55,7 @@ impl<'a> RowTest<StateRow> for TwoAccepted<'a> {
     ghost use Rattle.std.specs.Prelude.{nat_eq};
     ghost use Rattle.indexmap.specs.IndexMap.{get};
     ghost use Rattle.admit_core.specs.Relations.{two_accepted, wish_ids};
-    ghost use Rattle.dossier_check.specs.Seen.{AreFirstRows, is_accepted_of};
+    ghost use Rattle.dossier_check.specs.RowsBefore.{AreFirstRows, is_accepted_of};
 
     ghost test = { λ c. two_accepted c.tables.now };
 

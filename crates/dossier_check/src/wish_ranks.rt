@@ -8,7 +8,7 @@ ghost use Rattle.admit_core.specs.Lists.{is_among};
 ghost use Rattle.admit_core.specs.Relations.{is_boarded, is_ranked};
 ghost use Rattle.dossier_check.specs.Dealt.{SaysWhoIsRanked};
 ghost use Rattle.dossier_check.specs.Known.{IsKnown};
-ghost use Rattle.dossier_check.specs.Seen.{boarded_pairs};
+ghost use Rattle.dossier_check.specs.RowsBefore.{boarded_pairs};
 ghost use Rattle.dossier_check.specs.WishTests.{may_not_wish};
 
 use crate::known::Known;

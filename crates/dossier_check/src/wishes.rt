@@ -9,7 +9,7 @@ ghost use Rattle.dossier_check.specs.Hashing.{numbers_of_wishes};
 ghost use Rattle.dossier_check.specs.Known.{IsKnown};
 ghost use Rattle.dossier_check.specs.Outcome.{AnswersFault, MayLack};
 ghost use Rattle.dossier_check.specs.WishTests.{IsRanked, others_unless, tests_unless};
-ghost use Rattle.dossier_check.specs.Seen.{AreFirstWishes, KnowsCandidates};
+ghost use Rattle.dossier_check.specs.RowsBefore.{AreFirstWishes, KnowsCandidates};
 ghost use Rattle.keyed_hash.specs.Keys.{keyed_by};
 
 use crate::apart::{Apart, shown_apart};

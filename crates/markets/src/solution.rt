@@ -44,7 +44,7 @@ pub fn solve<L: Ledger>(
 
     ensures led { IfOk result (λ solved. IsLedTo (market_system market.now) (choice picker.old)
         (told picker.old) (told picker.new) solved.bars.items) }
-    ensures early { OnErr result (TellsOfFalls (market_system market.now) (choice picker.old)
+    ensures told_by_then { OnErr result (TellsOfFalls (market_system market.now) (choice picker.old)
         (told picker.old) (told picker.new)) }
     ensures choice { choice picker.new ≡ choice picker.old }
 {

@@ -24,7 +24,7 @@ use Rattle.desk_day.specs.LastPasses.{IsLastPass}
 use Rattle.dossier_check.specs.Ids.{Ids}
 use Rattle.played.specs.LastDays.{IsDeskAfter, IsLastOf, pass_on}
 use Rattle.round.proofs.EarlyEnds.{told_of_all}
-use Rattle.modes.specs.Asking.{TellsPicks}
+use Rattle.modes.specs.LentPicker.{TellsPicks}
 use Rattle.modes.specs.Beds.{BreaksFigures, BreaksFiguring, IsAsked, IsOnlyText, IsTextOf, PicksForFigures}
 use Rattle.modes.specs.Beds.{TellsFigures}
 

@@ -19,7 +19,7 @@ use Rattle.played.specs.PlayedDays.{Played}
 use Rattle.request.specs.declared.modes.Mode.{Mode}
 use Rattle.request.specs.declared.modes.Mode.TheVariants as modes
 use Rattle.request.specs.declared.pickers.PickerName.{PickerName}
-use Rattle.modes.specs.Asking.{ArePicks, Asked, BreaksEnding, BreaksLent, BreaksPicks, TellsAfter, TellsLent}
+use Rattle.modes.specs.LentPicker.{ArePicks, Asked, BreaksEnding, BreaksLent, BreaksPicks, TellsAfter, TellsLent}
 use Rattle.modes.specs.Beds.{IsAsked}
 use Rattle.modes.specs.Endings.{EndsAfter, EndsWith, IsEndOf, IsRefusedWith, lines_before}
 use Rattle.modes.specs.Explained.{IsExplained}

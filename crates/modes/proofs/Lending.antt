@@ -28,7 +28,7 @@ use Rattle.request.specs.declared.modes.Mode.{Mode}
 use Rattle.request.specs.declared.modes.Mode.TheVariants as modes
 use Rattle.request.specs.declared.pickers.PickerName.{PickerName}
 use Rattle.request.specs.declared.request.Request.{Request}
-use Rattle.modes.specs.Asking.{ArePicks, Asked, BreaksLent, BreaksPicks, IsLent, TellsLent, TellsPicks, asked}
+use Rattle.modes.specs.LentPicker.{ArePicks, Asked, BreaksLent, BreaksPicks, IsLent, TellsLent, TellsPicks, asked}
 use Rattle.modes.specs.Beds.{BreaksFiguring}
 use Rattle.modes.specs.Endings.{EndsAfter, EndsLent, IsEndOf, IsRefusedWith, asked_by, lines_before}
 use Rattle.modes.specs.Jobs.{JobView, picker_after}

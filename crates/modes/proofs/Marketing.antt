@@ -10,7 +10,7 @@ use Rattle.markets.specs.Dossiers.{market_candidates, market_of}
 use Rattle.markets.specs.Markets.{MarketRows}
 use Rattle.markets.specs.Solving.{IsLedTo}
 use Rattle.markets.specs.Text.{market_text}
-use Rattle.modes.specs.Asking.{TellsPicks}
+use Rattle.modes.specs.LentPicker.{TellsPicks}
 use Rattle.modes.specs.Market.{BreaksMarket, PicksForMarket, TellsMarket}
 use Rattle.round.proofs.EarlyEnds.{told_of_all}
 

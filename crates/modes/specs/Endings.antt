@@ -20,7 +20,7 @@ use Rattle.request.specs.Request.{IsRequest}
 use Rattle.request.specs.declared.modes.Mode.{Mode}
 use Rattle.request.specs.declared.modes.Mode.TheVariants.{Order, Replay, Chain, Check, Explain, Envy, Beds, Market}
 use Rattle.request.specs.declared.modes.Mode.TheVariants.{Sample}
-use Rattle.modes.specs.Asking.{ArePicks, Asked, BreaksEnding, BreaksPicks, IsLent, TellsAfter, TellsPicks}
+use Rattle.modes.specs.LentPicker.{ArePicks, Asked, BreaksEnding, BreaksPicks, IsLent, TellsAfter, TellsPicks}
 use Rattle.modes.specs.Beds.{TellsFigures}
 use Rattle.modes.specs.Blocked.{blocked_text}
 use Rattle.modes.specs.Checking.{IsChecked}

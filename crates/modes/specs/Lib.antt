@@ -1,4 +1,4 @@
-pub mod Asking
+pub mod LentPicker
 pub mod Beds
 pub mod Blocked
 pub mod CheckedDays

@@ -17,7 +17,7 @@ pub record IsAskedFor {E : Type 0} (m : MarketRows) (result : Result Solved E)
     (chooses chooses_now : List ℕ → List ℕ → ℕ) (before now : List ℕ) : Type 0 where
   pub led : IfOk result
       (λ solved. IsLedTo (market_system m) chooses before now solved.bars.items)
-  pub early : OnErr result (TellsOfFalls (market_system m) chooses before now)
+  pub told_by_then : OnErr result (TellsOfFalls (market_system m) chooses before now)
   pub choice : chooses_now ≡ chooses
 
 -- the text tells the greatest bars of the dossier's market, and the places under them: each

@@ -3,7 +3,7 @@ ghost use Rattle.std.specs.Prelude.{◌≡◌, ◌<◌, ◌≤◌, ◌+◌, ◌-
 ghost use Rattle.admit_core.specs.DossierRows.{beds_of};
 ghost use Rattle.admit_core.specs.Lists.{is_among};
 ghost use Rattle.bed_need.specs.Figures.{Figures, TellsOfFigures};
-ghost use Rattle.modes.specs.Asking.{TellsPicks};
+ghost use Rattle.modes.specs.LentPicker.{TellsPicks};
 ghost use Rattle.modes.specs.Beds.{BreaksFigures, BreaksFiguring, IsOnlyText, IsTextOf, PicksForFigures, TellsFigures};
 ghost use Rattle.modes.specs.Endings.{IsDoneSaying};
 ghost use Rattle.played.specs.LastDays.{IsDeskAfter};

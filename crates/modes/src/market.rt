@@ -3,7 +3,7 @@
 ghost use Rattle.std.specs.Prelude.{◌≡◌, ◌<◌, IfOk, OnErr};
 ghost use Rattle.admit_core.specs.CallOrder.{AreCallOrders};
 ghost use Rattle.admit_core.specs.Falls.{IsGreatest};
-ghost use Rattle.modes.specs.Asking.{TellsPicks};
+ghost use Rattle.modes.specs.LentPicker.{TellsPicks};
 ghost use Rattle.modes.specs.Endings.{IsDoneSaying};
 ghost use Rattle.modes.specs.Market.{BreaksMarket, IsAskedFor, PicksForMarket, TellsMarket};
 ghost use Rattle.markets.specs.Bars.{market_system, matched_under};

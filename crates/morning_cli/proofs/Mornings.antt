@@ -34,7 +34,7 @@ use Rattle.replay_cli.proofs.Played.{can_end, reply_ends}
 use Rattle.request.specs.declared.modes.Mode.{Mode}
 use Rattle.request.specs.declared.request.Request.{Request}
 use Rattle.morning_cli.specs.Answering.{TakesAsked, TakesFor}
-use Rattle.morning_cli.specs.Asked.{IsAsked, asked_of}
+use Rattle.morning_cli.specs.SlotWanted.{IsAsked, asked_of}
 use Rattle.morning_cli.specs.Morning.{IsMorning, IsSlotEnding, morning_text}
 use Rattle.morning_cli.specs.declared.asked.Asked.{Asked}
 

@@ -10,7 +10,7 @@ use Rattle.intake.specs.declared.terms.DatedTerms.{DatedTerms}
 use Rattle.next_morning.specs.Morning.{morning_tables}
 use Rattle.next_morning.specs.RowsBack.{daily_rows}
 use Rattle.slot_text.specs.Texts.{slot_text}
-use Rattle.morning_cli.specs.Asked.{is_daily}
+use Rattle.morning_cli.specs.SlotWanted.{is_daily}
 use Rattle.morning_cli.specs.Morning.{morning_text}
 
 -- the rows of the others do not stand in it

@@ -13,7 +13,7 @@ use Rattle.played.specs.Lent.{Lent}
 use Rattle.request.specs.declared.refusal.WordsRefusal.{WordsRefusal}
 use Rattle.request.specs.declared.refusal.WordsRefusal.TheVariants as refusals
 use Rattle.morning_cli.specs.Answering.{RepliesSlot, TakesAsked, TakesFor}
-use Rattle.morning_cli.specs.Asked.{IsAsked, ReadsAsked, asked_of}
+use Rattle.morning_cli.specs.SlotWanted.{IsAsked, ReadsAsked, asked_of}
 use Rattle.morning_cli.specs.declared.asked.Asked.{Asked}
 
 -- memory runs out before anything is taken

@@ -24,7 +24,7 @@ use Rattle.request.specs.Modes.{slots_of}
 use Rattle.slot_io.specs.declared.refusal.IoRefusal.{IoRefusal}
 use Rattle.slot_io.specs.declared.refusal.IoRefusal.TheVariants as refusals
 use Rattle.morning_cli.specs.Answering.{RepliesSlot, RepliesTo, TakesFor}
-use Rattle.morning_cli.specs.Asked.{asked_of}
+use Rattle.morning_cli.specs.SlotWanted.{asked_of}
 use Rattle.morning_cli.specs.Morning.{IsSlotEnding}
 use Rattle.morning_cli.specs.Run.{EndsSlot, OutcomeFor, WritesOutcome}
 use Rattle.morning_cli.specs.declared.asked.Asked.{Asked}

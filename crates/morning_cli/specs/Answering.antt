@@ -8,7 +8,7 @@ use Rattle.modes.specs.Stopping.{HasNoLine, IsStoppedBy}
 use Rattle.modes.specs.declared.reply.Reply.{Reply}
 use Rattle.played.specs.Lent.{AreBack, Lent}
 use Rattle.replay_cli.specs.Answering.{IsOfWords}
-use Rattle.morning_cli.specs.Asked.{IsAsked, asked_of}
+use Rattle.morning_cli.specs.SlotWanted.{IsAsked, asked_of}
 use Rattle.morning_cli.specs.Morning.{IsSlotEnding}
 use Rattle.morning_cli.specs.declared.asked.Asked.{Asked}
 

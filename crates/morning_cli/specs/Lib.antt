@@ -1,4 +1,4 @@
 pub mod Answering
-pub mod Asked
+pub mod SlotWanted
 pub mod Morning
 pub mod Run

@@ -14,7 +14,7 @@ use Rattle.replay_cli.specs.Delivering.{Delivers}
 use Rattle.replay_cli.specs.Outcome.{IsStop, slots_read}
 use Rattle.replay_cli.specs.Run.{Around, Writes}
 use Rattle.morning_cli.specs.Answering.{RepliesSlot}
-use Rattle.morning_cli.specs.Asked.{asked_of}
+use Rattle.morning_cli.specs.SlotWanted.{asked_of}
 use Rattle.morning_cli.specs.Morning.{IsSlotEnding}
 use Rattle.morning_cli.specs.declared.asked.Asked.{Asked}
 

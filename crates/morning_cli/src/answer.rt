@@ -12,7 +12,7 @@ ghost use Rattle.modes.specs.Endings.{IsDoneWith};
 ghost use Rattle.modes.specs.Replay.{CanBeDated};
 ghost use Rattle.played.specs.LastDesks.{desk_in};
 ghost use Rattle.played.specs.Lent.{AreBack, AreThere, standing};
-ghost use Rattle.morning_cli.specs.Asked.{IsAsked, is_daily};
+ghost use Rattle.morning_cli.specs.SlotWanted.{IsAsked, is_daily};
 ghost use Rattle.morning_cli.specs.Answering.{RepliesSlot, TakesAsked};
 ghost use Rattle.morning_cli.specs.Morning.{IsSlotEnding, morning_text};
 

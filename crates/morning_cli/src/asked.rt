@@ -1,8 +1,8 @@
 //! What the words ask for: a slot, and the run after which it is written.
 ghost use Rattle.std.specs.Prelude.{◌≡◌, IfOk, IfSome, IsTrue, Some, map, string_bytes};
 ghost use Rattle.request.specs.Request.{IsRequest};
-ghost use Rattle.morning_cli.specs.Asked as Words;
-ghost use Rattle.morning_cli.specs.Asked.{IsAsked, ReadsAsked, asked_with, is_daily};
+ghost use Rattle.morning_cli.specs.SlotWanted as Words;
+ghost use Rattle.morning_cli.specs.SlotWanted.{IsAsked, ReadsAsked, asked_with, is_daily};
 
 use admit_core::Slot;
 use request::{Mode, Request, WordsRefusal, read_request};

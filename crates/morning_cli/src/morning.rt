@@ -5,7 +5,7 @@ ghost use Rattle.admit_core.specs.Standing.{dossier_of};
 ghost use Rattle.admit_core.specs.declared.tables.Tables.{Tables};
 ghost use Rattle.modes.specs.Endings.{IsDoneWith};
 ghost use Rattle.next_morning.specs.Morning.{HaveDates};
-ghost use Rattle.morning_cli.specs.Asked.{is_daily};
+ghost use Rattle.morning_cli.specs.SlotWanted.{is_daily};
 ghost use Rattle.morning_cli.specs.Morning.{morning_text};
 
 use admit_core::{OutOfMemory, Slot};

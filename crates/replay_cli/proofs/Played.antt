@@ -20,7 +20,7 @@ use Rattle.intake.specs.Dated.{AreDatedFor, dated_from, terms_in}
 use Rattle.intake.specs.Input.{IsInputOf, IsJobOf, Job, NamesIn}
 use Rattle.intake.specs.declared.input.Input.{Input}
 use Rattle.intake.specs.declared.terms.DatedTerms.{DatedTerms}
-use Rattle.modes.specs.Asking.{BreaksEnding, OthersUntold, IsLent, TellsAfter}
+use Rattle.modes.specs.LentPicker.{BreaksEnding, OthersUntold, IsLent, TellsAfter}
 use Rattle.modes.specs.Endings.{AreDaysOf, BreaksJob, CanEnd, EndsAfter, EndsWith, IsEndOf, IsEnding}
 use Rattle.modes.proofs.KeptEnds.{ends_after_whole}
 use Rattle.modes.proofs.CheckedExits.{IsAfterDays, check_done, check_exit, is_after}

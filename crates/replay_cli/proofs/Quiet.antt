@@ -1,5 +1,6 @@
 -- Where memory runs out before there is a text, no read has failed and no slot was too large.
-use Rattle.std.proofs.Common.{◌≡◌, ◌⊎◌, ℕ, ◌+◌, ◌≤◌, ◌<◌, List, Result, Ok, Err, IsErrAnd, ap, arith, inl, inr, length, refl}
+use Rattle.std.proofs.Common.{◌≡◌, ◌⊎◌, ℕ, ◌+◌, ◌≤◌, ◌<◌, List, Result, Ok, Err, IsErrAnd, ap, arith, inl, inr, length}
+use Rattle.std.proofs.Common.{refl}
 use Rattle.std.proofs.Common.{subst}
 use Rattle.std.specs.Fmt.{digits}
 use Rattle.admit_core.specs.Lines.{slot_name}

@@ -32,6 +32,6 @@ pub picks_early : {E : Type 0} (sys : FallingSystem) (chooses chooses_now : List
 picks_early sys chooses chooses_now before now r is told same = record {
   told = IfOk-from_err r _ is;
   chosen = IfOk-from_err r _ is;
-  early = on_err r told;
+  told_by_then = on_err r told;
   choice = same;
 }

@@ -71,9 +71,9 @@ picks_of : {E : Type 0} (s new : State) (orders : List CallOrder) (ceilings : Li
     → OnErr r (TellsOfFalls (boarding s orders ceilings) choice told told_after) → choice_now ≡ choice
     → PicksFalls (boarding s orders ceilings) choice choice_now told told_after r
 picks_of s new orders ceilings stamp choice choice_now told told_after (Ok found) is early same =
-    record { told = is.by.told_of; chosen = is.by.chosen; early = tt; choice = same }
+    record { told = is.by.told_of; chosen = is.by.chosen; told_by_then = tt; choice = same }
 picks_of s new orders ceilings stamp choice choice_now told told_after (Err e) is early same =
-    record { told = tt; chosen = tt; early = early; choice = same }
+    record { told = tt; chosen = tt; told_by_then = early; choice = same }
 
 pub record IsWhole {E : Type 0} (s new : State) (orders : List CallOrder) (ceilings : List ℕ) (stamp : Stamp)
     (choice choice_now : List ℕ → List ℕ → ℕ) (told told_after : List ℕ) (r : Result PassRecord E) : Type 0 where

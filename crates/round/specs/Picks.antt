@@ -13,5 +13,5 @@ pub record PicksFalls {E : Type 0} (sys : FallingSystem)
     (result : Result PassRecord E) : Type 0 where
   pub told : IfOk result (λ found. now ≡ before ++ schools_of found.falls)
   pub chosen : IfOk result (λ found. AreChosen sys chooses before sys.ceilings found.falls)
-  pub early : OnErr result (TellsOfFalls sys chooses before now)
+  pub told_by_then : OnErr result (TellsOfFalls sys chooses before now)
   pub choice : chooses_now ≡ chooses

@@ -1,7 +1,7 @@
 use Rattle.std.proofs.Common.{◌≡◌, ◌<◌, ◌∙◌, ap, sym, length, arith, List}
 use Rattle.admit_core.specs.declared.state.Mark.{Mark}
 use Rattle.admit_core.specs.DossierRows.{DossierRows}
-use Rattle.auto_answer.proofs.Asking.{all_asked, asked_here, asked_nobody, counts_there, same_rows}
+use Rattle.auto_answer.proofs.AnsweringAll.{all_asked, asked_here, asked_nobody, counts_there, same_rows}
 use Rattle.auto_answer.proofs.answers.auto_all.Goals as goal
 
 pub loop-place-init : goal.loop-place-init

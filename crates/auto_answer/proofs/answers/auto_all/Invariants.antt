@@ -1,4 +1,4 @@
-use Rattle.auto_answer.proofs.Asking.{AreAsked}
+use Rattle.auto_answer.proofs.AnsweringAll.{AreAsked}
 use Rattle.auto_answer.proofs.answers.auto_all.Given as goal
 
 abbrev pub invariant-loop-place : goal.invariant-loop-place

@@ -60,8 +60,8 @@ loop-school-preserved g c =
       given = given now.so_far.0 now.given;
     }
 
-pub returns-in_err-_school-clause-early : goal.returns-in_err-_school-clause-early
-returns-in_err-_school-clause-early g c =
+pub returns-in_err-_school-clause-told_by_then : goal.returns-in_err-_school-clause-told_by_then
+returns-in_err-_school-clause-told_by_then g c =
     let f = g.F.Falling in
     let now = c.loop-school.invariant in
     on_err _ (early_now (f.system c.args.system.now) (g.met.F.Falling.lawful c.args.system.now) _ _

@@ -45,6 +45,6 @@ returns-in_err-settle-clause-asked g c = record {
   told = search rules;
   falls = on_err _ (told_early _ _ _ _ _ _ (c.in_ok-round.ensures.system
       ∙ ap (λ (q : Questions). boarding (lent q.state c.args.beds.now) q.orders c.args.ceilings.now)
-      c.questions.view_is) c.in_err-settle.ensures.stops.early);
+      c.questions.view_is) c.in_err-settle.ensures.stops.told_by_then);
   choice = search rules;
 }

@@ -2,7 +2,7 @@ use Rattle.std.proofs.Common.{◌≡◌, ◌∙◌, nat_eq, Ok, ap, arith, lengt
 use Rattle.std.specs.List.Sorted.{IsPermutation}
 use Rattle.indexmap.specs.IndexMap.{get}
 use Rattle.admit_core.proofs.SortedLists.{IsPermutation-sorted_by, length-sorted_by}
-use Rattle.dossier_check.specs.Seen.{AreFirstWishes}
+use Rattle.dossier_check.specs.RowsBefore.{AreFirstWishes}
 use Rattle.dossier_check.proofs.FirstRows.{kept_candidates}
 use Rattle.dossier_check.proofs.Reordered.{candidates_moved, no_fault_moved}
 use Rattle.dossier_check.proofs.WishTests.{found_others}

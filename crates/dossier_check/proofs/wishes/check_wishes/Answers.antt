@@ -5,7 +5,7 @@ use Rattle.indexmap.specs.IndexMap.{get}
 use Rattle.admit_core.specs.declared.slot.Slot.TheVariants as slots
 use Rattle.admit_core.specs.Faults.{first_after, first_in}
 use Rattle.admit_core.specs.Relations.{wish_tests}
-use Rattle.dossier_check.specs.Seen.{AreFirstWishes, KnowsCandidates}
+use Rattle.dossier_check.specs.RowsBefore.{AreFirstWishes, KnowsCandidates}
 use Rattle.dossier_check.proofs.FirstRows.{kept_candidates}
 use Rattle.dossier_check.proofs.wishes.check_wishes.Goals as goal
 

@@ -18,7 +18,8 @@ loop-wish-preserved c =
     let k = c.loop-wish.wish in
     elim c.if-is_in_doubt.branch [
       | then-is_in_doubt+in_ok-push w ↦
-          let here = wish_there d.wishes k (wish_in d.wishes k) (omega (arith, c.loop-wish-test.true, c.wish_count-wish-end.ensures))
+          let here = wish_there d.wishes k (wish_in d.wishes k)
+          (omega (arith, c.loop-wish-test.true, c.wish_count-wish-end.ensures))
           refl in
           let called = w.is_called_by_limit.ensures ∙ c.requires.called_are k (wish_in d.wishes k) here in
           rw w.doubts-is

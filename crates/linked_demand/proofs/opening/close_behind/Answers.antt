@@ -30,7 +30,8 @@ loop-item-preserved c =
     let p : ℕ = (get_or behind i no_item).wish in
     let flags = c.loop-item.opens in
     let inv = c.loop-item.invariant in
-    let within : p < length c.args.opens.now = omega (arith, (c.requires.wishes i no_item lt).within, c.requires.opens) in
+    let within : p < length c.args.opens.now =
+    omega (arith, (c.requires.wishes i no_item lt).within, c.requires.opens) in
     let closes : c.close_if.new.self ≡ set flags p (get_or flags p false && not (not (has_bed_there s p))) =
     c.close_if.ensures
     ∙ ap (set flags p) (asked_open (get_or flags p false) c.has_item_bed-has_bed.result (has_bed_there s p) (λ opened.

@@ -13,14 +13,15 @@ returns-clause-led g c =
     led _ (market_system c.args.market.now) _ _ _ _ _ c.in_ok-round.ensures.system c.in_ok-settle.ensures.run
     c.solved_by.ensures.bars
 
-pub returns-in_err-round-clause-early : goal.returns-in_err-round-clause-early
-returns-in_err-round-clause-early g c = on_err c.from_residual.result (none_told (market_system c.args.market.now) _ _)
+pub returns-in_err-round-clause-told_by_then : goal.returns-in_err-round-clause-told_by_then
+returns-in_err-round-clause-told_by_then g c =
+    on_err c.from_residual.result (none_told (market_system c.args.market.now) _ _)
 
-pub returns-in_err-settle-clause-early : goal.returns-in_err-settle-clause-early
-returns-in_err-settle-clause-early g c =
+pub returns-in_err-settle-clause-told_by_then : goal.returns-in_err-settle-clause-told_by_then
+returns-in_err-settle-clause-told_by_then g c =
     on_err c.from_residual-in_err-settle.result
     (some_told _ (market_system c.args.market.now) _ _ _ _ c.in_ok-round.ensures.system
-    c.in_err-settle.ensures.stops.early)
+    c.in_err-settle.ensures.stops.told_by_then)
 
 pub settle-requires : goal.settle-requires
 settle-requires g c =

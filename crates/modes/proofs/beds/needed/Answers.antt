@@ -6,7 +6,7 @@ use Rattle.desk_day.specs.DeskStates.{DeskStates}
 use Rattle.played.specs.LastDays.{IsDeskAfter}
 use Rattle.played.specs.LastDesks.{DeskBy}
 use Rattle.std.proofs.lemmas.Result.{IfOk-from_err}
-use Rattle.modes.specs.Asking.{TellsPicks}
+use Rattle.modes.specs.LentPicker.{TellsPicks}
 use Rattle.modes.specs.Beds.{BreaksFigures, PicksForFigures, TellsFigures}
 use Rattle.modes.proofs.Lending.{same_led}
 use Rattle.modes.proofs.beds.needed.Goals as goal

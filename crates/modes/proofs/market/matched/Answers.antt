@@ -2,7 +2,7 @@ use Rattle.std.proofs.Common.{List, sym, subst}
 use Rattle.admit_core.proofs.Plain.{on_err}
 use Rattle.admit_core.specs.CallOrder.{AreCallOrders}
 use Rattle.admit_core.specs.declared.ranking.CallOrder.{CallOrder}
-use Rattle.modes.specs.Asking.{TellsPicks}
+use Rattle.modes.specs.LentPicker.{TellsPicks}
 use Rattle.modes.specs.Market.{BreaksMarket, PicksForMarket, TellsMarket}
 use Rattle.modes.proofs.market.matched.Goals as goal
 

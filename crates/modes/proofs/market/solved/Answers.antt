@@ -3,6 +3,6 @@ use Rattle.modes.proofs.market.solved.Goals as goal
 pub returns-clause-asked : goal.returns-clause-asked
 returns-clause-asked g c = record {
   led = c.solve.ensures.led;
-  early = c.solve.ensures.early;
+  told_by_then = c.solve.ensures.told_by_then;
   choice = c.solve.ensures.choice;
 }

@@ -60,4 +60,4 @@ pub returns-in_err-solved-clause-breaks : goal.returns-in_err-solved-clause-brea
 returns-in_err-solved-clause-breaks g c =
     on_err c.from_residual.result
     (breaks_market c.args.dossier.now c.args.orders.now.orders c.args.named.now.market c.requires.market _ _ _
-    c.in_err-solved.ensures.asked.early)
+    c.in_err-solved.ensures.asked.told_by_then)

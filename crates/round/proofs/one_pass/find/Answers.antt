@@ -39,19 +39,19 @@ returns-clause-pass g c =
       ap with_falls (c.from_vec-2.ensures ∙ c.in_ok-falls.ensures.run.1),
     )
 
-pub returns-in_err-round-clause-early : goal.returns-in_err-round-clause-early
-returns-in_err-round-clause-early g c = on_err _ (none_told _ _ _)
+pub returns-in_err-round-clause-told_by_then : goal.returns-in_err-round-clause-told_by_then
+returns-in_err-round-clause-told_by_then g c = on_err _ (none_told _ _ _)
 
-pub returns-in_err-falls-clause-early : goal.returns-in_err-falls-clause-early
-returns-in_err-falls-clause-early g c =
-    on_err _ (told_early _ _ _ _ _ _ c.in_ok-round.ensures.system c.in_err-falls.ensures.stops.early)
+pub returns-in_err-falls-clause-told_by_then : goal.returns-in_err-falls-clause-told_by_then
+returns-in_err-falls-clause-told_by_then g c =
+    on_err _ (told_early _ _ _ _ _ _ c.in_ok-round.ensures.system c.in_err-falls.ensures.stops.told_by_then)
 
-pub returns-in_err-bars-clause-early : goal.returns-in_err-bars-clause-early
-returns-in_err-bars-clause-early g c =
+pub returns-in_err-bars-clause-told_by_then : goal.returns-in_err-bars-clause-told_by_then
+returns-in_err-bars-clause-told_by_then g c =
     let by = c.in_ok-falls.ensures.run.0 in
     on_err _ (told_of_all _ _ _ _ _ by.falls c.in_ok-round.ensures.system by.run.is_run by.run.chosen by.run.told_of)
 
-pub returns-in_err-offers-clause-early : goal.returns-in_err-offers-clause-early
-returns-in_err-offers-clause-early g c =
+pub returns-in_err-offers-clause-told_by_then : goal.returns-in_err-offers-clause-told_by_then
+returns-in_err-offers-clause-told_by_then g c =
     let by = c.in_ok-falls.ensures.run.0 in
     on_err _ (told_of_all _ _ _ _ _ by.falls c.in_ok-round.ensures.system by.run.is_run by.run.chosen by.run.told_of)

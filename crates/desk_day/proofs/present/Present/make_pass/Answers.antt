@@ -12,9 +12,9 @@ use Rattle.desk_day.proofs.ToldPasses.{told_seen, told_whole}
 use Rattle.desk_day.proofs.WhoIsAsked.{are_of, asks_after}
 use Rattle.desk_day.proofs.present.Present.make_pass.Goals as goal
 
-pub returns-in_err-pass-clause-early : goal.returns-in_err-pass-clause-early
-returns-in_err-pass-clause-early g c =
-    on_err _ (told_seen _ _ c.self.view_is _ _ _ _ _ c.in_err-pass.ensures.early)
+pub returns-in_err-pass-clause-told_by_then : goal.returns-in_err-pass-clause-told_by_then
+returns-in_err-pass-clause-told_by_then g c =
+    on_err _ (told_seen _ _ c.self.view_is _ _ _ _ _ c.in_err-pass.ensures.told_by_then)
 
 pub with_offered-requires-clause-own : goal.with_offered-requires-clause-own
 with_offered-requires-clause-own g c =
@@ -30,8 +30,8 @@ with_offered-requires-clause-offers g c =
     (ap (λ (t : State). t.dossier) c.in_ok-pass.ensures.pass.1.offers)
     (c.as_slice.ensures ∙ offers_kept _ c.in_ok-pass.ensures.pass)
 
-pub returns-in_err-asked-clause-early : goal.returns-in_err-asked-clause-early
-returns-in_err-asked-clause-early g c =
+pub returns-in_err-asked-clause-told_by_then : goal.returns-in_err-asked-clause-told_by_then
+returns-in_err-asked-clause-told_by_then g c =
     let is = c.in_ok-pass.ensures.pass.1.by in
     on_err _ (told_seen _ _ c.self.view_is _ _ _ _ _ (told_whole _ _ _ _ _ _ _ is.is_pass is.told_of is.chosen))
 

@@ -111,13 +111,13 @@ returns-clause-made g c =
       ap with_pass c.in_ok-pass.ensures.pass.2,
     )
 
-pub returns-in_err-pass-clause-early : goal.returns-in_err-pass-clause-early
-returns-in_err-pass-clause-early g c =
+pub returns-in_err-pass-clause-told_by_then : goal.returns-in_err-pass-clause-told_by_then
+returns-in_err-pass-clause-told_by_then g c =
     let seen = ap (λ (r : RunningStates). r.present) c.self.view_is in
-    on_err _ (told_seen _ _ seen _ _ _ _ _ c.in_err-pass.ensures.early)
+    on_err _ (told_seen _ _ seen _ _ _ _ _ c.in_err-pass.ensures.told_by_then)
 
-pub returns-in_err-autos-clause-early : goal.returns-in_err-autos-clause-early
-returns-in_err-autos-clause-early g c =
+pub returns-in_err-autos-clause-told_by_then : goal.returns-in_err-autos-clause-told_by_then
+returns-in_err-autos-clause-told_by_then g c =
     let seen = ap (λ (r : RunningStates). r.present) c.self.view_is in
     let is = c.in_ok-pass.ensures.pass.1.by in
     on_err _ (told_seen _ _ seen _ _ _ _ _ (told_whole _ _ _ _ _ _ _ is.is_pass is.told_of is.chosen))

@@ -71,10 +71,10 @@ returns-then-is_last-clause-dossier g c = c.make_pass.ensures.dossier ∙ c.pass
 pub returns-in_err-end-clause-made : goal.returns-in_err-end-clause-made
 returns-in_err-end-clause-made g c = IfOk-from_err _ _ c.from_residual.ensures.0
 
-pub returns-in_err-end-clause-early : goal.returns-in_err-end-clause-early
-returns-in_err-end-clause-early g c =
+pub returns-in_err-end-clause-told_by_then : goal.returns-in_err-end-clause-told_by_then
+returns-in_err-end-clause-told_by_then g c =
     on_err _ (told_in_pass _ c.passes.invariant.so_far c.passes.invariant.choice
-    c.in_err-end.ensures.early)
+    c.in_err-end.ensures.told_by_then)
 
 pub returns-in_err-end-clause-choice : goal.returns-in_err-end-clause-choice
 returns-in_err-end-clause-choice g c = c.make_pass.ensures.choice ∙ c.passes.invariant.choice
@@ -85,8 +85,8 @@ returns-in_err-end-clause-dossier g c = c.make_pass.ensures.dossier ∙ c.passes
 pub returns-in_err-push-clause-made : goal.returns-in_err-push-clause-made
 returns-in_err-push-clause-made g c = IfOk-from_err _ _ c.from_residual-in_err-push.ensures.0
 
-pub returns-in_err-push-clause-early : goal.returns-in_err-push-clause-early
-returns-in_err-push-clause-early g c =
+pub returns-in_err-push-clause-told_by_then : goal.returns-in_err-push-clause-told_by_then
+returns-in_err-push-clause-told_by_then g c =
     on_err _ (told_behind_pass _ c.passes.invariant.so_far c.passes.invariant.choice
     c.in_ok-end.ensures.made)
 

@@ -36,8 +36,8 @@ returns-in_err-passes-clause-undone g c = ran_out _ _ c.from_residual-in_err-pas
     (record {
       unfit = c.in_ok-lapsed.ensures.fits;
       unopened = tt;
-      untold = told_more c.in_err-passes.ensures.early;
-      asked = told_there c.in_ok-lapsed.ensures.present c.in_err-passes.ensures.early;
+      untold = told_more c.in_err-passes.ensures.told_by_then;
+      asked = told_there c.in_ok-lapsed.ensures.present c.in_err-passes.ensures.told_by_then;
     })
 
 pub returns-in_err-passes-clause-dossier : goal.returns-in_err-passes-clause-dossier

@@ -4,7 +4,7 @@ use Rattle.admit_core.proofs.Plain.{on_err}
 use Rattle.indexmap.specs.IndexMap.{get}
 use Rattle.admit_core.specs.Faults.{first_row}
 use Rattle.admit_core.specs.Relations.{preference_taken}
-use Rattle.dossier_check.specs.Seen.{has_preference}
+use Rattle.dossier_check.specs.RowsBefore.{has_preference}
 use Rattle.dossier_check.specs.Pairs.{pair_eq}
 use Rattle.dossier_check.proofs.FirstRows.{first_row-push, firsts-noted, same_preference, pair_eq_sound, pair_eq-sym}
 use Rattle.dossier_check.proofs.preferences.PreferenceTakenRowTestWishRow.stands.Goals as goal

@@ -2,7 +2,7 @@ use Rattle.std.proofs.Common.{◌≡◌, nat_eq, option_map, Some, None, refl, s
 use Rattle.indexmap.specs.IndexMap.{get}
 use Rattle.admit_core.specs.declared.refusal.Reason.TheVariants.{TwoAccepted}
 use Rattle.admit_core.specs.Faults.{first_row}
-use Rattle.dossier_check.specs.Seen.{is_accepted_of}
+use Rattle.dossier_check.specs.RowsBefore.{is_accepted_of}
 use Rattle.dossier_check.proofs.AcceptedRows.{accepting, two_accepted-none, two_accepted-some, is_accepted_of-none}
 use Rattle.dossier_check.proofs.AcceptedRows.{is_accepted_of-some}
 use Rattle.dossier_check.proofs.FirstRows.{first_row-push, firsts-other, firsts-noted}

@@ -44,7 +44,8 @@ returns c =
     sure_listed s orders limited kept.notes_are.called_are opens c.deref.result.now
     (c.deref.ensures.value ∙ kept.in_doubt_are) now
     (c.in_ok-list_sure.ensures
-    ∙ ap (λ (xs : List ℕ). xs ++ wishes_of (filter (is_sure_open s opens) c.deref.result.now)) c.new-found.ensures.items) in
+    ∙ ap (λ (xs : List ℕ). xs ++ wishes_of (filter (is_sure_open s opens) c.deref.result.now))
+    c.new-found.ensures.items) in
     let second : ListsAlso (reached_open opens lines r.reached.items (length lines)) now found =
     rw (c.deref-2.ensures.value, c.deref-3.ensures.value) at c.in_ok-list_fronts.ensures in
     in_order_once (is_proposed_at row) (length row.state.dossier.wishes) found c.sort_unstable.new.self.items

@@ -14,7 +14,8 @@ use Rattle.admit_core.specs.AutoAnswer.{best_live, auto_one, auto_all, freed_by,
 use Rattle.day_state.specs.Kept.{mark_in, wish_in}
 use Rattle.day_state.proofs.OneAccepted.{who}
 use Rattle.day_state.proofs.Places.{candidate_in}
-use Rattle.auto_answer.specs.Asked.{IsCount, answered_at, asked_at, freed_asked, freed_at, freed_with, is_live_ranked}
+use Rattle.auto_answer.specs.AnsweredAt.{IsCount, answered_at, asked_at, freed_asked, freed_at, freed_with}
+use Rattle.auto_answer.specs.AnsweredAt.{is_live_ranked}
 use Rattle.auto_answer.proofs.Again.{preference, ranked, least_stands, none_changed}
 use Rattle.auto_answer.proofs.Answering.{turned}
 use Rattle.auto_answer.proofs.Freeing.{passing_place}
