@@ -39,7 +39,7 @@ use Rattle.intake.specs.Input.{Job, accepted, job_of}
 use Rattle.intake.specs.Reading.{files_in, sized, with_rows, with_slot, with_slots}
 use Rattle.intake.specs.declared.stop.Stop.{Stop}
 use Rattle.law_cases.proofs.Valid.{valid_by}
-use Rattle.modes.specs.Asking.{IsLent}
+use Rattle.modes.specs.LentPicker.{IsLent}
 use Rattle.modes.specs.Checking.{IsChecked, proved_text}
 use Rattle.modes.specs.Endings.{IsEnding}
 use Rattle.modes.specs.Replay.{replay_text}
