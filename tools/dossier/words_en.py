@@ -21,10 +21,10 @@ WAIT_OR_WITHDRAW = "You can leave it waiting, or withdraw it."
 NOTHING_TO_DO = {  # by whether the candidate uses the automatic answerer, where that is known
     True: "There is nothing to do: of the wishes that you prefer, those that wait go on waiting, and an offer for one "
           "of them would take the place of this one.",
-    False: "There is nothing to do: your waiting wishes go on waiting, and if you accept another offer, you give this "
-           "place up.",
+    False: "There is nothing to do: your waiting wishes go on waiting, and if you accept another offer, this wish is "
+           "refused.",
     None: "There is nothing to do: your waiting wishes go on waiting. If another offer is accepted, by you or by the "
-          "automatic answerer, you give this place up."}
+          "automatic answerer, this wish is refused."}
 STILL_REFUSE = "You can still refuse this place, but a wish that is refused never comes back."
 STILL_REFUSE_ALL = ("You can still refuse this place, but a wish that is refused never comes back, nor do those that "
                     "the automatic answerer gave up for you.")

@@ -22,11 +22,11 @@ OVER_WITH_ALL = "Une démission met fin à tous les vœux que l'on a encore, et 
 WAIT_OR_WITHDRAW = "Vous pouvez le laisser en attente ou le retirer."
 NOTHING_TO_DO = {  # selon que la personne candidate a le répondeur automatique, ou qu'on ne le sait pas
     True: "Il n'y a rien à faire : parmi les vœux que vous préférez, ceux qui attendent restent en attente, et une "
-          "proposition pour l'un d'eux remplacerait cette place.",
-    False: "Il n'y a rien à faire : vos vœux en attente le restent, et si vous acceptez une autre proposition, vous "
-           "perdez cette place.",
+          "proposition pour l'un d'eux remplacerait ce vœu.",
+    False: "Il n'y a rien à faire : vos vœux en attente le restent, et si vous acceptez une autre proposition, ce vœu "
+           "est refusé.",
     None: "Il n'y a rien à faire : vos vœux en attente le restent. Si une autre proposition est acceptée, par vous ou "
-          "par le répondeur automatique, vous perdez cette place."}
+          "par le répondeur automatique, ce vœu est refusé."}
 STILL_REFUSE = "Vous pouvez encore refuser cette place, mais un vœu refusé ne revient jamais."
 STILL_REFUSE_ALL = ("Vous pouvez encore refuser cette place, mais un vœu refusé ne revient jamais, ni ceux auxquels le "
                     "répondeur automatique a renoncé pour vous.")
