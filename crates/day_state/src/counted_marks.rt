@@ -21,6 +21,7 @@ use crate::mark::{
 use crate::marks::Marks;
 use crate::numbers::BundleNumber;
 use admit_core::{Dossier, Freed, Mark, OutOfMemory, Stamp, Wish};
+use flags::Flags;
 use std::alloc::Global;
 use std::marker::Model;
 
@@ -123,7 +124,7 @@ impl<'d> CountedMarks<'d> {
     }
 
     /// Whether each wish waits, by place.
-    pub fn waits(&self) -> &[bool]
+    pub fn waits(&self) -> &Flags
         ensures { result.now ≡ map is_waiting self.now.marks }
     {
         self.marks.waits()

@@ -24,6 +24,7 @@ use crate::marked::MarkedWishes;
 use crate::marks::Marks;
 use crate::numbers::BundleNumber;
 use admit_core::{Answer, AnswerKind, Dossier, Freed, OutOfMemory, Stamp, Status, Terms};
+use flags::Flags;
 use std::alloc::Global;
 use std::marker::Model;
 use std::rc::Rc;
@@ -130,7 +131,7 @@ impl<'d> DayState<'d> {
     }
 
     /// Whether each wish waits, by place.
-    pub fn waits(&self) -> &[bool]
+    pub fn waits(&self) -> &Flags
         ensures { result.now ≡ map is_waiting self.now.marks }
     {
         self.live.waits()

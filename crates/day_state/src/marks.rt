@@ -1,10 +1,11 @@
-//! The marks of wishes: a byte each for the status, and the stamps beside.
+//! The marks of wishes: a byte each for the status, the stamps beside, and a bit for who waits.
 ghost use Rattle.std.specs.Prelude.{◌≡◌, ◌<◌, length, map, slice_set, IfOk, replicate};
 ghost use Rattle.admit_core.specs.State.{is_live, is_waiting};
 ghost use Rattle.day_state.specs.Kept.{mark_in, waiting_mark};
 ghost use Rattle.day_state.specs.Marks.{statuses_of};
 
 use admit_core::{Mark, OutOfMemory, Stamp, Status};
+use flags::Flags;
 use std::alloc::Global;
 use std::marker::Model;
 
@@ -13,7 +14,7 @@ use std::marker::Model;
 pub struct Marks {
     statuses: Vec<Status>,
     stamps: Vec<Stamp>,
-    waits: Vec<bool>,
+    waits: Flags,
 }
 
 // Not derived: so the lists are dropped in one step where they are held.
@@ -36,7 +37,7 @@ impl Model for Marks {
 
     ghost view = { λ m. marks_of m.statuses.items m.stamps.items };
 
-    ghost invariant = { λ m. AreMarks m.statuses.items m.stamps.items m.waits.items };
+    ghost invariant = { λ m. AreMarks m.statuses.items m.stamps.items m.waits };
 }
 
 impl Marks {
@@ -47,7 +48,7 @@ impl Marks {
         Ok(Marks {
             statuses: vec![in alloc; Status::Waiting; count]?,
             stamps: vec![in alloc; Stamp { day: 0, pass: 0 }; count]?,
-            waits: vec![in alloc; true; count]?,
+            waits: Flags::all(alloc, count, true)?,
         })
     }
 
@@ -58,7 +59,7 @@ impl Marks {
         Ok(Marks {
             statuses: self.statuses.as_slice().to_vec(alloc)?,
             stamps: self.stamps.as_slice().to_vec(alloc)?,
-            waits: self.waits.as_slice().to_vec(alloc)?,
+            waits: self.waits.copy(alloc)?,
         })
     }
 
@@ -73,9 +74,7 @@ impl Marks {
         self.stamps
             .as_mut_slice()
             .copy_from_slice(other.stamps.as_slice());
-        self.waits
-            .as_mut_slice()
-            .copy_from_slice(other.waits.as_slice());
+        self.waits.set_from(&other.waits);
     }
 
     /// The statuses of all wishes, by place.
@@ -86,10 +85,10 @@ impl Marks {
     }
 
     /// Whether each wish waits, by place.
-    pub fn waits(&self) -> &[bool]
+    pub fn waits(&self) -> &Flags
         ensures { result.now ≡ map is_waiting self.now }
     {
-        self.waits.as_slice()
+        &self.waits
     }
 
     /// The mark of a wish.
@@ -134,6 +133,6 @@ impl Marks {
     {
         self.statuses[wish as usize] = mark.status;
         self.stamps[wish as usize] = mark.stamp;
-        self.waits[wish as usize] = mark.is_waiting();
+        self.waits.set(wish, mark.is_waiting());
     }
 }

@@ -9,8 +9,7 @@ pub invariant_of-result : goal.invariant_of-result
 invariant_of-result c =
     let statuses = c.in_ok-vec.ensures.items_if_clones_equal (λ y e. e) in
     let stamps = c.in_ok-vec-2.ensures.items_if_clones_equal (λ y e. e) in
-    let waits = c.in_ok-vec-3.ensures.items_if_clones_equal (λ y e. e) in
-    rw (statuses, stamps, waits) (record {
+    rw (statuses, stamps, c.in_ok-all.ensures) (record {
       long = length-replicate c.args.count waiting_mark.stamp ∙ sym (length-replicate c.args.count waiting_mark.status);
       flags = sym (ap (map is_waiting) (marks_replicate c.args.count waiting_mark.status waiting_mark.stamp)
           ∙ map_replicate is_waiting c.args.count waiting_mark);

@@ -1,4 +1,6 @@
-use Rattle.std.proofs.Common.{◌≡◌, ◌∙◌, ap, sym, length, List}
+use Rattle.std.proofs.Common.{◌≡◌, ◌∙◌, ap, sym, length, Bool, List}
+use Rattle.std.proofs.lemmas.List.{length-map}
+use Rattle.admit_core.specs.State.{is_waiting}
 use Rattle.admit_core.specs.declared.state.Status.{Status}
 use Rattle.day_state.specs.Marks.{marks_of}
 use Rattle.day_state.proofs.Paired.{length-marks}
@@ -15,3 +17,15 @@ copy_from_slice-requires c =
     ∙ long
     ∙ length-marks n.statuses.items n.stamps.items c.other.invariant.long
     ∙ sym (ap (λ (l : List Status). length l) c.as_slice.ensures.value)
+
+pub set_from-requires : goal.set_from-requires
+set_from-requires c =
+    let m = c.self.inside in
+    let n = c.other.inside in
+    let long : length (marks_of m.statuses.items m.stamps.items) ≡ length (marks_of n.statuses.items n.stamps.items) =
+    rw (sym c.self.view_is, sym c.other.view_is) at c.requires in
+    ap (λ (l : List Bool). length l) c.self.invariant.flags
+    ∙ length-map (marks_of m.statuses.items m.stamps.items) is_waiting
+    ∙ long
+    ∙ sym (length-map (marks_of n.statuses.items n.stamps.items) is_waiting)
+    ∙ sym (ap (λ (l : List Bool). length l) c.other.invariant.flags)
