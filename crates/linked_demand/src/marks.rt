@@ -2,13 +2,14 @@
 ghost use Rattle.std.specs.Prelude.{◌≡◌, ◌<◌, true, false, length, replicate, slice_index_or, slice_set, IfOk, IfSome, IfNone};
 
 use admit_core::OutOfMemory;
+use flags::Flags;
 use std::alloc::Global;
 use std::marker::Model;
 
 /// Marks of places, counted from 0. They are taken away one after another, without a look at places
 /// that have none.
 pub struct Marks {
-    flags: Vec<bool>,
+    flags: Flags,
     places: Vec<u32>,
 }
 
@@ -28,9 +29,9 @@ impl Model for Marks {
 
     ghost Value = { List Bool };
 
-    ghost view = { λ m. m.flags.items };
+    ghost view = { λ m. m.flags };
 
-    ghost invariant = { λ m. MarksAreListed m.flags.items m.places.items (vec_capacity m.places) };
+    ghost invariant = { λ m. MarksAreListed m.flags m.places.items (vec_capacity m.places) };
 }
 
 impl Marks {
@@ -38,7 +39,7 @@ impl Marks {
     pub fn none(alloc: Global, count: u32) -> Result<Marks, OutOfMemory>
         ensures { IfOk result (λ m. m ≡ replicate count false) }
     {
-        let flags = vec![in alloc; false; count as usize]?;
+        let flags = Flags::all(alloc, count as usize, false)?;
         let places = Vec::with_capacity(alloc, count as usize)?;
         Ok(Marks { flags, places })
     }
@@ -48,8 +49,8 @@ impl Marks {
         requires { place < length self.old }
         ensures { self.new ≡ slice_set self.old place true }
     {
-        if !self.flags[place as usize] {
-            self.flags[place as usize] = true;
+        if !self.flags.get(place) {
+            self.flags.set(place, true);
             self.places.push_reserved(place);
         }
     }
@@ -62,7 +63,7 @@ impl Marks {
         ensures none { IfNone result (self.old ≡ replicate (length self.old) false) }
     {
         let place = self.places.pop()?;
-        self.flags[place as usize] = false;
+        self.flags.set(place, false);
         Some(place)
     }
 }

@@ -4,13 +4,14 @@ ghost use Rattle.admit_core.specs.State.{is_waiting};
 
 use admit_core::OutOfMemory;
 use day_state::DayState;
+use flags::Flags;
 use std::alloc::Global;
 use std::marker::Model;
 
 /// Whether each wish is open, by place: it waits, and is not closed.
 #[derive(Drop)]
 pub struct OpenWishes {
-    open: Vec<bool>,
+    open: Flags,
 }
 
 impl Model for OpenWishes {
@@ -18,7 +19,7 @@ impl Model for OpenWishes {
 
     ghost Value = { List Bool };
 
-    ghost view = { λ o. o.open.items };
+    ghost view = { λ o. o.open };
 }
 
 impl OpenWishes {
@@ -26,7 +27,7 @@ impl OpenWishes {
     pub fn all_waiting(alloc: Global, state: &DayState<'_>) -> Result<OpenWishes, OutOfMemory>
         ensures { IfOk result (λ o. o ≡ map is_waiting state.now.marks) }
     {
-        let open = state.waits().to_vec(alloc)?;
+        let open = state.waits().copy(alloc)?;
         Ok(OpenWishes { open })
     }
 
@@ -41,10 +42,7 @@ impl OpenWishes {
     pub fn get(&self, place: u32) -> bool
         ensures { result ≡ slice_index_or self.now place false }
     {
-        match self.open.get(place as usize) {
-            None => false,
-            Some(open) => *open,
-        }
+        self.open.get(place)
     }
 
     /// Closes a wish.
@@ -52,7 +50,7 @@ impl OpenWishes {
         requires { place < length self.old }
         ensures { self.new ≡ slice_set self.old place false }
     {
-        self.open[place as usize] = false;
+        self.open.set(place, false);
     }
 
     /// Closes a wish where its candidate is behind the bar of its school.

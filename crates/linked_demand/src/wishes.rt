@@ -19,6 +19,5 @@ pub fn waits(state: &DayState<'_>, wish: u32) -> bool
     ensures { result ≡ is_waiting (mark_in state.now.marks wish) }
 {
     let _ = state.marks(); // one for each wish
-    let waits = state.waits();
-    waits[wish as usize]
+    state.waits().get(wish)
 }
