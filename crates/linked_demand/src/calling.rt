@@ -12,7 +12,7 @@ ghost use Rattle.linked_demand.specs.Seats.{applies_at};
 
 use crate::claims::span_of;
 use crate::guesses::Guesses;
-use crate::rows::{put_in, rows_with_room};
+use crate::rows::{empty_rows, put_with_room};
 use crate::wishing::{Application, counts_by_programme, group_count, wishes_by_group};
 use admit_core::{CallOrders, OutOfMemory};
 use day_state::{DayState, Span};
@@ -44,9 +44,11 @@ fn claim_of(wishes: &[Application], span: Span) -> &[Application]
     &wishes[span.from as usize..span.to as usize]
 }
 
-/// Deals the wishes of one who is called to the programmes that they are for.
+/// Deals the wishes of one who is called to the programmes that they are for. The counts tell what
+/// room the rows are given.
 fn deal(
     called: &mut Vec<Vec<CalledWish>>,
+    counts: &[u32],
     state: &DayState<'_>,
     orders: &CallOrders,
     claim: &[Application],
@@ -57,21 +59,27 @@ fn deal(
     requires before { All (λ k. before_at state.now.dossier orders.now.orders k ≡ before)
         (wishes_of claim.now) }
     requires rows { length called.old.items ≡ length state.now.dossier.programmes }
+    requires counts { length counts.now ≡ length state.now.dossier.programmes }
     ensures { OnOk result (ArePutIn (called_wish_at state.now.dossier orders.now.orders)
         (applies_at state.now.dossier) (wishes_of claim.now) called.old.items called.new.items) }
 {
     let dossier = state.dossier();
     let _ = &dossier.wishes; // learns the invariant
     for application in claim {
-        let wish = application.wish;
-        put_in(called, application.programme, CalledWish { wish, before })?;
+        let wish = CalledWish {
+            wish: application.wish,
+            before,
+        };
+        put_with_room(called, counts, application.programme, wish)?;
     }
     Ok(())
 }
 
-/// Goes along the call order of a group, and deals the wishes for its programmes.
+/// Goes along the call order of a group, and deals the wishes for its programmes. The counts tell
+/// what room the rows are given.
 fn call_group(
     called: &mut Vec<Vec<CalledWish>>,
+    counts: &[u32],
     state: &DayState<'_>,
     orders: &CallOrders,
     group: u32,
@@ -82,6 +90,7 @@ fn call_group(
     requires once { IsDistinct nat_eq (order_at orders.now.orders group) }
     requires wishes { AreApplicationsIn state.now.dossier group wishes.now }
     requires rows { length called.old.items ≡ length state.now.dossier.programmes }
+    requires counts { length counts.now ≡ length state.now.dossier.programmes }
     ensures { OnOk result (ArePutIn (called_wish_at state.now.dossier orders.now.orders)
         (applies_at state.now.dossier) (called_by state.now.dossier orders.now.orders group)
         called.old.items called.new.items) }
@@ -90,13 +99,15 @@ fn call_group(
     guesses.renew(wishes);
     for (before, candidate) in order.iter().enumerate() {
         let span = span_of(wishes, *candidate, guesses.of(*candidate));
-        deal(called, state, orders, claim_of(wishes, span), before as u32)?;
+        let claim = claim_of(wishes, span);
+        deal(called, counts, state, orders, claim, before as u32)?;
     }
     Ok(())
 }
 
 /// For each programme the wishes for it in call order, each with how many the order has before its
-/// candidate.
+/// candidate. A row takes room when its first wish comes: the lists of earlier groups have given
+/// theirs back by then.
 pub fn called_by_programme(
     alloc: Global,
     state: &DayState<'_>,
@@ -111,12 +122,20 @@ pub fn called_by_programme(
     call_everyone(state, orders);
     call_once(state, orders);
     let counts = counts_by_programme(alloc, state)?;
-    let mut called = rows_with_room(alloc, &counts)?;
+    let mut called = empty_rows(alloc, counts.len())?;
     let mut guesses = Guesses::of_wishes(alloc, state)?;
     let mut rows = wishes_by_group(alloc, state, &counts)?;
     for group in 0..group_count(state) {
         let wishes = mem::replace(&mut rows[group as usize], Vec::new(alloc));
-        call_group(&mut called, state, orders, group, &wishes, &mut guesses)?;
+        call_group(
+            &mut called,
+            &counts,
+            state,
+            orders,
+            group,
+            &wishes,
+            &mut guesses,
+        )?;
     }
     Ok(called)
 }

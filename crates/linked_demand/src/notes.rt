@@ -121,8 +121,8 @@ impl Notes {
         note_at(&self.notes, wish) % 4 % 2 == 1
     }
 
-    /// Whether a wish may need no seat while it waits: it is called by a limit, or its candidate has
-    /// another one in the programme, which may be live.
+    /// Whether a wish may need no seat while it waits: it is called by a limit, or its candidate
+    /// has another one in the programme, which may be live.
     pub fn is_in_doubt(&self, wish: u32) -> bool
         ensures { result ≡ is_in_doubt self.now wish }
     {

@@ -17,8 +17,8 @@ use Rattle.linked_demand.proofs.calling.call_group.Goals as goal
 pub span_of-span-requires-clause-rises : goal.span_of-span-requires-clause-rises
 span_of-span-requires-clause-rises c = candidates_rise c.requires.wishes
 
-pub claim_of-requires : goal.claim_of-requires
-claim_of-requires c =
+pub claim_of-claim-requires : goal.claim_of-claim-requires
+claim_of-claim-requires c =
     let span = c.span_of-span.result in
     (claim_there c.requires.wishes (get_or c.as_slice-order.result.now c.loop-before.before 0) span
     c.span_of-span.ensures (slice_range c.args.wishes.now span.from span.to) refl).within
@@ -26,12 +26,12 @@ claim_of-requires c =
 pub deal-requires-clause-within : goal.deal-requires-clause-within
 deal-requires-clause-within c =
     (claim_there c.requires.wishes (get_or c.as_slice-order.result.now c.loop-before.before 0)
-    c.span_of-span.result c.span_of-span.ensures c.claim_of.result.now c.claim_of.ensures).places
+    c.span_of-span.result c.span_of-span.ensures c.claim_of-claim.result.now c.claim_of-claim.ensures).places
 
 pub deal-requires-clause-programmes : goal.deal-requires-clause-programmes
 deal-requires-clause-programmes c =
     (claim_there c.requires.wishes (get_or c.as_slice-order.result.now c.loop-before.before 0)
-    c.span_of-span.result c.span_of-span.ensures c.claim_of.result.now c.claim_of.ensures).programmes
+    c.span_of-span.result c.span_of-span.ensures c.claim_of-claim.result.now c.claim_of-claim.ensures).programmes
 
 pub overflow_cast-before : goal.overflow_cast-before
 overflow_cast-before c =
@@ -55,9 +55,9 @@ deal-requires-clause-before c =
     c.requires.group c.index-as_slice-group.is
     (c.as_slice-order.ensures ∙ ap (λ (o : CallOrder). o.list) (sym c.index-as_slice-group.is)) in
     let claimed = claim_there c.requires.wishes (get_or order c.loop-before.before 0)
-    c.span_of-span.result c.span_of-span.ensures c.claim_of.result.now c.claim_of.ensures in
+    c.span_of-span.result c.span_of-span.ensures c.claim_of-claim.result.now c.claim_of-claim.ensures in
     before_here c.args.state.now.dossier orders c.args.group c.loop-before.before c.loop-before.before order
-    (wishes_of c.claim_of.result.now) order_is c.requires.once c.loop-before-test.true refl claimed.is
+    (wishes_of c.claim_of-claim.result.now) order_is c.requires.once c.loop-before-test.true refl claimed.is
 
 pub loop-before-preserved : goal.loop-before-preserved
 loop-before-preserved c =
@@ -65,9 +65,9 @@ loop-before-preserved c =
     let orders = c.args.orders.now.orders in
     let order = c.as_slice-order.result.now in
     let i = c.loop-before.before in
-    let claim = wishes_of c.claim_of.result.now in
+    let claim = wishes_of c.claim_of-claim.result.now in
     let claimed = claim_there c.requires.wishes (get_or order i 0)
-    c.span_of-span.result c.span_of-span.ensures c.claim_of.result.now c.claim_of.ensures in
+    c.span_of-span.result c.span_of-span.ensures c.claim_of-claim.result.now c.claim_of-claim.ensures in
     let f = group_claim d c.args.group in
     puts_on (called_wish_at d orders) (applies_at d) (flat_map f (take i order)) claim (flat_map f (take (i + 1) order))
     c.args.called.now.items c.loop-before.called.items c.deal.new.called.items

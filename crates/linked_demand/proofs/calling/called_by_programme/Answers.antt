@@ -15,7 +15,7 @@ use Rattle.linked_demand.proofs.calling.called_by_programme.Goals as goal
 pub call_group-requires-clause-wishes : goal.call_group-requires-clause-wishes
 call_group-requires-clause-wishes c =
     let P = λ (xs : List Application). AreApplicationsIn c.args.state.now.dossier c.loop-group.group xs in
-    subst P (sym c.deref-in-loop-group.ensures.value)
+    subst P (sym c.deref-in-loop-group-2.ensures.value)
     (applications_taken c.args.state.now.dossier c.loop-group.group c.loop-group.rows.items c.replace-wishes.result _
     (omega (arith, c.loop-group-test.true, c.group_count-group-end.ensures))
     (c.replace-wishes.ensures.value ∙ c.index_mut.ensures.value) c.loop-group.invariant.of_groups)
@@ -44,7 +44,7 @@ returns c =
     let Q = λ (count : ℕ). AreEmpty count c.in_ok-called.called.items in
     puts_begun (called_wish_at d orders) (applies_at d) (called_all d orders n) (length d.programmes)
     (called_wishes_for d orders) c.in_ok-called.called.items c.loop-group.called.items
-    (subst Q (ap length c.deref.ensures.value ∙ c.in_ok-counts.ensures.one_each) c.in_ok-called.ensures)
+    (subst Q (omega (arith, c.len.ensures, c.in_ok-counts.ensures.one_each)) c.in_ok-called.ensures)
     c.loop-group.invariant.called
     (λ p lt. ap (map (called_wish_at d orders)) (row_called d orders n p
     (omega (arith, group_in d valid p lt, c.loop-group-test.false, c.group_count-group-end.ensures))))

@@ -15,8 +15,8 @@ use Rattle.linked_demand.proofs.calling.deal.Goals as goal
 abbrev called_wish : ℕ → ℕ → CalledWish
 called_wish wish before = record { wish = wish; before = before }
 
-pub put_in-requires : goal.put_in-requires
-put_in-requires c =
+pub put_with_room-requires-clause-row : goal.put_with_room-requires-clause-row
+put_with_room-requires-clause-row c =
     let d = c.args.state.now.dossier in
     let P : DossierRows → Type 0 = IsValid in
     let valid = subst P (c.dossier.view_is ∙ c.dossier-dossier.ensures) c.dossier.invariant in
@@ -47,7 +47,7 @@ loop-application-preserved c =
     let here = λ (h : ℕ). ap (λ (a : Application). nat_eq a.programme h) read.1 in
     puts_more (called_wish_at d c.args.orders.now.orders) (applies_at d) ks i (λ h. nat_eq own.programme h)
     (called_wish own.wish c.args.before) c.args.called.now.items c.loop-application.called.items
-    c.put_in.new.rows.items read.0 here
+    c.put_with_room.new.rows.items read.0 here
     (ap (λ (a : Application). called_wish a.wish c.args.before) read.1
     ∙ ap (called_wish k) (sym (c.requires.before i 0 read.0)))
-    c.loop-application.invariant c.in_ok-put_in.ensures
+    c.loop-application.invariant c.in_ok-put_with_room.ensures
