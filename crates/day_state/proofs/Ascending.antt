@@ -1,5 +1,6 @@
 -- Rising numbers.
-use Rattle.std.proofs.Common.{ℕ, suc, ◌+◌, ◌<◌, ◌≡◌, List, [], ◌∷◌, length, get_or, arith}
+use Rattle.std.proofs.Common.{ℕ, suc, ◌+◌, ◌≤◌, ◌<◌, ◌≡◌, List, [], ◌∷◌, length, get_or, ap, inl, inr, arith}
+use Rattle.std.proofs.lemmas.Bool.{cases_lt}
 use Rattle.std.specs.List.{range_with_len, AllByRecursion}
 use Rattle.std.specs.List.Sorted.{IsStrictlyIncreasing}
 use Rattle.std.proofs.lemmas.List.FromFn.{get_or-range_with_len, length-range_with_len}
@@ -21,6 +22,16 @@ ascends (n ∷ ns) rises = (
 
 pub ascends_from : (ns : List ℕ) → IsStrictlyIncreasing ns → Ascends ns
 ascends_from ns rises = ascends ns (λ i j lt within. AllPairs-from_increasing ns rises i j 0 lt within)
+
+pub no_fall : (ns : List ℕ) → IsStrictlyIncreasing ns → (i j : ℕ) → i ≤ j → j < length ns
+    → get_or ns i 0 ≤ get_or ns j 0
+no_fall ns rises i j le lt =
+    elim (cases_lt i j) [
+      | inl before ↦ omega (arith, AllPairs-from_increasing ns rises i j 0 before lt)
+      | inr behind ↦
+          let same : i ≡ j = omega (arith, le, behind) in
+          omega (arith, ap (λ (k : ℕ). get_or ns k 0) same)
+    ]
 
 pub range_rises : (a n : ℕ) → IsStrictlyIncreasing (range_with_len a n)
 range_rises a n k lt =

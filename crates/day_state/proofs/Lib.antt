@@ -2,7 +2,7 @@
 -- One mark: Counting, Places, KeptCounts, Lost, Freeing, Change, SameMarks, Paired (statuses and stamps).
 -- The order by candidate: Ordering, Keys, Runs. A candidate's wishes: Along, Changing, Best, Taking.
 -- Bundles, from bottom to top: Numbering (their first wishes), Laters (the others), Sharing (which
--- have a count), Ascending, Numbered (how they get their numbers),
+-- have a count), Ascending, Numbered (the numbers of those), Entries (how a wish's number is kept),
 -- Bundled (how many of a bundle are live), Telling (what that tells of its candidate).
 -- Days: OneAccepted, Filled, Lapsing, Answering, Independence (candidates stand apart), and last
 -- FittingLists.
@@ -19,6 +19,7 @@ pub mod Laters
 pub mod Sharing
 pub mod Ascending
 pub mod Numbered
+pub mod Entries
 pub mod Lost
 pub mod Freeing
 pub mod Changing

@@ -71,7 +71,7 @@ find_nothing : {X : Type 0} (p : X → Bool) → ((x : X) → p x ≡ false) →
 find_nothing p none [] = refl
 find_nothing p none (x ∷ xs) = rw (none x) (find_nothing p none xs)
 
-find_has : {X : Type 0} (p : X → Bool) (xs : List X) → list_any p xs ≡ true → (y : X) × (find p xs ≡ Some y)
+pub find_has : {X : Type 0} (p : X → Bool) (xs : List X) → list_any p xs ≡ true → (y : X) × (find p xs ≡ Some y)
 find_has p [] e = absurd (cc)
 find_has p (x ∷ xs) e =
     elim (cases_Bool (p x)) [

@@ -1,6 +1,6 @@
 -- Bundles: the wishes of one candidate in one programme, or in one school.
 use Rattle.std.specs.Prelude.{◌≡◌, ℕ, ◌<◌, Bool, true, false, not, ◌&&◌, nat_lt, List, [], ◌∷◌, length, map, filter}
-use Rattle.std.specs.Prelude.{take, All, IsTrue}
+use Rattle.std.specs.Prelude.{take, All, IsTrue, ◌/◌}
 use Rattle.std.specs.Prelude.{Option, Some, None, ◌==◌, slice_get, slice_index, slice_set, unwrap_or, if◌then◌else◌}
 use Rattle.std.specs.Option.{ForSome}
 use Rattle.std.specs.List.{find, list_any, range_with_len}
@@ -11,6 +11,9 @@ use Rattle.admit_core.specs.State.{State, is_live, is_school}
 use Rattle.day_state.specs.declared.bundle_numbers.Later.{Later}
 use Rattle.day_state.specs.declared.bundles.Sites.{Sites}
 use Rattle.day_state.specs.declared.bundles.Sites.TheVariants.{Programmes, Schools}
+use Rattle.day_state.specs.declared.numbers.Entry.{Entry}
+use Rattle.day_state.specs.declared.numbers.Kind.{Kind}
+use Rattle.day_state.specs.declared.numbers.Kind.TheVariants.{Unsited, Single, Several}
 use Rattle.day_state.specs.declared.numbers.BundleNumber.{BundleNumber}
 use Rattle.day_state.specs.declared.numbers.BundleNumber.TheVariants.{NoSite, Alone, Shared}
 use Rattle.day_state.specs.Kept.{mark_in, wish_in, IsKept}
@@ -92,9 +95,29 @@ shared_by bundles = rank_of bundles (length bundles)
 abbrev pub shared_in_all : Sites → List Wish → ℕ
 shared_in_all sites ws = shared_by (bundles_of sites ws)
 
--- what a packed number stands for
-abbrev pub unpacked : ℕ → BundleNumber
-unpacked n = if n == 4294967295 then NoSite else if n == 4294967294 then Alone else Shared n
+-- the number of an entry that was found
+abbrev pub number_found : Option Entry → ℕ
+number_found None = 0
+number_found (Some e) = e.number
+
+-- the number of the bundle of the wish at k by its kind, where wishes that share theirs have an entry
+abbrev pub number_for : List Entry → ℕ → Kind → BundleNumber
+number_for entries k Unsited = NoSite
+number_for entries k Single = Alone
+number_for entries k Several = Shared (number_found (find (λ e. e.wish == k) entries))
+
+-- the kind of the bundle of the wish at a place
+abbrev pub kind_at : List Kind → ℕ → Kind
+kind_at kinds k = unwrap_or (slice_get kinds k) Unsited
+
+abbrev pub numbers_with : List Kind → List Entry → List BundleNumber
+numbers_with kinds entries =
+    map (λ k. number_for entries k (kind_at kinds k)) (range_with_len 0 (length kinds))
+
+-- before the place of a block of 64 wishes stand entries of earlier blocks alone
+abbrev pub AreStarts : List Entry → List ℕ → Type 0
+AreStarts entries starts =
+    (block : ℕ) → All (λ e. e.wish / 64 < block) (take (slice_index starts block) entries)
 
 -- the number of a bundle that has one
 abbrev pub count_of : BundleNumber → Option ℕ
@@ -186,13 +209,24 @@ abbrev pub later_at : ℕ → Option ℕ → List Later
 later_at k None = []
 later_at k (Some b) = if b == k then [] else record { wish = k; first = b } ∷ []
 
--- the number of a bundle by its site, while none has a number of its own
-abbrev pub bare_number : Option ℕ → BundleNumber
-bare_number None = NoSite
-bare_number (Some site) = Alone
+-- an entry tells the number of a bundle of two wishes or more
+pub record IsEntry (bundles : List (Option ℕ)) (e : Entry) : Type 0 where
+  pub within : e.wish < length bundles
+  pub number : number_of bundles (number_in bundles e.wish) ≡ Shared e.number
 
--- the first wish of each bundle of two wishes or more has its number, and all others what they had
-pub record AreFirstsNumbered (bundles : List (Option ℕ)) (old new : List BundleNumber) : Type 0 where
+-- each wish of such a bundle has one
+pub record AreEntries (bundles : List (Option ℕ)) (entries : List Entry) : Type 0 where
+  pub each : All (IsEntry bundles) entries
+  pub all : (k b : ℕ) → k < length bundles → number_in bundles k ≡ Some b → is_shared bundles b ≡ true
+      → list_any (λ e. e.wish == k) entries ≡ true
+
+-- the kind of a bundle of one wish, by its site
+abbrev pub bare_kind : Option ℕ → Kind
+bare_kind None = Unsited
+bare_kind (Some site) = Single
+
+-- each wish with an entry is one of several, and all others are what they were
+pub record AreMarkedShared (entries : List Entry) (old new : List Kind) : Type 0 where
   pub long : length new ≡ length old
-  pub each : (k : ℕ) → k < length bundles → number_at new k
-      ≡ (if is_shared bundles k then Shared (rank_of bundles k) else number_at old k)
+  pub each : (k : ℕ) → k < length old → kind_at new k
+      ≡ (if list_any (λ e. e.wish == k) entries then Several else kind_at old k)

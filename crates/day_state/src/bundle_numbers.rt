@@ -1,14 +1,15 @@
 //! The walks that number the bundles of a dossier's wishes.
-ghost use Rattle.std.specs.Prelude.{◌≡◌, ℕ, ◌<◌, ◌^◌, ◌++◌, List, Option, map, length, IfOk, OnOk, replicate, None};
+ghost use Rattle.std.specs.Prelude.{◌≡◌, ℕ, ◌<◌, ◌^◌, ◌++◌, true, All, List, Option, map, length, IfOk, OnOk, replicate, None};
 ghost use Rattle.admit_core.specs.declared.dossier.Wish.{Wish};
 ghost use Rattle.std.specs.Option.{ForSome};
+ghost use Rattle.day_state.specs.declared.bundles.Sites.{Sites};
 ghost use Rattle.day_state.specs.declared.bundles.Sites.TheVariants.{Programmes, Schools};
-ghost use Rattle.day_state.specs.Bundles.{site_of, AreSitesBelow, AreTheirs, bundles_of, joined, bundle_there, noted, noted_candidate, AreLaters, later_at, shared_places, bare_number, AreFirstsNumbered, all_numbers};
+ghost use Rattle.day_state.specs.Bundles.{site_of, AreSitesBelow, AreTheirs, bundles_of, joined, bundle_there, noted, noted_candidate, AreLaters, later_at, shared_places, is_shared, rank_of, AreEntries, bare_kind, AreMarkedShared, all_numbers};
 ghost use Rattle.day_state.specs.Kept.{IsIndex, wish_in};
 
 use crate::ahead::Ahead;
 use crate::bundles::Sites;
-use crate::numbers::{BundleNumber, Numbers};
+use crate::numbers::{Entry, Kind, Numbers};
 use admit_core::{OutOfMemory, Wish};
 use std::alloc::Global;
 
@@ -203,49 +204,90 @@ pub fn shared_firsts(alloc: Global, laters: &[Later]) -> Result<Vec<u32>, OutOfM
     Ok(firsts)
 }
 
-/// What stands for a bundle by its site, while no bundle has a number.
-fn bare_number(site: Option<u32>) -> BundleNumber
-    ensures { result ≡ bare_number site }
+/// The number of a bundle by its first wish: its place among those of shared bundles.
+fn place_of(shared: &[u32], first: u32) -> u32
+    requires few { length shared.now < 2 ^ 32 }
+    ensures { (bundles : List (Option ℕ)) → shared.now ≡ shared_places bundles
+        → first < length bundles → is_shared bundles first ≡ true
+        → result ≡ rank_of bundles first }
+{
+    match shared.binary_search(&first) {
+        Ok(place) => place as u32,
+        Err(_) => 0,
+    }
+}
+
+/// The entries of the wishes in bundles of two or more, ascending by wish. Of a bundle of three
+/// the first wish has two, which are the same.
+fn entries_of(alloc: Global, shared: &[u32], laters: &[Later]) -> Result<Vec<Entry>, OutOfMemory>
+    requires few { length shared.now < 2 ^ 32 }
+    ensures { IfOk result (λ v. (sites : Sites) (ws : List Wish)
+        → shared.now ≡ shared_places (bundles_of sites ws)
+        → AreLaters (bundles_of sites ws) laters.now → AreEntries (bundles_of sites ws) v.items) }
+{
+    let mut entries = Vec::new(alloc);
+    entries.reserve_exact(laters.len().saturating_mul(2))?;
+    for later in laters {
+        let number = place_of(shared, later.first);
+        entries.push(Entry {
+            wish: later.first,
+            number,
+        })?;
+        entries.push(Entry {
+            wish: later.wish,
+            number,
+        })?;
+    }
+    entries.sort_unstable_by_key(|entry| entry.wish);
+    Ok(entries)
+}
+
+/// What the bundle of a wish is by its site, where it is alone in it.
+fn bare_kind(site: Option<u32>) -> Kind
+    ensures { result ≡ bare_kind site }
 {
     match site {
-        None => BundleNumber::NoSite,
-        Some(_) => BundleNumber::Alone,
+        None => Kind::Unsited,
+        Some(_) => Kind::Single,
     }
 }
 
-/// The numbers of bundles of which each has one wish.
-pub fn bare_numbers(alloc: Global, sites: Sites, wishes: &[Wish]) -> Result<Numbers, OutOfMemory>
-    ensures { IfOk result (λ n. n ≡ map (λ w. bare_number (site_of sites w)) wishes.now) }
+/// The kinds of bundles of which each has one wish.
+fn bare_kinds(alloc: Global, sites: Sites, wishes: &[Wish]) -> Result<Vec<Kind>, OutOfMemory>
+    ensures { IfOk result (λ v. v.items ≡ map (λ w. bare_kind (site_of sites w)) wishes.now) }
 {
-    let mut numbers = Numbers::with_capacity(alloc, wishes.len())?;
+    let mut kinds = Vec::with_capacity(alloc, wishes.len())?;
     for wish in wishes {
-        numbers.push(bare_number(site_of(sites, *wish)))?;
+        kinds.push(bare_kind(site_of(sites, *wish)))?;
     }
-    Ok(numbers)
+    Ok(kinds)
 }
 
-/// Numbers the bundles of two wishes or more, at the first wish of each.
-pub fn number_firsts(numbers: &mut Numbers, sites: Sites, wishes: &[Wish], shared: &[u32])
+/// Notes of each wish that has an entry that it shares its bundle.
+fn mark_shared(kinds: &mut Vec<Kind>, entries: &[Entry])
+    requires { All (λ e. e.wish < length kinds.old.items) entries.now }
+    ensures { AreMarkedShared entries.now kinds.old.items kinds.new.items }
+{
+    for entry in entries {
+        kinds[entry.wish as usize] = Kind::Several;
+    }
+}
+
+/// The numbers of all bundles. The shared ones are known by their first wishes, ascending.
+pub fn number_all(
+    alloc: Global,
+    sites: Sites,
+    wishes: &[Wish],
+    shared: &[u32],
+    laters: &[Later],
+) -> Result<Numbers, OutOfMemory>
     requires few { length wishes.now < 2 ^ 31 }
-    requires long { length numbers.old ≡ length wishes.now }
     requires shared { shared.now ≡ shared_places (bundles_of sites wishes.now) }
-    ensures { AreFirstsNumbered (bundles_of sites wishes.now) numbers.old numbers.new }
-{
-    for (number, first) in shared.iter().enumerate() {
-        numbers.set(*first, BundleNumber::Shared(number as u32));
-    }
-}
-
-/// Gives the later wishes of each bundle the number of its first one.
-pub fn number_laters(numbers: &mut Numbers, sites: Sites, wishes: &[Wish], laters: &[Later])
-    requires few { length wishes.now < 2 ^ 31 }
     requires laters { AreLaters (bundles_of sites wishes.now) laters.now }
-    requires firsts { AreFirstsNumbered (bundles_of sites wishes.now)
-        (map (λ w. bare_number (site_of sites w)) wishes.now) numbers.old }
-    ensures { numbers.new ≡ all_numbers sites wishes.now }
+    ensures { IfOk result (λ n. n ≡ all_numbers sites wishes.now) }
 {
-    for later in laters {
-        let number = numbers.get(later.first);
-        numbers.set(later.wish, number);
-    }
+    let entries = entries_of(alloc, shared, laters)?;
+    let mut kinds = bare_kinds(alloc, sites, wishes)?;
+    mark_shared(&mut kinds, &entries);
+    Ok(Numbers::new(alloc, kinds, entries)?)
 }

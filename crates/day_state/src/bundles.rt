@@ -5,7 +5,7 @@ ghost use Rattle.day_state.specs.Bundles.{AreLaters, all_numbers, bundles_of, nu
 ghost use Rattle.admit_core.specs.State.{is_live};
 ghost use Rattle.day_state.specs.Kept.{mark_in, one_if, recount_some};
 
-use crate::bundle_numbers::{Later, bare_numbers, number_firsts, number_laters, shared_firsts};
+use crate::bundle_numbers::{Later, number_all, shared_firsts};
 use crate::counts::{copy_counts, recount_some, zeros};
 use crate::marks::Marks;
 use crate::numbers::{BundleNumber, Numbers};
@@ -52,9 +52,7 @@ impl Bundles {
     {
         let shared = shared_firsts(alloc, laters)?;
         let live = zeros(alloc, shared.len())?;
-        let mut numbers = bare_numbers(alloc, sites, wishes)?;
-        number_firsts(&mut numbers, sites, wishes, &shared);
-        number_laters(&mut numbers, sites, wishes, laters);
+        let numbers = number_all(alloc, sites, wishes, &shared, laters)?;
         Ok(Bundles {
             numbers: Rc::new(alloc, numbers)?,
             live,

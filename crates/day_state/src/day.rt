@@ -232,8 +232,8 @@ impl<'d> DayState<'d> {
         self.live.is_live_in_its_school(wish)
     }
 
-    /// The number of a wish's bundle in its programme: its candidate's wishes there. It follows from
-    /// the dossier alone, so it may be kept and asked about in any of its states.
+    /// The number of a wish's bundle in its programme: its candidate's wishes there. It follows
+    /// from the dossier alone, so it may be kept and asked about in any of its states.
     pub fn seat_bundle(&self, wish: u32) -> BundleNumber
         requires { wish < length self.now.dossier.wishes }
         ensures { result ≡ seat_bundle self.now.dossier wish }

@@ -1,17 +1,11 @@
-//! The numbers of bundles, in four bytes a wish.
-ghost use Rattle.std.specs.Prelude.{◌≡◌, ◌<◌, ◌++◌, [], ◌∷◌, length, slice_set, IfOk, OnOk};
-ghost use Rattle.std.specs.Option.{ForSome};
-ghost use Rattle.day_state.specs.Bundles.{number_at, count_of, unpacked};
+//! The numbers of bundles: a byte a wish, and an entry for each wish that shares a bundle.
+ghost use Rattle.std.specs.Prelude.{◌≡◌, ◌<◌, ◌==◌, ◌/◌, All, length, slice_index, take, IfOk};
+ghost use Rattle.std.specs.List.{find};
+ghost use Rattle.day_state.specs.Bundles.{AreStarts, number_at, count_of, number_found, numbers_with};
 
 use admit_core::OutOfMemory;
 use std::alloc::Global;
 use std::marker::Model;
-
-/// What stands for no site.
-const NO_SITE: u32 = 4_294_967_295;
-
-/// What stands for a wish that is alone in its bundle.
-const ALONE: u32 = 4_294_967_294;
 
 /// The bundle of a wish: none without a site, the wish alone, or one of more wishes, with its
 /// number.
@@ -34,29 +28,67 @@ impl BundleNumber {
     }
 }
 
-/// Of each wish the number of its bundle.
-#[derive(Drop)]
+/// What the bundle of a wish is, without its number: none, the wish alone, or one of several.
+#[derive(Clone, Copy)]
+pub enum Kind {
+    Unsited,
+    Single,
+    Several,
+}
+
+/// A wish that shares its bundle with others, and the bundle's number.
+#[derive(Clone, Copy)]
+pub struct Entry {
+    pub wish: u32,
+    pub number: u32,
+}
+
+/// A block is so many wishes: their entries are sought from one place on.
+const BLOCK: u32 = 64;
+
+/// Of each wish the number of its bundle. Few wishes share a bundle, and only these have an entry.
 pub struct Numbers {
-    packed: Vec<u32>,
+    kinds: Vec<Kind>,
+    entries: Vec<Entry>,
+    /// For each block a place before which none of its entries stands; without one, the first.
+    starts: Vec<usize>,
+}
+
+// Not derived: so numbers are dropped in one step where they are held.
+impl Drop for Numbers {
+    fn drop(self) {
+        let Numbers {
+            kinds: _,
+            entries: _,
+            starts: _,
+        } = self;
+    }
 }
 
 impl Model for Numbers {
-    ghost use Rattle.std.specs.Prelude.{List, map};
+    ghost use Rattle.std.specs.Prelude.{List};
     ghost use Rattle.day_state.specs.declared.numbers.BundleNumber.{BundleNumber};
-    ghost use Rattle.day_state.specs.Bundles.{unpacked};
+    ghost use Rattle.day_state.specs.Bundles.{AreStarts, numbers_with};
 
     ghost Value = { List BundleNumber };
 
-    ghost view = { λ n. map unpacked n.packed.items };
+    ghost view = { λ n. numbers_with n.kinds.items n.entries.items };
+
+    ghost invariant = { λ n. AreStarts n.entries.items n.starts.items };
 }
 
 impl Numbers {
-    /// No number yet, with room for so many.
-    pub fn with_capacity(alloc: Global, count: usize) -> Result<Numbers, OutOfMemory>
-        ensures { IfOk result (λ n. n ≡ []) }
+    /// Numbers by the kind of each wish and the entries. Where these ascend by wish, a number is
+    /// found among the entries of one block.
+    pub fn new(alloc: Global, kinds: Vec<Kind>, entries: Vec<Entry>) -> Result<Numbers, OutOfMemory>
+        ensures { IfOk result (λ n. n ≡ numbers_with kinds.items entries.items) }
     {
-        let packed = Vec::with_capacity(alloc, count)?;
-        Ok(Numbers { packed })
+        let starts = starts_of(alloc, &entries)?;
+        Ok(Numbers {
+            kinds,
+            entries,
+            starts,
+        })
     }
 
     /// The number of a wish.
@@ -64,47 +96,51 @@ impl Numbers {
         requires { wish < length self.now }
         ensures { result ≡ number_at self.now wish }
     {
-        unpacked(self.packed[wish as usize])
-    }
-
-    /// Gives a wish another number.
-    pub fn set(&mut self, wish: u32, number: BundleNumber)
-        requires place { wish < length self.old }
-        requires number { ForSome (count_of number) (λ n. n < 4294967294) }
-        ensures { self.new ≡ slice_set self.old wish number }
-    {
-        self.packed[wish as usize] = packed(number);
-    }
-
-    /// Gives the next wish its number.
-    pub fn push(&mut self, number: BundleNumber) -> Result<(), OutOfMemory>
-        requires { ForSome (count_of number) (λ n. n < 4294967294) }
-        ensures { OnOk result (self.new ≡ self.old ++ number ∷ []) }
-    {
-        self.packed.push(packed(number))?;
-        Ok(())
+        match self.kinds[wish as usize] {
+            Kind::Unsited => BundleNumber::NoSite,
+            Kind::Single => BundleNumber::Alone,
+            Kind::Several => {
+                let start = start_of(&self.starts, wish);
+                BundleNumber::Shared(number_from(&self.entries, start, wish))
+            }
+        }
     }
 }
 
-/// What stands for a number.
-fn packed(number: BundleNumber) -> u32
-    requires { ForSome (count_of number) (λ n. n < 4294967294) }
-    ensures { unpacked result ≡ number }
+/// For each block, up to the last one with an entry, a place before which none of its entries
+/// stands. Where the entries ascend by wish, it is that of the first entry that is not before.
+fn starts_of(alloc: Global, entries: &[Entry]) -> Result<Vec<usize>, OutOfMemory>
+    ensures { IfOk result (λ v. AreStarts entries.now v.items) }
 {
-    match number {
-        BundleNumber::NoSite => NO_SITE,
-        BundleNumber::Alone => ALONE,
-        BundleNumber::Shared(number) => number,
+    let mut starts = Vec::new(alloc);
+    for (place, entry) in entries.iter().enumerate() {
+        let blocks = (entry.wish / BLOCK) as usize + 1;
+        if starts.len() < blocks {
+            starts.resize(blocks, place)?;
+        }
+    }
+    Ok(starts)
+}
+
+/// Where the entries of a wish's block are sought from; past the last block that is 0.
+fn start_of(starts: &Vec<usize>, wish: u32) -> usize
+    ensures { result ≡ slice_index starts.now.items (wish / 64) }
+{
+    match starts.as_slice().get((wish / BLOCK) as usize) {
+        None => 0,
+        Some(start) => *start,
     }
 }
 
-/// The number that is stood for.
-fn unpacked(packed: u32) -> BundleNumber
-    ensures { result ≡ unpacked packed }
+/// The number of the bundle of a wish by its entry, which stands at a place or behind it.
+fn number_from(entries: &Vec<Entry>, start: usize, wish: u32) -> u32
+    requires { All (λ e. e.wish / 64 < wish / 64) (take start entries.now.items) }
+    ensures { result ≡ number_found (find (λ e. e.wish == wish) entries.now.items) }
 {
-    match packed {
-        NO_SITE => BundleNumber::NoSite,
-        ALONE => BundleNumber::Alone,
-        number => BundleNumber::Shared(number),
+    for place in start..entries.len() {
+        if entries[place].wish == wish {
+            return entries[place].number;
+        }
     }
+    0
 }
