@@ -1,13 +1,13 @@
 -- Entries of wishes that share their bundles, and where those of a block begin.
-use Rattle.std.proofs.Common.{ℕ, zero, suc, ◌+◌, ◌≤◌, ◌<◌, ◌≡◌, Bool, true, false, List, [], ◌∷◌, ◌++◌, map, length}
-use Rattle.std.proofs.Common.{get_or, take, set, inl, inr, refl, sym, ◌∙◌, ap, arith, Option, Some, None, subst}
-use Rattle.std.specs.Prelude.{slice_index, ◌==◌, ◌/◌, ◌||◌, All}
+use Rattle.std.proofs.Common.{ℕ, zero, suc, ◌+◌, ◌≤◌, ◌<◌, ◌≡◌, Bool, true, false, List, [], ◌∷◌, ◌++◌, length}
+use Rattle.std.proofs.Common.{get_or, take, set, replicate, inl, inr, refl, sym, ◌∙◌, ap, arith, Option, Some, None, subst}
+use Rattle.std.specs.Prelude.{slice_index, slice_index_or, is_some, ◌==◌, ◌/◌, ◌||◌, All}
 use Rattle.std.specs.List.{find, list_any}
 use Rattle.std.specs.List.Sorted.{IsPermutation}
 use Rattle.std.proofs.lemmas.Bool.{cases_Bool, cases_eq, cases_lt, eqb-true, eq-eqb, ne_eqb, false≢true}
 use Rattle.std.proofs.lemmas.Option.{unwrap_or-slice_get}
 use Rattle.std.proofs.lemmas.List.{length-set, get_or-set_same, get_or-set_other, take_more, take_all, get_or-map}
-use Rattle.std.proofs.lemmas.List.{length-map, ext_get_or, get_or_past, get_or_read}
+use Rattle.std.proofs.lemmas.List.{length-map, length-replicate, get_or-replicate, get_or_default, ext_get_or, get_or_past}
 use Rattle.std.proofs.lemmas.List.Elements.{All-append, All-cons, All-nil}
 use Rattle.std.proofs.lemmas.List.Folds.{Any-from_list_any, list_any-append}
 use Rattle.std.proofs.lemmas.List.FromFn.{length-map-range_with_len, get_or-map-range_with_len}
@@ -17,14 +17,13 @@ use Rattle.admit_core.proofs.Plain.{or_false, or_true}
 use Rattle.admit_core.specs.declared.dossier.Wish.{Wish}
 use Rattle.day_state.specs.declared.bundle_numbers.Later.{Later}
 use Rattle.day_state.specs.declared.bundles.Sites.{Sites}
+use Rattle.day_state.specs.declared.numbers.BundleNumber.{BundleNumber}
 use Rattle.day_state.specs.declared.numbers.BundleNumber.TheVariants.{NoSite, Shared}
 use Rattle.day_state.specs.declared.numbers.Entry.{Entry}
-use Rattle.day_state.specs.declared.numbers.Kind.{Kind}
-use Rattle.day_state.specs.declared.numbers.Kind.TheVariants.{Unsited, Several}
 use Rattle.day_state.specs.Kept.{wish_in}
 use Rattle.day_state.specs.Bundles.{number_in, is_shared, rank_of, number_of, number_at, all_numbers}
-use Rattle.day_state.specs.Bundles.{bundles_of, site_of, AreLaters, IsLater, IsEntry, AreEntries, AreMarkedShared}
-use Rattle.day_state.specs.Bundles.{AreStarts, bare_kind, kind_at, number_for, number_found, numbers_with}
+use Rattle.day_state.specs.Bundles.{bundles_of, site_of, AreLaters, IsLater, IsEntry, AreEntries, AreSited, HaveEntries}
+use Rattle.day_state.specs.Bundles.{AreStarts, number_for, number_found, numbers_with}
 use Rattle.day_state.proofs.Laters.{firsts_are}
 use Rattle.day_state.proofs.Numbering.{bundles_are, find_has}
 use Rattle.day_state.proofs.Numbered.{bundle_sited, bundle_unsited, shared_by_one, shares}
@@ -103,7 +102,8 @@ starts_more entries starts new i e d lt read few long before after are = record 
       let P = λ (x : Entry). x.wish / 64 < block in
       elim (cases_lt block (length starts)) [
         | inl old ↦
-            let same : slice_index new block ≡ slice_index starts block = before block 0 (omega (arith, few, old)) old in
+            let same : slice_index new block ≡ slice_index starts block =
+            before block 0 (omega (arith, few, old)) old in
             rw same (are.starts_are block)
         | inr other ↦
             elim (cases_lt block (e.wish / 64 + 1)) [
@@ -132,35 +132,89 @@ starts_same entries starts i e d lt read long are = record {
       all_more P entries i d lt are.begun (subst P read here);
 }
 
--- numbers by kind, read at a place
-pub numbers_long : (kinds : List Kind) (entries : List Entry) → length (numbers_with kinds entries) ≡ length kinds
-numbers_long kinds entries = length-map-range_with_len (λ k. number_for entries k (kind_at kinds k)) 0 (length kinds)
+-- numbers by flags and entries, read at a place
+numbers_long : (sited several : List Bool) (entries : List Entry)
+    → length (numbers_with sited several entries) ≡ length sited
+numbers_long sited several entries =
+    length-map-range_with_len
+    (λ k. number_for entries k (slice_index_or sited k false) (slice_index_or several k false))
+    0 (length sited)
 
-number_get : (kinds : List Kind) (entries : List Entry) (k : ℕ) → k < length kinds
-    → get_or (numbers_with kinds entries) k NoSite ≡ number_for entries k (kind_at kinds k)
-number_get kinds entries k lt =
-    get_or-map-range_with_len (λ j. number_for entries j (kind_at kinds j)) 0 (length kinds) k k NoSite lt (omega arith)
+number_get : (sited several : List Bool) (entries : List Entry) (k : ℕ) → k < length sited
+    → get_or (numbers_with sited several entries) k NoSite
+    ≡ number_for entries k (slice_index_or sited k false) (slice_index_or several k false)
+number_get sited several entries k lt =
+    get_or-map-range_with_len
+    (λ j. number_for entries j (slice_index_or sited j false) (slice_index_or several j false))
+    0 (length sited) k k NoSite lt (omega arith)
 
-pub number_read : (kinds : List Kind) (entries : List Entry) (k : ℕ) (kind : Kind) → k < length kinds
-    → kind ≡ get_or kinds k kind → number_for entries k kind ≡ number_at (numbers_with kinds entries) k
-number_read kinds entries k kind lt read =
-    let same : kind ≡ kind_at kinds k =
-    get_or_read kinds k kind lt read Unsited ∙ sym (unwrap_or-slice_get kinds k Unsited) in
-    ap (number_for entries k) same
-    ∙ sym (unwrap_or-slice_get (numbers_with kinds entries) k NoSite ∙ number_get kinds entries k lt)
+pub number_read : (sited several : List Bool) (entries : List Entry) (ns : List BundleNumber) (k : ℕ)
+    (has shares : Bool) → numbers_with sited several entries ≡ ns → k < length ns
+    → has ≡ slice_index_or sited k false → shares ≡ slice_index_or several k false
+    → number_for entries k has shares ≡ number_at ns k
+number_read sited several entries ns k has shares ns_are lt has_is shares_is =
+    let long : length ns ≡ length sited =
+    ap (λ (xs : List BundleNumber). length xs) (sym ns_are) ∙ numbers_long sited several entries in
+    (λ i. number_for entries k (has_is i) (shares_is i))
+    ∙ sym (unwrap_or-slice_get (numbers_with sited several entries) k NoSite
+    ∙ number_get sited several entries k (omega (arith, lt, long)))
+    ∙ ap (λ (xs : List BundleNumber). number_at xs k) ns_are
 
--- the wishes of the first i entries are marked as those of several
-pub marked_none : (entries : List Entry) (old : List Kind) → AreMarkedShared (take 0 entries) old old
-marked_none entries old = record { long = refl; each = λ k lt. refl }
+-- the flags of the first i wishes tell whether these have a site
+pub record AreSitedTo (sites : Sites) (ws : List Wish) (flags : List Bool) (i : ℕ) : Type 0 where
+  pub long : length flags ≡ length ws
+  pub each : (k : ℕ) → k < i → slice_index_or flags k false ≡ is_some (site_of sites (wish_in ws k))
 
-kind_is : (kinds : List Kind) (k : ℕ) → kind_at kinds k ≡ get_or kinds k Unsited
-kind_is kinds k = unwrap_or-slice_get kinds k Unsited
+pub sited_none : (sites : Sites) (ws : List Wish) (flags : List Bool) (n : ℕ) → flags ≡ replicate n false
+    → n ≡ length ws → AreSitedTo sites ws flags 0
+sited_none sites ws flags n none n_is = record {
+  long = ap (λ (xs : List Bool). length xs) none ∙ length-replicate n false ∙ n_is;
+  each = λ k lt. absurd (omega arith);
+}
 
-pub marked_more : (entries : List Entry) (old now new : List Kind) (i : ℕ) (e d : Entry) → i < length entries
-    → e ≡ get_or entries i d → e.wish < length old → new ≡ set now e.wish Several
-    → AreMarkedShared (take i entries) old now → AreMarkedShared (take (i + 1) entries) old new
-marked_more entries old now new i e d lt read within new_is are = rw new_is (record {
-  long = length-set now e.wish Several ∙ are.long;
+pub sited_more : (sites : Sites) (ws : List Wish) (flags new : List Bool) (i : ℕ) (d : Wish) → i < length ws
+    → new ≡ set flags i (is_some (site_of sites (get_or ws i d))) → AreSitedTo sites ws flags i
+    → AreSitedTo sites ws new (i + 1)
+sited_more sites ws flags new i d lt new_is are =
+    let v : Bool = is_some (site_of sites (get_or ws i d)) in
+    let none = wish_in [] 0 in
+    let read : get_or ws i d ≡ wish_in ws i =
+    get_or_default ws i d none lt ∙ sym (unwrap_or-slice_get ws i none) in
+    rw new_is (record {
+      long = length-set flags i v ∙ are.long;
+      each = λ k k_lt. elim (cases_eq k i) [
+        | inl same ↦
+            ap (λ (j : ℕ). get_or (set flags i v) j false) same
+            ∙ get_or-set_same flags i v false (omega (arith, lt, are.long))
+            ∙ ap (λ (w : Wish). is_some (site_of sites w)) read
+            ∙ ap (λ (j : ℕ). is_some (site_of sites (wish_in ws j))) (sym same)
+        | inr other ↦ get_or-set_other flags i k v false other ∙ are.each k (below i k k_lt other)
+      ];
+    })
+  where
+    below : (i k : ℕ) → k < i + 1 → (k ≡ i → ⊥) → k < i
+    below i k lt other = elim (cases_lt k i) [ inl less ↦ less | inr more ↦ absurd (other (omega (arith, lt, more))) ]
+
+pub sited_all : (sites : Sites) (ws : List Wish) (flags : List Bool) (i : ℕ) → length ws ≤ i
+    → AreSitedTo sites ws flags i → AreSited sites ws flags
+sited_all sites ws flags i le are = record {
+  long = are.long;
+  each = λ k lt. are.each k (omega (arith, lt, le));
+}
+
+-- which wishes have an entry
+pub have_none : (entries : List Entry) (n : ℕ) (flags : List Bool) → flags ≡ replicate n false
+    → HaveEntries (take 0 entries) n flags
+have_none entries n flags none = rw none (record {
+  long = length-replicate n false;
+  each = λ k lt. get_or-replicate n k false false lt;
+})
+
+pub have_more : (entries : List Entry) (n : ℕ) (flags new : List Bool) (i : ℕ) (e d : Entry) → i < length entries
+    → e ≡ get_or entries i d → e.wish < n → new ≡ set flags e.wish true
+    → HaveEntries (take i entries) n flags → HaveEntries (take (i + 1) entries) n new
+have_more entries n flags new i e d lt read within new_is are = rw new_is (record {
+  long = length-set flags e.wish true ∙ are.long;
   each = λ k k_lt.
       let test = λ (x : Entry). x.wish == k in
       let more : list_any test (take (i + 1) entries) ≡ (list_any test (take i entries) || ((e.wish == k) || false)) =
@@ -170,15 +224,20 @@ marked_more entries old now new i e d lt read within new_is are = rw new_is (rec
         | inl same ↦
             let here : list_any test (take (i + 1) entries) ≡ true =
             more ∙ rw (eq-eqb e.wish k (sym same)) (or_true (list_any test (take i entries))) in
-            rw here (ap (kind_at (set now e.wish Several)) same ∙ kind_is (set now e.wish Several) e.wish
-            ∙ get_or-set_same now e.wish Several Unsited (omega (arith, within, are.long)))
+            rw here (ap (λ (j : ℕ). get_or (set flags e.wish true) j false) same
+            ∙ get_or-set_same flags e.wish true false (omega (arith, within, are.long)))
         | inr other ↦
             let here : list_any test (take (i + 1) entries) ≡ list_any test (take i entries) =
             more ∙ rw (ne_eqb e.wish k (λ p. other (sym p))) (or_false (list_any test (take i entries))) in
-            rw here (kind_is (set now e.wish Several) k ∙ get_or-set_other now e.wish k Several Unsited other
-            ∙ sym (kind_is now k) ∙ are.each k k_lt)
+            rw here (get_or-set_other flags e.wish k true false other ∙ are.each k k_lt)
       ];
 })
+
+pub have_all : (entries : List Entry) (n : ℕ) (flags : List Bool) (i : ℕ) → length entries ≤ i
+    → HaveEntries (take i entries) n flags → HaveEntries entries n flags
+have_all entries n flags i le are =
+    let P = λ (xs : List Entry). HaveEntries xs n flags in
+    subst P (take_all i entries le) are
 
 -- the entries of the first i later wishes and of the first ones of their bundles
 pub record AreEntriesTo (bundles : List (Option ℕ)) (laters : List Later) (entries : List Entry)
@@ -288,29 +347,19 @@ module _ (sites : Sites) (ws : List Wish) (laters : List Later) (are : AreLaters
             ];
       }
 
--- the wishes of entries are among those that have a kind
-pub entries_within : (sites : Sites) (ws : List Wish) (entries : List Entry) (bare : List Kind)
-    → AreEntries (bundles_of sites ws) entries → bare ≡ map (λ w. bare_kind (site_of sites w)) ws
-    → All (λ (e : Entry). e.wish < length bare) entries
-entries_within sites ws entries bare are bare_is k d lt =
-    let bare_long : length bare ≡ length ws =
-    ap (λ (ks : List Kind). length ks) bare_is ∙ length-map ws (λ w. bare_kind (site_of sites w)) in
-    omega (arith, (are.each k d lt).within, (bundles_are sites ws).as_long, bare_long)
+-- the wishes of entries are among all
+pub entries_within : (sites : Sites) (ws : List Wish) (entries : List Entry) (n : ℕ)
+    → AreEntries (bundles_of sites ws) entries → n ≡ length ws → All (λ (e : Entry). e.wish < n) entries
+entries_within sites ws entries n are n_is k d lt =
+    omega (arith, (are.each k d lt).within, (bundles_are sites ws).as_long, n_is)
 
--- the numbers by kinds and entries are those of all bundles
+-- the numbers by flags and entries are those of all bundles
 module _ (sites : Sites) (ws : List Wish) (entries : List Entry) (are : AreEntries (bundles_of sites ws) entries)
-    (bare kinds : List Kind) (bare_is : bare ≡ map (λ w. bare_kind (site_of sites w)) ws)
-    (marked : AreMarkedShared entries bare kinds) where
-  bare_at : (k : ℕ) → k < length ws → kind_at bare k ≡ bare_kind (site_of sites (wish_in ws k))
-  bare_at k lt =
-      let d = wish_in [] 0 in
-      kind_is bare k ∙ ap (λ (ks : List Kind). get_or ks k Unsited) bare_is
-      ∙ get_or-map (λ w. bare_kind (site_of sites w)) ws k d Unsited lt
-      ∙ ap (λ (w : Wish). bare_kind (site_of sites w)) (sym (unwrap_or-slice_get ws k d))
-
-  by_entry : (k : ℕ) → list_any (λ (e : Entry). e.wish == k) entries ≡ true
-      → number_for entries k Several ≡ number_of (bundles_of sites ws) (number_in (bundles_of sites ws) k)
-  by_entry k some =
+    (sited several : List Bool) (sites_are : AreSited sites ws sited)
+    (have : HaveEntries entries (length ws) several) where
+  by_entry : (k : ℕ) (has : Bool) → list_any (λ (e : Entry). e.wish == k) entries ≡ true
+      → number_for entries k has true ≡ number_of (bundles_of sites ws) (number_in (bundles_of sites ws) k)
+  by_entry k has some =
       let bundles = bundles_of sites ws in
       let test = λ (e : Entry). e.wish == k in
       let (e, found) = find_has test entries some in
@@ -321,44 +370,45 @@ module _ (sites : Sites) (ws : List Wish) (entries : List Entry) (are : AreEntri
 
   by_site : (k : ℕ) (o : Option ℕ) → k < length ws → k < length (bundles_of sites ws)
       → number_in (bundles_of sites ws) k ≡ o → list_any (λ (e : Entry). e.wish == k) entries ≡ false
-      → number_for entries k (bare_kind (site_of sites (wish_in ws k))) ≡ number_of (bundles_of sites ws) o
+      → number_for entries k (is_some (site_of sites (wish_in ws k))) false ≡ number_of (bundles_of sites ws) o
   by_site k None k_in k_b at none =
-      ap (number_for entries k) (bundle_unsited sites ws k k_in at)
+      ap (λ b. number_for entries k b false) (bundle_unsited sites ws k k_in at)
   by_site k (Some b) k_in k_b at none =
       let bundles = bundles_of sites ws in
       elim (cases_Bool (is_shared bundles b)) [
         | inl shared ↦ absurd (false≢true (sym none ∙ are.all k b k_b at shared))
-        | inr alone ↦ ap (number_for entries k) (bundle_sited sites ws k b k_in at) ∙ rw alone refl
+        | inr alone ↦
+            ap (λ b. number_for entries k b false) (bundle_sited sites ws k b k_in at) ∙ rw alone refl
       ]
 
-  number_is : (k : ℕ) → k < length ws → k < length bare → k < length (bundles_of sites ws)
-      → number_for entries k (kind_at kinds k) ≡ number_of (bundles_of sites ws) (number_in (bundles_of sites ws) k)
-  number_is k k_in k_bare k_b =
+  number_is : (k : ℕ) → k < length ws → k < length (bundles_of sites ws)
+      → number_for entries k (slice_index_or sited k false) (slice_index_or several k false)
+      ≡ number_of (bundles_of sites ws) (number_in (bundles_of sites ws) k)
+  number_is k k_in k_b =
       let bundles = bundles_of sites ws in
       let test = λ (e : Entry). e.wish == k in
+      let has = sites_are.each k k_in in
       elim (cases_Bool (list_any test entries)) [
         | inl some ↦
-            let kind : kind_at kinds k ≡ Several = marked.each k k_bare ∙ rw some refl in
-            ap (number_for entries k) kind ∙ by_entry k some
+            ap (number_for entries k (slice_index_or sited k false)) (have.each k k_in ∙ some)
+            ∙ by_entry k (slice_index_or sited k false) some
         | inr none ↦
-            let kind : kind_at kinds k ≡ bare_kind (site_of sites (wish_in ws k)) =
-            marked.each k k_bare ∙ rw none (bare_at k k_in) in
-            ap (number_for entries k) kind ∙ by_site k (number_in bundles k) k_in k_b refl none
+            ap (number_for entries k (slice_index_or sited k false)) (have.each k k_in ∙ none)
+            ∙ ap (λ b. number_for entries k b false) has
+            ∙ by_site k (number_in bundles k) k_in k_b refl none
       ]
 
-  pub numbers_are : numbers_with kinds entries ≡ all_numbers sites ws
+  pub numbers_are : numbers_with sited several entries ≡ all_numbers sites ws
   numbers_are =
       let bundles = bundles_of sites ws in
       let b_long = (bundles_are sites ws).as_long in
-      let bare_long : length bare ≡ length ws =
-      ap (λ (ks : List Kind). length ks) bare_is ∙ length-map ws (λ w. bare_kind (site_of sites w)) in
-      ext_get_or NoSite (numbers_with kinds entries) (all_numbers sites ws)
-      (numbers_long kinds entries ∙ marked.long ∙ bare_long ∙ sym b_long ∙ sym (length-map bundles (number_of bundles)))
+      ext_get_or NoSite (numbers_with sited several entries) (all_numbers sites ws)
+      (numbers_long sited several entries ∙ sites_are.long ∙ sym b_long
+      ∙ sym (length-map bundles (number_of bundles)))
       (λ k lt.
-      let k_kinds : k < length kinds = omega (arith, lt, numbers_long kinds entries) in
-      let k_bare : k < length bare = omega (arith, k_kinds, marked.long) in
-      let k_in : k < length ws = omega (arith, k_bare, bare_long) in
+      let k_sited : k < length sited = omega (arith, lt, numbers_long sited several entries) in
+      let k_in : k < length ws = omega (arith, k_sited, sites_are.long) in
       let k_b : k < length bundles = omega (arith, k_in, b_long) in
-      number_get kinds entries k k_kinds ∙ number_is k k_in k_bare k_b
+      number_get sited several entries k k_sited ∙ number_is k k_in k_b
       ∙ sym (get_or-map (number_of bundles) bundles k None NoSite k_b
       ∙ ap (number_of bundles) (sym (unwrap_or-slice_get bundles k None))))

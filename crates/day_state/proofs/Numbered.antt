@@ -4,6 +4,7 @@ use Rattle.std.proofs.Common.{map, length, get_or, filter, inl, inr, refl, sym, 
 use Rattle.std.proofs.Common.{None}
 use Rattle.std.proofs.Common.{suc, nat_eq, eqb, subst, not, Result, Ok, Err}
 use Rattle.std.specs.Result.{MatchResult}
+use Rattle.std.specs.Prelude.{is_some}
 use Rattle.std.specs.Prelude.{slice_index, ◌==◌}
 use Rattle.std.specs.List.{list_any, range_with_len, dedup}
 use Rattle.std.specs.List.Sorted.{IsPermutation, IsSorted, IsBinarySearchResult}
@@ -28,10 +29,9 @@ use Rattle.admit_core.specs.Lists.{is_among}
 use Rattle.admit_core.specs.declared.dossier.Wish.{Wish}
 use Rattle.day_state.specs.declared.bundle_numbers.Later.{Later}
 use Rattle.day_state.specs.declared.bundles.Sites.{Sites}
-use Rattle.day_state.specs.declared.numbers.Kind.TheVariants.{Unsited, Single}
 use Rattle.day_state.specs.Kept.{wish_in}
 use Rattle.day_state.specs.Bundles.{is_same, number_in, is_later, is_shared, shared_flags, shared_places}
-use Rattle.day_state.specs.Bundles.{rank_of, AreLaters, IsLater, bare_kind}
+use Rattle.day_state.specs.Bundles.{rank_of, AreLaters, IsLater}
 use Rattle.day_state.specs.Bundles.{site_of, together, bundles_of}
 use Rattle.day_state.proofs.Ascending.{ascends_from, no_fall, range_rises}
 use Rattle.day_state.proofs.Along.{among-filter}
@@ -273,7 +273,7 @@ sought_rank bundles shared x r found shared_is lt is =
 -- a wish without a site is in no bundle, and one with a site is in one
 module _ (sites : Sites) (ws : List Wish) where
   pub bundle_sited : (k b : ℕ) → k < length ws → number_in (bundles_of sites ws) k ≡ Some b
-      → bare_kind (site_of sites (wish_in ws k)) ≡ Single
+      → is_some (site_of sites (wish_in ws k)) ≡ true
   bundle_sited k b lt e =
       let w = wish_in ws k in
       let p = λ (x : ℕ). together sites w (wish_in ws x) in
@@ -282,7 +282,7 @@ module _ (sites : Sites) (ws : List Wish) where
       rw parts.2 refl
 
   pub bundle_unsited : (k : ℕ) → k < length ws → number_in (bundles_of sites ws) k ≡ None
-      → bare_kind (site_of sites (wish_in ws k)) ≡ Unsited
+      → is_some (site_of sites (wish_in ws k)) ≡ false
   bundle_unsited k lt e =
       let w = wish_in ws k in
       let both : is_same (number_in (bundles_of sites ws) k) (number_in (bundles_of sites ws) k) ≡ together sites w w =
@@ -295,6 +295,6 @@ module _ (sites : Sites) (ws : List Wish) where
         | inr none ↦ unsited (site_of sites w) (rw (eq-eqb w.candidate w.candidate refl) at none)
       ]
     where
-      unsited : (o : Option ℕ) → is_same o o ≡ false → bare_kind o ≡ Unsited
+      unsited : (o : Option ℕ) → is_same o o ≡ false → is_some o ≡ false
       unsited None e = refl
       unsited (Some h) e = absurd (false≢true (sym e ∙ eq-eqb h h refl))

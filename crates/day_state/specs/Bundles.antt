@@ -1,6 +1,6 @@
 -- Bundles: the wishes of one candidate in one programme, or in one school.
 use Rattle.std.specs.Prelude.{◌≡◌, ℕ, ◌<◌, Bool, true, false, not, ◌&&◌, nat_lt, List, [], ◌∷◌, length, map, filter}
-use Rattle.std.specs.Prelude.{take, All, IsTrue, ◌/◌}
+use Rattle.std.specs.Prelude.{take, All, IsTrue, ◌/◌, is_some, slice_index_or}
 use Rattle.std.specs.Prelude.{Option, Some, None, ◌==◌, slice_get, slice_index, slice_set, unwrap_or, if◌then◌else◌}
 use Rattle.std.specs.Option.{ForSome}
 use Rattle.std.specs.List.{find, list_any, range_with_len}
@@ -12,8 +12,6 @@ use Rattle.day_state.specs.declared.bundle_numbers.Later.{Later}
 use Rattle.day_state.specs.declared.bundles.Sites.{Sites}
 use Rattle.day_state.specs.declared.bundles.Sites.TheVariants.{Programmes, Schools}
 use Rattle.day_state.specs.declared.numbers.Entry.{Entry}
-use Rattle.day_state.specs.declared.numbers.Kind.{Kind}
-use Rattle.day_state.specs.declared.numbers.Kind.TheVariants.{Unsited, Single, Several}
 use Rattle.day_state.specs.declared.numbers.BundleNumber.{BundleNumber}
 use Rattle.day_state.specs.declared.numbers.BundleNumber.TheVariants.{NoSite, Alone, Shared}
 use Rattle.day_state.specs.Kept.{mark_in, wish_in, IsKept}
@@ -100,19 +98,15 @@ abbrev pub number_found : Option Entry → ℕ
 number_found None = 0
 number_found (Some e) = e.number
 
--- the number of the bundle of the wish at k by its kind, where wishes that share theirs have an entry
-abbrev pub number_for : List Entry → ℕ → Kind → BundleNumber
-number_for entries k Unsited = NoSite
-number_for entries k Single = Alone
-number_for entries k Several = Shared (number_found (find (λ e. e.wish == k) entries))
+-- the number of the bundle of the wish at k, by whether it has a site and whether it shares its bundle
+abbrev pub number_for : List Entry → ℕ → Bool → Bool → BundleNumber
+number_for entries k sited several =
+    if several then Shared (number_found (find (λ e. e.wish == k) entries)) else if sited then Alone else NoSite
 
--- the kind of the bundle of the wish at a place
-abbrev pub kind_at : List Kind → ℕ → Kind
-kind_at kinds k = unwrap_or (slice_get kinds k) Unsited
-
-abbrev pub numbers_with : List Kind → List Entry → List BundleNumber
-numbers_with kinds entries =
-    map (λ k. number_for entries k (kind_at kinds k)) (range_with_len 0 (length kinds))
+abbrev pub numbers_with : List Bool → List Bool → List Entry → List BundleNumber
+numbers_with sited several entries =
+    map (λ k. number_for entries k (slice_index_or sited k false) (slice_index_or several k false))
+    (range_with_len 0 (length sited))
 
 -- before the place of a block of 64 wishes stand entries of earlier blocks alone
 abbrev pub AreStarts : List Entry → List ℕ → Type 0
@@ -220,13 +214,12 @@ pub record AreEntries (bundles : List (Option ℕ)) (entries : List Entry) : Typ
   pub all : (k b : ℕ) → k < length bundles → number_in bundles k ≡ Some b → is_shared bundles b ≡ true
       → list_any (λ e. e.wish == k) entries ≡ true
 
--- the kind of a bundle of one wish, by its site
-abbrev pub bare_kind : Option ℕ → Kind
-bare_kind None = Unsited
-bare_kind (Some site) = Single
+-- of each wish whether it has a site
+pub record AreSited (sites : Sites) (ws : List Wish) (flags : List Bool) : Type 0 where
+  pub long : length flags ≡ length ws
+  pub each : (k : ℕ) → k < length ws → slice_index_or flags k false ≡ is_some (site_of sites (wish_in ws k))
 
--- each wish with an entry is one of several, and all others are what they were
-pub record AreMarkedShared (entries : List Entry) (old new : List Kind) : Type 0 where
-  pub long : length new ≡ length old
-  pub each : (k : ℕ) → k < length old → kind_at new k
-      ≡ (if list_any (λ e. e.wish == k) entries then Several else kind_at old k)
+-- of each of so many wishes whether it has an entry
+pub record HaveEntries (entries : List Entry) (count : ℕ) (flags : List Bool) : Type 0 where
+  pub long : length flags ≡ count
+  pub each : (k : ℕ) → k < count → slice_index_or flags k false ≡ list_any (λ e. e.wish == k) entries

@@ -4,13 +4,14 @@ ghost use Rattle.admit_core.specs.declared.dossier.Wish.{Wish};
 ghost use Rattle.std.specs.Option.{ForSome};
 ghost use Rattle.day_state.specs.declared.bundles.Sites.{Sites};
 ghost use Rattle.day_state.specs.declared.bundles.Sites.TheVariants.{Programmes, Schools};
-ghost use Rattle.day_state.specs.Bundles.{site_of, AreSitesBelow, AreTheirs, bundles_of, joined, bundle_there, noted, noted_candidate, AreLaters, later_at, shared_places, is_shared, rank_of, AreEntries, bare_kind, AreMarkedShared, all_numbers};
+ghost use Rattle.day_state.specs.Bundles.{site_of, AreSitesBelow, AreTheirs, bundles_of, joined, bundle_there, noted, noted_candidate, AreLaters, later_at, shared_places, is_shared, rank_of, AreEntries, AreSited, HaveEntries, all_numbers};
 ghost use Rattle.day_state.specs.Kept.{IsIndex, wish_in};
 
 use crate::ahead::Ahead;
 use crate::bundles::Sites;
-use crate::numbers::{Entry, Kind, Numbers};
+use crate::numbers::{Entry, Numbers};
 use admit_core::{OutOfMemory, Wish};
+use flags::Flags;
 use std::alloc::Global;
 
 /// The programme of a wish, or its school.
@@ -242,35 +243,28 @@ fn entries_of(alloc: Global, shared: &[u32], laters: &[Later]) -> Result<Vec<Ent
     Ok(entries)
 }
 
-/// What the bundle of a wish is by its site, where it is alone in it.
-fn bare_kind(site: Option<u32>) -> Kind
-    ensures { result ≡ bare_kind site }
+/// Which wishes have a site.
+fn sited_of(alloc: Global, sites: Sites, wishes: &[Wish]) -> Result<Flags, OutOfMemory>
+    requires few { length wishes.now < 2 ^ 31 }
+    ensures { IfOk result (AreSited sites wishes.now) }
 {
-    match site {
-        None => Kind::Unsited,
-        Some(_) => Kind::Single,
+    let mut sited = Flags::all(alloc, wishes.len(), false)?;
+    for (place, wish) in wishes.iter().enumerate() {
+        sited.set(place as u32, site_of(sites, *wish).is_some());
     }
+    Ok(sited)
 }
 
-/// The kinds of bundles of which each has one wish.
-fn bare_kinds(alloc: Global, sites: Sites, wishes: &[Wish]) -> Result<Vec<Kind>, OutOfMemory>
-    ensures { IfOk result (λ v. v.items ≡ map (λ w. bare_kind (site_of sites w)) wishes.now) }
+/// Which of so many wishes have an entry.
+fn several_of(alloc: Global, count: usize, entries: &[Entry]) -> Result<Flags, OutOfMemory>
+    requires { All (λ e. e.wish < count) entries.now }
+    ensures { IfOk result (HaveEntries entries.now count) }
 {
-    let mut kinds = Vec::with_capacity(alloc, wishes.len())?;
-    for wish in wishes {
-        kinds.push(bare_kind(site_of(sites, *wish)))?;
-    }
-    Ok(kinds)
-}
-
-/// Notes of each wish that has an entry that it shares its bundle.
-fn mark_shared(kinds: &mut Vec<Kind>, entries: &[Entry])
-    requires { All (λ e. e.wish < length kinds.old.items) entries.now }
-    ensures { AreMarkedShared entries.now kinds.old.items kinds.new.items }
-{
+    let mut several = Flags::all(alloc, count, false)?;
     for entry in entries {
-        kinds[entry.wish as usize] = Kind::Several;
+        several.set(entry.wish, true);
     }
+    Ok(several)
 }
 
 /// The numbers of all bundles. The shared ones are known by their first wishes, ascending.
@@ -287,7 +281,7 @@ pub fn number_all(
     ensures { IfOk result (λ n. n ≡ all_numbers sites wishes.now) }
 {
     let entries = entries_of(alloc, shared, laters)?;
-    let mut kinds = bare_kinds(alloc, sites, wishes)?;
-    mark_shared(&mut kinds, &entries);
-    Ok(Numbers::new(alloc, kinds, entries)?)
+    let sited = sited_of(alloc, sites, wishes)?;
+    let several = several_of(alloc, wishes.len(), &entries)?;
+    Ok(Numbers::new(alloc, sited, several, entries)?)
 }

@@ -1,9 +1,10 @@
-//! The numbers of bundles: a byte a wish, and an entry for each wish that shares a bundle.
+//! The numbers of bundles: two flags a wish, and an entry for each wish that shares a bundle.
 ghost use Rattle.std.specs.Prelude.{◌≡◌, ◌<◌, ◌==◌, ◌/◌, All, length, slice_index, take, IfOk};
 ghost use Rattle.std.specs.List.{find};
 ghost use Rattle.day_state.specs.Bundles.{AreStarts, number_at, count_of, number_found, numbers_with};
 
 use admit_core::OutOfMemory;
+use flags::Flags;
 use std::alloc::Global;
 use std::marker::Model;
 
@@ -28,14 +29,6 @@ impl BundleNumber {
     }
 }
 
-/// What the bundle of a wish is, without its number: none, the wish alone, or one of several.
-#[derive(Clone, Copy)]
-pub enum Kind {
-    Unsited,
-    Single,
-    Several,
-}
-
 /// A wish that shares its bundle with others, and the bundle's number.
 #[derive(Clone, Copy)]
 pub struct Entry {
@@ -48,7 +41,10 @@ const BLOCK: u32 = 64;
 
 /// Of each wish the number of its bundle. Few wishes share a bundle, and only these have an entry.
 pub struct Numbers {
-    kinds: Vec<Kind>,
+    /// Whether a wish has a site.
+    sited: Flags,
+    /// Whether a wish has an entry.
+    several: Flags,
     entries: Vec<Entry>,
     /// For each block a place before which none of its entries stands; without one, the first.
     starts: Vec<usize>,
@@ -58,7 +54,8 @@ pub struct Numbers {
 impl Drop for Numbers {
     fn drop(self) {
         let Numbers {
-            kinds: _,
+            sited: _,
+            several: _,
             entries: _,
             starts: _,
         } = self;
@@ -72,20 +69,26 @@ impl Model for Numbers {
 
     ghost Value = { List BundleNumber };
 
-    ghost view = { λ n. numbers_with n.kinds.items n.entries.items };
+    ghost view = { λ n. numbers_with n.sited n.several n.entries.items };
 
     ghost invariant = { λ n. AreStarts n.entries.items n.starts.items };
 }
 
 impl Numbers {
-    /// Numbers by the kind of each wish and the entries. Where these ascend by wish, a number is
-    /// found among the entries of one block.
-    pub fn new(alloc: Global, kinds: Vec<Kind>, entries: Vec<Entry>) -> Result<Numbers, OutOfMemory>
-        ensures { IfOk result (λ n. n ≡ numbers_with kinds.items entries.items) }
+    /// Numbers by which wishes have a site, which have an entry, and the entries. Where these
+    /// ascend by wish, a number is found among the entries of one block.
+    pub fn new(
+        alloc: Global,
+        sited: Flags,
+        several: Flags,
+        entries: Vec<Entry>,
+    ) -> Result<Numbers, OutOfMemory>
+        ensures { IfOk result (λ n. n ≡ numbers_with sited several entries.items) }
     {
         let starts = starts_of(alloc, &entries)?;
         Ok(Numbers {
-            kinds,
+            sited,
+            several,
             entries,
             starts,
         })
@@ -96,13 +99,14 @@ impl Numbers {
         requires { wish < length self.now }
         ensures { result ≡ number_at self.now wish }
     {
-        match self.kinds[wish as usize] {
-            Kind::Unsited => BundleNumber::NoSite,
-            Kind::Single => BundleNumber::Alone,
-            Kind::Several => {
-                let start = start_of(&self.starts, wish);
-                BundleNumber::Shared(number_from(&self.entries, start, wish))
-            }
+        if self.several.get(wish) {
+            let start = start_of(&self.starts, wish);
+            return BundleNumber::Shared(number_from(&self.entries, start, wish));
+        }
+        if self.sited.get(wish) {
+            BundleNumber::Alone
+        } else {
+            BundleNumber::NoSite
         }
     }
 }

@@ -1,7 +1,7 @@
-use Rattle.std.proofs.Common.{length, List, ◌∙◌, sym, subst, arith, ◌<◌}
+use Rattle.std.proofs.Common.{List, length, ◌∙◌, sym, subst, refl, arith, ◌<◌}
 use Rattle.std.specs.Prelude.{All}
 use Rattle.day_state.specs.declared.numbers.Entry.{Entry}
-use Rattle.day_state.specs.Bundles.{bundles_of, AreMarkedShared}
+use Rattle.day_state.specs.Bundles.{bundles_of, HaveEntries}
 use Rattle.day_state.proofs.Entries.{entries_within, numbers_are}
 use Rattle.day_state.proofs.Numbered.{shared_fits}
 use Rattle.day_state.proofs.Numbering.{bundles_are}
@@ -13,23 +13,21 @@ entries_of-requires c = record {
       (omega (arith, (bundles_are c.args.sites c.args.wishes.now).as_long, c.requires.few));
 }
 
-pub mark_shared-requires : goal.mark_shared-requires
-mark_shared-requires c =
+pub several_of-requires : goal.several_of-requires
+several_of-requires c =
     let sites = c.args.sites in
     let ws = c.args.wishes.now in
-    let P = λ (xs : List Entry). All (λ (e : Entry). e.wish < length c.in_ok-kinds.kinds.items) xs in
+    let P = λ (xs : List Entry). All (λ (e : Entry). e.wish < length ws) xs in
     subst P (sym c.deref.ensures.value)
-    (entries_within sites ws c.in_ok-entries.entries.items c.in_ok-kinds.kinds.items
-    (c.in_ok-entries.ensures sites ws c.requires.shared c.requires.laters) c.in_ok-kinds.ensures)
+    (entries_within sites ws c.in_ok-entries.entries.items (length ws)
+    (c.in_ok-entries.ensures sites ws c.requires.shared c.requires.laters) refl)
 
 pub returns : goal.returns
 returns c =
     let sites = c.args.sites in
     let ws = c.args.wishes.now in
-    let bare = c.in_ok-kinds.kinds.items in
-    let kinds = c.mark_shared.new.kinds.items in
-    let P = λ (xs : List Entry). AreMarkedShared xs bare kinds in
+    let P = λ (xs : List Entry). HaveEntries xs (length ws) c.in_ok-several.several in
     c.in_ok-new.ensures
     ∙ numbers_are sites ws c.in_ok-entries.entries.items
-    (c.in_ok-entries.ensures sites ws c.requires.shared c.requires.laters) bare kinds c.in_ok-kinds.ensures
-    (subst P c.deref.ensures.value c.mark_shared.ensures)
+    (c.in_ok-entries.ensures sites ws c.requires.shared c.requires.laters) c.in_ok-sited.sited c.in_ok-several.several
+    c.in_ok-sited.ensures (subst P c.deref.ensures.value c.in_ok-several.ensures)
