@@ -2,14 +2,18 @@
 use Rattle.std.proofs.Common.{ℕ, zero, suc, ◌+◌, ◌≤◌, ◌<◌, ◌≡◌, Bool, true, false, List, [], ◌∷◌, ◌++◌, length}
 use Rattle.std.proofs.Common.{get_or, take, set, replicate, inl, inr, refl, sym, ◌∙◌, ap, arith, Option, Some, None, subst}
 use Rattle.std.specs.Prelude.{slice_index, slice_index_or, is_some, ◌==◌, ◌/◌, ◌||◌, All}
-use Rattle.std.specs.List.{find, list_any}
+use Rattle.std.specs.Cmp.{IsEquivalence}
+use Rattle.std.specs.List.{find, list_any, dedup}
 use Rattle.std.specs.List.Sorted.{IsPermutation}
 use Rattle.std.proofs.lemmas.Bool.{cases_Bool, cases_eq, cases_lt, eqb-true, eq-eqb, ne_eqb, false≢true}
 use Rattle.std.proofs.lemmas.Option.{unwrap_or-slice_get}
 use Rattle.std.proofs.lemmas.List.{length-set, get_or-set_same, get_or-set_other, take_more, take_all, get_or-map}
 use Rattle.std.proofs.lemmas.List.{length-map, length-replicate, get_or-replicate, get_or_default, ext_get_or, get_or_past}
 use Rattle.std.proofs.lemmas.List.Elements.{All-append, All-cons, All-nil}
-use Rattle.std.proofs.lemmas.List.Folds.{Any-from_list_any, list_any-append}
+use Rattle.std.proofs.lemmas.Cmp.{nat_eq_equiv, on_equiv}
+use Rattle.std.proofs.lemmas.List.Filters.{All-dedup}
+use Rattle.std.proofs.lemmas.List.Folds.{Any-from_list_any, list_any-append, list_any_at}
+use Rattle.std.proofs.lemmas.List.Kept.{Any-dedup}
 use Rattle.std.proofs.lemmas.List.FromFn.{length-map-range_with_len, get_or-map-range_with_len}
 use Rattle.std.proofs.lemmas.List.Sorted.{All-permutation, list_any-IsPermutation}
 use Rattle.admit_core.proofs.NextCalls.{find_passes}
@@ -346,6 +350,22 @@ module _ (sites : Sites) (ws : List Wish) (laters : List Later) (are : AreLaters
                   subst P (eqb-true l.wish k passes) (subst W read (wishes n l n_lt))
             ];
       }
+
+-- each once, they are still all
+pub entries_once : (bundles : List (Option ℕ)) (sorted once : List Entry) → once ≡ dedup (λ x y. x.wish == y.wish) sorted
+    → AreEntries bundles sorted → AreEntries bundles once
+entries_once bundles sorted once once_is are =
+    let E = λ (x y : Entry). x.wish == y.wish in
+    let equiv : IsEquivalence E = on_equiv (λ (e : Entry). e.wish) nat_eq_equiv in
+    rw once_is (record {
+      each = All-dedup E (IsEntry bundles) sorted are.each;
+      all = λ k b lt at shared.
+          let test = λ (e : Entry). e.wish == k in
+          let (n, e, n_lt, read, passes) = Any-from_list_any test sorted (are.all k b lt at shared) in
+          let (m, f, m_lt, kept, same) = Any-dedup equiv sorted e (n, n_lt, read) in
+          let here : f.wish ≡ k = sym (eqb-true e.wish f.wish same) ∙ eqb-true e.wish k passes in
+          list_any_at test (dedup E sorted) m f m_lt (rw kept (eq-eqb f.wish k here));
+    })
 
 -- the wishes of entries are among all
 pub entries_within : (sites : Sites) (ws : List Wish) (entries : List Entry) (n : ℕ)

@@ -218,8 +218,7 @@ fn place_of(shared: &[u32], first: u32) -> u32
     }
 }
 
-/// The entries of the wishes in bundles of two or more, ascending by wish. Of a bundle of three
-/// the first wish has two, which are the same.
+/// The entries of the wishes in bundles of two or more, ascending by wish, each once.
 fn entries_of(alloc: Global, shared: &[u32], laters: &[Later]) -> Result<Vec<Entry>, OutOfMemory>
     requires few { length shared.now < 2 ^ 32 }
     ensures { IfOk result (λ v. (sites : Sites) (ws : List Wish)
@@ -240,6 +239,7 @@ fn entries_of(alloc: Global, shared: &[u32], laters: &[Later]) -> Result<Vec<Ent
         })?;
     }
     entries.sort_unstable_by_key(|entry| entry.wish);
+    entries.dedup_by_key(|entry| entry.wish);
     Ok(entries)
 }
 

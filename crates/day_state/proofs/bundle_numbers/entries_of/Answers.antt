@@ -1,7 +1,9 @@
-use Rattle.std.proofs.Common.{get_or, refl}
+use Rattle.std.proofs.Common.{get_or, refl, rules}
+use Rattle.std.specs.Prelude.{◌==◌}
+use Rattle.std.proofs.lemmas.Fn.{dedup_same}
 use Rattle.day_state.specs.declared.bundle_numbers.Later.{Later}
 use Rattle.day_state.specs.Bundles.{bundles_of}
-use Rattle.day_state.proofs.Entries.{entries_all, entries_more, first_shared}
+use Rattle.day_state.proofs.Entries.{entries_all, entries_more, entries_once, first_shared}
 use Rattle.day_state.proofs.bundle_numbers.entries_of.Goals as goal
 
 pub loop-later-preserved : goal.loop-later-preserved
@@ -18,6 +20,8 @@ loop-later-preserved c = λ sites ws shared_is are.
 
 pub returns : goal.returns
 returns c = λ sites ws shared_is are.
-    entries_all sites ws c.args.laters.now are c.loop-later.entries.items c.sort_unstable_by_key.new.self.items
+    entries_once (bundles_of sites ws) c.sort_unstable_by_key.new.self.items c.dedup_by_key.new.self.items
+    (dedup_same _ (λ x y. x.wish == y.wish) _ (λ x y b f' x' y' k. search rules) _ _ c.dedup_by_key.ensures.filtered)
+    (entries_all sites ws c.args.laters.now are c.loop-later.entries.items c.sort_unstable_by_key.new.self.items
     c.loop-later.later-index c.loop-later-test.false (c.loop-later.invariant sites ws shared_is are)
-    c.sort_unstable_by_key.ensures.permutation
+    c.sort_unstable_by_key.ensures.permutation)
