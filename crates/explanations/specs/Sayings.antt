@@ -1,5 +1,5 @@
 -- What an explanation says of the evening.
-use Rattle.std.specs.Prelude.{◌≡◌, ◌≤◌, ◌<◌, ℕ, false, length, Some, slice_index, ⊤}
+use Rattle.std.specs.Prelude.{◌≡◌, ◌≤◌, ◌<◌, ℕ, false, length, Some, slice_index, ⊤, if◌then◌else◌}
 use Rattle.admit_core.specs.declared.dossier.Wish.{Wish}
 use Rattle.admit_core.specs.declared.explanation.BarCause.{BarCause}
 use Rattle.admit_core.specs.declared.explanation.BarCause.TheVariants.{Ceiling, Full}
@@ -7,7 +7,9 @@ use Rattle.admit_core.specs.declared.explanation.Explanation.{Explanation}
 use Rattle.admit_core.specs.declared.explanation.Explanation.TheVariants.{Gone, Live, Barred, NoSeat}
 use Rattle.admit_core.specs.DossierRows.{beds_of}
 use Rattle.admit_core.specs.State.{State, bed_holders, holds_bed, holds_seat, seats_left}
-use Rattle.admit_core.specs.Explanations.{LastPass, explanation}
+use Rattle.admit_core.specs.declared.state.Mark.{Mark}
+use Rattle.admit_core.specs.Explanations.{LastPass, barred_at, explanation, no_seat}
+use Rattle.admit_core.specs.Proposals.{is_barred}
 use Rattle.day_state.specs.Kept.{mark_in, wish_in}
 
 -- the bar of a school fell below its ceiling, and at least as many candidates as it has beds are
@@ -46,6 +48,12 @@ Says last evening w (Live status stamp) = ⊤
 Says last evening w (Barred h rank bar cause) = FindsNoBed last evening w h rank bar cause
 Says last evening w (NoSeat ahead left position limit) =
     FindsNoSeat evening w ahead left position limit
+
+-- the explanation of a wish that waits in the evening, and had the mark m when the last pass began
+abbrev pub waiting_case : LastPass → Wish → Mark → Explanation
+waiting_case last w m =
+    if is_barred last.opening last.bars w m then barred_at last w.board_rank w.school
+    else no_seat last w
 
 -- the explanation of the wish at a place
 abbrev pub explanation_at : LastPass → State → ℕ → Explanation

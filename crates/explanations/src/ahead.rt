@@ -21,7 +21,7 @@ fn wants_seat(state: &DayState<'_>, bars: &[u32], programme: u32, candidate: u32
 }
 
 /// How many of these candidates want a seat of a programme.
-pub fn count_ahead(state: &DayState<'_>, bars: &[u32], programme: u32, before: &[u32]) -> u32
+pub(crate) fn count_ahead(state: &DayState<'_>, bars: &[u32], programme: u32, before: &[u32]) -> u32
     requires bars { length bars.now ≡ length state.now.dossier.schools }
     requires few { length before.now ≤ 16000000 }
     ensures { result ≡ count_by (wants_seat state.now bars.now programme) before.now }
@@ -40,7 +40,7 @@ fn place_in(order: &[u32], candidate: u32) -> Option<usize>
 }
 
 /// Those who stand before a candidate in a call order; all of it where the candidate isn't in it.
-pub fn before(order: &[u32], candidate: u32) -> &[u32]
+pub(crate) fn before(order: &[u32], candidate: u32) -> &[u32]
     ensures before { result.now ≡ before_first (nat_eq candidate) order.now }
     ensures no_longer { length result.now ≤ length order.now }
 {

@@ -1,12 +1,11 @@
 //! The one case that holds of a wish.
-ghost use Rattle.std.specs.Prelude.{◌≡◌, ◌<◌, length};
-ghost use Rattle.std.specs.Option.{ForSome};
+ghost use Rattle.std.specs.Prelude.{◌≡◌, ◌<◌, length, Some};
 ghost use Rattle.admit_core.specs.State.{is_gone};
 ghost use Rattle.admit_core.specs.Proposals.{is_barred};
 ghost use Rattle.admit_core.specs.Explanations.{explanation, barred_at, cause_of, no_seat};
 ghost use Rattle.day_state.specs.Kept.{mark_in, wish_in};
 ghost use Rattle.desk_day.specs.LastPasses.{IsLastPass, last_pass};
-ghost use Rattle.explanations.specs.Sayings.{Explains};
+ghost use Rattle.explanations.specs.Sayings.{Explains, waiting_case};
 
 use crate::ahead::{before, count_ahead};
 use crate::closing::Closing;
@@ -17,7 +16,8 @@ use proposals::{is_open, limit_of, mark_at};
 
 /// Why the wish at a place stands as it does in the evening of a desk's last day, which came
 /// about: the one case that holds. The ceilings are those of that day, and the bars those of its
-/// last pass. Each day leaves a desk with it, as `desk_ends_so` in the proofs of `desk_day` says.
+/// last pass. After each day the desk meets what is required here, as `desk_ends_so` in the proofs
+/// of `desk_day` says.
 pub fn explain_on_desk(
     desk: &Desk<'_>,
     orders: &CallOrders,
@@ -59,10 +59,25 @@ fn case_of(now: Mark, last: &Closing<'_, '_>, place: u32) -> Explanation
         Explanation::Gone { status, stamp }
     } else if now.is_live() {
         Explanation::Live { status, stamp }
-    } else if is_barred(last, place) {
-        barred_at(last, last.wish_at(place))
     } else {
-        no_seat(last, last.wish_at(place))
+        case_of_waiting(last, place)
+    }
+}
+
+/// The case that holds of the wish at a place, which waits in the evening.
+fn case_of_waiting(last: &Closing<'_, '_>, place: u32) -> Explanation
+    requires { place < length last.now.opening.dossier.wishes }
+    ensures { result ≡ waiting_case last.now (wish_in last.now.opening.dossier.wishes place)
+        (mark_in last.now.opening.marks place) }
+{
+    let wish = last.wish_at(place);
+    let Some(school) = wish.school else {
+        return no_seat(last, wish);
+    };
+    if is_barred(last, place) {
+        barred_at(last, wish.board_rank, school)
+    } else {
+        no_seat(last, wish)
     }
 }
 
@@ -82,25 +97,16 @@ fn is_barred(last: &Closing<'_, '_>, place: u32) -> bool
     mark_at(last.opening, place).is_waiting() && !is_open(last.opening, last.bars, place)
 }
 
-/// The bar of a wish's school, and why it is as low as it is.
-fn barred_at(last: &Closing<'_, '_>, wish: Wish) -> Explanation
-    requires { ForSome wish.school (λ h. h < length last.now.opening.dossier.schools) }
-    ensures { result ≡ barred_at last.now wish.board_rank wish.school }
+/// The bar of a school, and why it is as low as it is, beside a rank there.
+fn barred_at(last: &Closing<'_, '_>, rank: u32, school: u32) -> Explanation
+    requires { school < length last.now.opening.dossier.schools }
+    ensures { result ≡ barred_at last.now rank (Some school) }
 {
-    let rank = wish.board_rank;
-    match wish.school {
-        None => Explanation::Barred {
-            school: 0,
-            rank,
-            bar: 0,
-            cause: BarCause::Ceiling,
-        },
-        Some(school) => Explanation::Barred {
-            school,
-            rank,
-            bar: last.bars[school as usize],
-            cause: cause_of(last, school),
-        },
+    Explanation::Barred {
+        school,
+        rank,
+        bar: last.bars[school as usize],
+        cause: cause_of(last, school),
     }
 }
 
