@@ -6,7 +6,7 @@ ghost use Rattle.envy.specs.Text.{block_line, envied_words, envy_text};
 
 use crate::blocks::Block;
 use admit_core::{Dossier, OutOfMemory};
-use report::{Piece, push_all, push_text, wish_id};
+use report::{Piece, push_all, push_end, wish_id};
 use std::alloc::{AllocError, Global};
 
 /// Adds the end of a line: who is envied, where somebody is.
@@ -14,13 +14,10 @@ fn push_envied(text: &mut String, envied: Option<u32>) -> Result<(), AllocError>
     ensures { Pushes result text.old text.new (further 32 (envied_words envied)) }
 {
     match envied {
-        None => push_text(text, "\n"),
+        None => push_end(text),
         Some(candidate) => {
             let candidate = Piece::Number(candidate);
-            push_all(
-                text,
-                &[Piece::Text(" envies "), candidate, Piece::Text("\n")],
-            )
+            push_all(text, &[Piece::Text(" envies "), candidate, Piece::End])
         }
     }
 }
@@ -59,7 +56,7 @@ fn push_envy(text: &mut String, dossier: &Dossier, blocks: &[Block]) -> Result<(
 {
     push_blocks(text, dossier, blocks)?;
     let count = Piece::Count(blocks.len() as u64);
-    push_all(text, &[Piece::Text("blocks "), count, Piece::Text("\n")])
+    push_all(text, &[Piece::Text("blocks "), count, Piece::End])
 }
 
 /// A line for each block, with the id of its wish, the seats left of the wish's programme and the
