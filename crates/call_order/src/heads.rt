@@ -21,10 +21,10 @@ pub(crate) fn first_heads(list: &[Ranked]) -> Heads
     ensures { (kind : Kind) → place_of result kind ≡ position_or_len (is_of kind) list.now }
 {
     Heads {
-        neither: Kind::Neither.steps_in(list),
-        scholar_only: Kind::ScholarOnly.steps_in(list),
-        resident_only: Kind::ResidentOnly.steps_in(list),
-        both_kinds: Kind::BothKinds.steps_in(list),
+        neither: Kind::Neither.first_place(list),
+        scholar_only: Kind::ScholarOnly.first_place(list),
+        resident_only: Kind::ResidentOnly.first_place(list),
+        both_kinds: Kind::BothKinds.first_place(list),
     }
 }
 

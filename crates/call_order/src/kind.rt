@@ -39,15 +39,16 @@ impl Kind {
         }
     }
 
-    /// How many stand before the first of this kind.
-    pub(crate) fn steps_in(self, list: &[Ranked]) -> usize
-        ensures steps { result ≡ position_or_len (is_of self) list.now }
+    /// The place of the first of this kind, or the list's length.
+    pub(crate) fn first_place(self, list: &[Ranked]) -> usize
+        ensures first { result ≡ position_or_len (is_of self) list.now }
         ensures within { result ≤ length list.now }
     {
         list.iter()
             .take_while(|ranked| !self.includes(ranked))
             .count()
     }
+
     /// The next place of this kind after a place, or the end of the list.
     pub(crate) fn next_place(self, list: &[Ranked], place: usize) -> usize
         requires { place < length list.now }
@@ -55,6 +56,6 @@ impl Kind {
         ensures within { result ≤ length list.now }
     {
         let next = place + 1;
-        next + self.steps_in(&list[next..])
+        next + self.first_place(&list[next..])
     }
 }
