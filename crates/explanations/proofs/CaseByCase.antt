@@ -1,5 +1,5 @@
 -- What an explanation is, case by case.
-use Rattle.std.proofs.Common.{◌≡◌, Bool, Option, None, true, false, not, ◌||◌, refl, sym}
+use Rattle.std.proofs.Common.{◌≡◌, Bool, None, true, false, not, ◌||◌, refl, sym}
 use Rattle.std.proofs.lemmas.Bool.{false≢true}
 use Rattle.admit_core.specs.declared.dossier.Wish.{Wish}
 use Rattle.admit_core.specs.declared.explanation.Explanation.TheVariants.{Gone, Live}
