@@ -53,8 +53,8 @@ impl Name {
         ensures room { KeepsRoom text.old text.new }
     {
         match self {
-            Name::Wish(id) => push_after(text, "wish ", id as u64),
-            Name::School(id) => push_after(text, "school ", id as u64),
+            Name::Wish(id) => push_after(text, "wish ", u64::from(id)),
+            Name::School(id) => push_after(text, "school ", u64::from(id)),
         }
     }
 }
@@ -85,7 +85,7 @@ pub(crate) fn mode_of(word: &str, numbers: Numbers) -> Option<Mode>
     }
 }
 
-/// All slots in their order. Most modes read so many of the first.
+/// All slots in their order.
 static ALL_SLOTS: [Slot; 10] = [
     Slot::Groups,
     Slot::Programmes,
@@ -99,6 +99,12 @@ static ALL_SLOTS: [Slot; 10] = [
     Slot::Chain,
 ];
 
+/// How many slots stand up to that of the wishes: a market needs no more.
+const UP_TO_WISHES: usize = 6;
+
+/// How many slots stand before that of the chain.
+const BEFORE_CHAIN: usize = 9;
+
 /// The slots that a mode reads, in this order.
 pub fn slots_of(mode: Mode) -> &'static [Slot]
     ensures slots { result.now ≡ Modes.slots_of mode }
@@ -107,9 +113,9 @@ pub fn slots_of(mode: Mode) -> &'static [Slot]
     match mode {
         Mode::Order => &[Slot::Groups, Slot::Rankings],
         Mode::Sample { .. } => &[],
-        Mode::Market => &ALL_SLOTS[..6],
+        Mode::Market => &ALL_SLOTS[..UP_TO_WISHES],
         Mode::Check => &ALL_SLOTS,
-        _ => &ALL_SLOTS[..9],
+        _ => &ALL_SLOTS[..BEFORE_CHAIN],
     }
 }
 
@@ -129,12 +135,7 @@ pub fn sample_of(mode: Mode) -> Option<u32>
 pub fn runs_days(mode: Mode) -> bool
     ensures { result ≡ Modes.runs_days mode }
 {
-    match mode {
-        Mode::Order => false,
-        Mode::Check => false,
-        Mode::Market => false,
-        _ => true,
-    }
+    !matches!(mode, Mode::Order | Mode::Check | Mode::Market)
 }
 
 /// The day whose picker the ending of a run is lent, where so many days are asked for; most modes
