@@ -49,14 +49,20 @@ fn number_between(text: &str, least: u32, most: u32) -> Option<u32>
     }
 }
 
-/// The date that a text names, of a year from 1901 to 2298.
+/// The first year in which a campaign may begin: the day before it is still a date that is read.
+const FIRST_START_YEAR: u32 = 1901;
+
+/// The last year in which a campaign may begin: all its days and deadlines are dates.
+const LAST_START_YEAR: u32 = 2298;
+
+/// The date that a text names, of a year in which a campaign may begin.
 fn start_date(text: &str) -> Option<Civil>
     ensures value { result ≡ in_start_years (date_in text.now) }
     ensures range { IfSome result IsStart }
 {
     let date = read_date(text.as_bytes())?;
     let (year, _, _) = parts(date);
-    if 1901 <= year && year <= 2298 {
+    if FIRST_START_YEAR <= year && year <= LAST_START_YEAR {
         Some(date)
     } else {
         None
@@ -81,12 +87,12 @@ fn number_option(
     ensures value { result ≡ number_option id.now least most (rows_of (found_of matches.now)) }
     ensures range { IfOk result (λ number. IfSome number (λ n. (least ≤ n) × (n ≤ most))) }
 {
-    match value_of(matches, id) {
-        None => Ok(None),
-        Some(text) => match number_between(text, least, most) {
-            None => Err(BadWords),
-            number => Ok(number),
-        },
+    let Some(text) = value_of(matches, id) else {
+        return Ok(None);
+    };
+    match number_between(text, least, most) {
+        Some(number) => Ok(Some(number)),
+        None => Err(BadWords),
     }
 }
 
@@ -133,12 +139,12 @@ fn start_option(matches: &ArgMatches<'_>) -> Result<Option<Civil>, BadWords>
     ensures value { result ≡ start_option (rows_of (found_of matches.now)) }
     ensures range { IfOk result (λ start. IfSome start IsStart) }
 {
-    match value_of(matches, "start") {
-        None => Ok(None),
-        Some(text) => match start_date(text) {
-            None => Err(BadWords),
-            start => Ok(start),
-        },
+    let Some(text) = value_of(matches, "start") else {
+        return Ok(None);
+    };
+    match start_date(text) {
+        Some(start) => Ok(Some(start)),
+        None => Err(BadWords),
     }
 }
 
@@ -174,10 +180,7 @@ fn days_of(days: Option<u32>) -> u32
     ensures least { 1 ≤ result }
     ensures most { result ≤ 366 }
 {
-    match days {
-        Some(days) => days,
-        None => 1,
-    }
+    days.unwrap_or(1)
 }
 
 /// What the matches of the command ask for.
