@@ -19,11 +19,11 @@ fn push_bar(text: &mut String, id: u32, before: u32, after: u32) -> Result<(), A
     let pieces = [
         Piece::Text("bar "),
         Piece::Number(id),
-        Piece::Text(" "),
+        Piece::Space,
         Piece::Number(before),
-        Piece::Text(" "),
+        Piece::Space,
         Piece::Number(after),
-        Piece::Text("\n"),
+        Piece::End,
     ];
     push_all(text, &pieces)
 }
@@ -59,7 +59,7 @@ fn push_need(text: &mut String, dossier: &Dossier, school: u32, need: u32) -> Re
         Piece::Number(schools[school as usize].beds),
         Piece::Text(" need "),
         Piece::Number(need),
-        Piece::Text("\n"),
+        Piece::End,
     ];
     push_all(text, &pieces)
 }
