@@ -42,6 +42,15 @@ asked_of [] = None
 asked_of (word ∷ others) =
     option_and_then (λ slot. asked_with slot (request_of others)) (slot_named word)
 
+-- the same by a reading of the request: where it has no morning after it, the words are bad
+abbrev pub or_bad : Option Asked → Result Asked WordsRefusal
+or_bad (Some asked) = Ok asked
+or_bad None = Err refusals.Bad
+
+abbrev pub asked_by : Slot → Result Request WordsRefusal → Result Asked WordsRefusal
+asked_by slot (Ok request) = or_bad (asked_with slot (Some request))
+asked_by slot (Err refusal) = Err refusal
+
 -- whether the first word names such a slot
 abbrev pub names_slot : List (List ℕ) → Bool
 names_slot [] = false

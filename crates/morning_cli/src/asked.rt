@@ -2,7 +2,7 @@
 ghost use Rattle.std.specs.Prelude.{◌≡◌, IfOk, IfSome, IsTrue, Some, map, string_bytes};
 ghost use Rattle.request.specs.Request.{IsRequest};
 ghost use Rattle.morning_cli.specs.SlotWanted as Words;
-ghost use Rattle.morning_cli.specs.SlotWanted.{IsAsked, ReadsAsked, asked_with, is_daily};
+ghost use Rattle.morning_cli.specs.SlotWanted.{IsAsked, ReadsAsked, asked_by, asked_with, is_daily};
 
 use admit_core::Slot;
 use request::{Mode, Request, WordsRefusal, read_request};
@@ -43,6 +43,23 @@ fn asked_with(slot: Slot, request: Request) -> Option<Asked>
     }
 }
 
+/// The slot after a run, by what its words were read as. It takes no memory, so it tells want of it
+/// only where the reading did.
+fn asked_by(slot: Slot, read: Result<Request, WordsRefusal>) -> Result<Asked, WordsRefusal>
+    requires daily { IsTrue (is_daily slot) }
+    requires known { IfOk read IsRequest }
+    ensures value { result ≡ asked_by slot read }
+    ensures known { IfOk result IsAsked }
+{
+    match read {
+        Ok(request) => match asked_with(slot, request) {
+            Some(asked) => Ok(asked),
+            None => Err(WordsRefusal::Bad),
+        },
+        Err(refusal) => Err(refusal),
+    }
+}
+
 /// What the words after the program's name ask for: the first names the slot, and the others are
 /// those of a run.
 pub(crate) fn read_asked(alloc: Global, words: &[String]) -> Result<Asked, WordsRefusal>
@@ -55,11 +72,5 @@ pub(crate) fn read_asked(alloc: Global, words: &[String]) -> Result<Asked, Words
     let Some(slot) = slot_named(word.as_str()) else {
         return Err(WordsRefusal::Bad);
     };
-    match read_request(alloc, others) {
-        Ok(request) => match asked_with(slot, request) {
-            Some(asked) => Ok(asked),
-            None => Err(WordsRefusal::Bad),
-        },
-        Err(refusal) => Err(refusal),
-    }
+    asked_by(slot, read_request(alloc, others))
 }
