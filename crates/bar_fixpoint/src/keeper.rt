@@ -1,5 +1,5 @@
 //! What is kept of falls.
-ghost use Rattle.std.specs.Prelude.{◌≡◌, List, [], ◌∷◌, ◌++◌, Some, OnOk, IsTrue, ⊤};
+ghost use Rattle.std.specs.Prelude.{◌≡◌, List, [], ◌∷◌, ◌++◌, Some, IsOk, OnOk, IsTrue, ⊤};
 ghost use Rattle.admit_core.specs.declared.records.Fall.{Fall};
 ghost use Rattle.admit_core.specs.Falls.{IsAtMost, is_overfilled, fall_of};
 ghost use Rattle.bar_fixpoint.specs.Overfilled.{rank_over};
@@ -64,7 +64,12 @@ impl Keeper for NoFalls {
         _system: &F,
         _school: u32,
         _rank: u32,
-    ) -> Result<(), OutOfMemory> {
+    ) -> Result<(), OutOfMemory>
+        ensures kept { OnOk result ((falls : List Fall) →
+            ⟦<NoFalls as Keeper>⟧.was_given self.old falls → ⟦<NoFalls as Keeper>⟧.was_given self.new
+            (falls ++ fall_of (F.system _system.now) (F.bars _system.now) _school ∷ [])) }
+        ensures always { IsOk result }
+    {
         Ok(())
     }
 }
