@@ -89,7 +89,8 @@ pub fn pass_keeping(
     ensures pass { IfOk result (IsKeptOf (kept_pass (are_kept falls))
         (IsPassOffered state.old state.new roster.now.orders ceilings.now stamp
         (choice picker.old) (told picker.old) (told picker.new))) }
-    ensures told_by_then { OnErr result (TellsOfFalls (boarding state.old roster.now.orders ceilings.now)
+    ensures told_by_then { OnErr result (TellsOfFalls
+        (boarding state.old roster.now.orders ceilings.now)
         (choice picker.old) (told picker.old) (told picker.new)) }
     ensures refused { OnErr result (state.new ≡ state.old) }
     ensures choice { choice picker.new ≡ choice picker.old }
@@ -122,7 +123,8 @@ fn find<L: Ledger>(
     ensures pass { IfOk result (IsKeptOf (kept_pass (are_kept falls))
         (IsPassBy state.now roster.now.orders ceilings.now
         (choice picker.old) (told picker.old) (told picker.new))) }
-    ensures told_by_then { OnErr result (TellsOfFalls (boarding state.now roster.now.orders ceilings.now)
+    ensures told_by_then { OnErr result (TellsOfFalls
+        (boarding state.now roster.now.orders ceilings.now)
         (choice picker.old) (told picker.old) (told picker.new)) }
     ensures choice { choice picker.new ≡ choice picker.old }
 {
