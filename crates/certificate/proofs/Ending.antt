@@ -1,13 +1,13 @@
 -- The evening of a valid day.
-use Rattle.std.proofs.Common.{◌≡◌, ℕ, ◌+◌, List, [], ◌∷◌, None, Result, Ok, Err, OnOk, sym, subst, ◌∙◌}
+use Rattle.std.proofs.Common.{◌≡◌, ℕ, ◌+◌, List, [], ◌∷◌, None, sym, subst, ◌∙◌}
 use Rattle.admit_core.specs.declared.chain.DayChain.{DayChain}
 use Rattle.admit_core.specs.declared.chain.PassChain.{PassChain}
 use Rattle.admit_core.specs.declared.ranking.CallOrder.{CallOrder}
 use Rattle.admit_core.specs.State.{State}
 use Rattle.admit_core.specs.Chains.{ArePassChains, IsDayChain, closing_by, day_fault}
-use Rattle.admit_core.specs.ChainLaws.{NoFaultWhereValid}
-use Rattle.certificate.specs.Checked.{Finds, state_after}
-use Rattle.certificate.specs.declared.stop.CheckStop.{CheckStop}
+use Rattle.admit_core.specs.ChainLaws.{ChainsTellTheDay, NoFaultWhereValid}
+use Rattle.certificate.specs.Checked.{state_after}
+use Rattle.certificate.specs.ProvedDays.{IsProvedDay}
 
 pub evening_is : (orders : List CallOrder) (ceilings : List ℕ) (day k : ℕ) (s : State)
     (passes : List PassChain) (evening : State)
@@ -20,7 +20,7 @@ evening_is orders ceilings day k s (pass ∷ (next ∷ rest)) evening are =
     (next ∷ rest) evening are.2
 
 -- without a fault the day is valid, and the state after its passes is its evening
-pub is_valid : NoFaultWhereValid
+is_valid : NoFaultWhereValid
     → (orders : List CallOrder) (ceilings : List ℕ) (day : ℕ) (morning : State) (chain : DayChain)
     (evening : State) → day_fault orders ceilings day morning chain ≡ None
     → evening ≡ state_after orders ceilings day 1 morning chain.passes
@@ -30,12 +30,12 @@ is_valid law orders ceilings day morning chain evening none is =
     subst (IsDayChain orders ceilings day morning chain)
     (evening_is orders ceilings day 1 morning chain.passes last are ∙ sym is) are
 
--- so where a check goes through
-pub found_valid : {X : Type 0} → NoFaultWhereValid
+-- so the day is proved
+pub is_proved : NoFaultWhereValid → ChainsTellTheDay
     → (orders : List CallOrder) (ceilings : List ℕ) (day : ℕ) (morning : State) (chain : DayChain)
-    (evening : State) (result : Result X CheckStop) → Finds result (day_fault orders ceilings day morning chain)
-    → OnOk result (evening ≡ state_after orders ceilings day 1 morning chain.passes)
-    → OnOk result (IsDayChain orders ceilings day morning chain evening)
-found_valid law orders ceilings day morning chain evening (Ok x) none is =
-    is_valid law orders ceilings day morning chain evening none is
-found_valid law orders ceilings day morning chain evening (Err e) none is = tt
+    (evening : State) → day_fault orders ceilings day morning chain ≡ None
+    → evening ≡ state_after orders ceilings day 1 morning chain.passes
+    → IsProvedDay orders ceilings day chain morning evening
+is_proved law tells orders ceilings day morning chain evening none is =
+    let valid = is_valid law orders ceilings day morning chain evening none is in
+    record { valid = valid; greatest = tells orders ceilings day morning chain evening valid }

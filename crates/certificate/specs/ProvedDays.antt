@@ -1,12 +1,21 @@
 -- Days that a chain proves.
 use Rattle.std.specs.Prelude.{◌≡◌, ℕ, ◌+◌, List, [], ◌∷◌, Option, None}
+use Rattle.admit_core.specs.ChainLaws.{passes_told}
 use Rattle.admit_core.specs.Chains.{IsDayChain}
-use Rattle.admit_core.specs.Days.{ceilings_of, morning, unfit_on}
+use Rattle.admit_core.specs.Days.{Passes, ceilings_of, morning, unfit_on}
 use Rattle.admit_core.specs.State.{State}
 use Rattle.admit_core.specs.declared.chain.DayChain.{DayChain}
 use Rattle.admit_core.specs.declared.ranking.CallOrder.{CallOrder}
 use Rattle.admit_core.specs.declared.records.Terms.{Terms}
 use Rattle.certificate.specs.Checked.{state_after}
+
+-- a day is proved: its chain is valid from this morning to this evening; and the passes that it tells
+-- are those of the rules, so the last bars of each are the greatest
+pub record IsProvedDay (orders : List CallOrder) (ceilings : List ℕ) (day : ℕ) (chain : DayChain)
+    (old evening : State) : Type 0 where
+  pub valid : IsDayChain orders ceilings day old chain evening
+  pub greatest :
+      Passes orders ceilings day 1 old (passes_told orders ceilings day 1 old chain.passes) evening
 
 -- days from day d on: on each every answer fits, and its chain is valid in its morning and under
 -- its ceilings; they lead from one evening to another

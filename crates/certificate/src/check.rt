@@ -1,17 +1,15 @@
 //! Whether the chain of a day is valid.
-ghost use Rattle.std.specs.Prelude.{◌≡◌, ◌≢◌, ◌<◌, ◌^◌, [], Err, IfErr, IfOk, IsOk, OnOk, length};
+ghost use Rattle.std.specs.Prelude.{◌≡◌, ◌<◌, ◌^◌, [], IfOk, IsOk, length};
 ghost use Rattle.admit_core.specs.CallOrder.{AreCallOrders};
-ghost use Rattle.admit_core.specs.ChainLaws.{passes_told};
-ghost use Rattle.admit_core.specs.Chains.{IsDayChain, day_fault};
-ghost use Rattle.admit_core.specs.Days.{Passes};
-ghost use Rattle.certificate.specs.Checked.{Finds, ids_in};
-ghost use Rattle.certificate.specs.Verdicts.{IfProved, IfRejected, KeepsSchool, StopsAt, fault_told, missing};
-ghost use Rattle.certificate.specs.declared.stop.CheckStop.TheVariants as stops;
+ghost use Rattle.admit_core.specs.Chains.{day_fault};
+ghost use Rattle.certificate.specs.Checked.{ids_in};
+ghost use Rattle.certificate.specs.ProvedDays.{IsProvedDay};
+ghost use Rattle.certificate.specs.Verdicts.{IfProved, IfRejected, KeepsSchool, fault_told, missing};
 
 use crate::grounds::Grounds;
-use crate::passes::check_passes;
+use crate::passes::check_day_on;
 use crate::stop::CheckStop;
-use admit_core::{CallOrders, CheckReason, DayChain, OutOfMemory, laws_of_chains};
+use admit_core::{CallOrders, CheckReason, DayChain, OutOfMemory};
 use day_state::DayState;
 use desk_day::Present;
 use dossier_check::Index;
@@ -48,16 +46,11 @@ pub fn check_day<'d>(
         day_fault orders.now.orders ceilings.now day morning.now chain.now ≡ fault_told v) }
     ensures school { IfOk result (λ v.
         IfRejected v (KeepsSchool (length morning.now.dossier.schools))) }
-    ensures valid { IfOk result (λ v.
-        IfProved v (IsDayChain orders.now.orders ceilings.now day morning.now chain.now)) }
+    ensures proved { IfOk result (λ v.
+        IfProved v (IsProvedDay orders.now.orders ceilings.now day chain.now morning.now)) }
 
     // A day without a pass is rejected without memory.
     ensures always { chain.now.passes ≡ [] → IsOk result }
-
-    // The chain tells the passes of the rules: the last bars of each are the greatest.
-    ensures greatest { IfOk result (λ v.
-        IfProved v (Passes orders.now.orders ceilings.now day 1 morning.now
-        (passes_told orders.now.orders ceilings.now day 1 morning.now chain.now.passes))) }
 {
     if let Some(verdict) = missing(chain) {
         return Ok(verdict);
@@ -84,12 +77,9 @@ pub fn check_day_along<'d>(
         day_fault grounds.now.orders ceilings.now day morning.now chain.now ≡ fault_told v) }
     ensures school { IfOk result (λ v.
         IfRejected v (KeepsSchool (length morning.now.dossier.schools))) }
-    ensures valid { IfOk result (λ v.
-        IfProved v (IsDayChain grounds.now.orders ceilings.now day morning.now chain.now)) }
+    ensures proved { IfOk result (λ v.
+        IfProved v (IsProvedDay grounds.now.orders ceilings.now day chain.now morning.now)) }
     ensures always { chain.now.passes ≡ [] → IsOk result }
-    ensures greatest { IfOk result (λ v.
-        IfProved v (Passes grounds.now.orders ceilings.now day 1 morning.now
-        (passes_told grounds.now.orders ceilings.now day 1 morning.now chain.now.passes))) }
 {
     if let Some(verdict) = missing(chain) {
         return Ok(verdict);
@@ -119,33 +109,4 @@ fn missing<'d>(chain: &DayChain) -> Option<Verdict<'d>>
     } else {
         None
     }
-}
-
-/// Tests the chain of a day from its morning on, which is the present state, and leaves the evening
-/// of the day. Where the check stops, the state may be in the midst of the day.
-pub fn check_day_on(
-    alloc: Global,
-    grounds: &Grounds<'_, '_>,
-    present: &mut Present<'_>,
-    ceilings: &[u32],
-    day: u32,
-    chain: &DayChain,
-) -> Result<(), CheckStop>
-    requires same { grounds.now.dossier ≡ present.old.dossier }
-    requires ceilings { length ceilings.now ≡ length present.old.dossier.schools }
-    requires passes { length chain.now.passes < 2 ^ 32 }
-
-    ensures found { Finds result
-        (day_fault grounds.now.orders ceilings.now day present.old chain.now) }
-    ensures valid { OnOk result
-        (IsDayChain grounds.now.orders ceilings.now day present.old chain.now present.new) }
-    ensures greatest { OnOk result (Passes grounds.now.orders ceilings.now day 1 present.old
-        (passes_told grounds.now.orders ceilings.now day 1 present.old chain.now.passes)
-        present.new) }
-    ensures memory { result ≡ Err stops.OutOfMemory → chain.now.passes ≢ [] }
-    ensures school { IfErr result (StopsAt (length present.old.dossier.schools)) }
-    ensures dossier { present.new.dossier ≡ present.old.dossier }
-{
-    laws_of_chains();
-    check_passes(alloc, grounds, present, ceilings, day, chain)
 }

@@ -9,7 +9,7 @@ ghost use Rattle.certificate.specs.declared.stop.CheckStop.TheVariants as stops;
 
 use crate::grounds::Grounds;
 use crate::pass_test::PassTest;
-use crate::stop::{CheckStop, Rejection};
+use crate::stop::{CheckStop, rejected_at};
 use admit_core::{CheckReason, FallLine, PassChain, Steps};
 use bar_fixpoint::Falling;
 use day_state::DayState;
@@ -41,30 +41,18 @@ impl PassTest<'_, '_> {
         let _ = self.state.marks(); // one for each wish
         let row = line.row;
         let Some(school) = school_place(self.index, line.school) else {
-            return Err(CheckStop::Rejected(Rejection {
-                row,
-                reason: CheckReason::NotOver,
-            }));
+            return Err(rejected_at(row, CheckReason::NotOver));
         };
         let Some(over) = self.round.first_over(school) else {
-            return Err(CheckStop::Rejected(Rejection {
-                row,
-                reason: CheckReason::NotOver,
-            }));
+            return Err(rejected_at(row, CheckReason::NotOver));
         };
         let ranks = self.ranks_up_to(alloc, school, over)?;
         if !self.show_ranks(school, &ranks, line.wishes.as_slice()) {
-            return Err(CheckStop::Rejected(Rejection {
-                row,
-                reason: CheckReason::WrongWishes,
-            }));
+            return Err(rejected_at(row, CheckReason::WrongWishes));
         }
         let from = self.round.bar(school);
         if !tells_bars(line, from, over - 1) {
-            return Err(CheckStop::Rejected(Rejection {
-                row,
-                reason: CheckReason::WrongBar,
-            }));
+            return Err(rejected_at(row, CheckReason::WrongBar));
         }
         Ok(school)
     }
@@ -104,10 +92,8 @@ impl PassTest<'_, '_> {
     {
         self.check_lines(alloc, pass.falls.as_slice(), steps)?;
         if let Some(school) = self.first_overfilled() {
-            return Err(CheckStop::Rejected(Rejection {
-                row: pass.next_row,
-                reason: CheckReason::StillOver { school },
-            }));
+            let reason = CheckReason::StillOver { school };
+            return Err(rejected_at(pass.next_row, reason));
         }
         Ok(self.proposed(alloc)?)
     }

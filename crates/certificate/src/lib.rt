@@ -26,8 +26,9 @@ mod texts;
 mod worked;
 mod write;
 
-pub use check::{Verdict, check_day, check_day_along, check_day_on};
+pub use check::{Verdict, check_day, check_day_along};
 pub use grounds::Grounds;
+pub use passes::check_day_on;
 pub use read::read_chain;
 pub use refusal::ChainRefusal;
 pub use stop::{CheckStop, Rejection};

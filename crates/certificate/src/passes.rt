@@ -1,21 +1,23 @@
 //! The passes of a day, tested one after another.
-ghost use Rattle.std.specs.Prelude.{◌≡◌, ◌≢◌, ◌≤◌, ◌<◌, ◌^◌, [], Err, IfNone, IfOk, OnOk, drop, length, option_map};
+ghost use Rattle.std.specs.Prelude.{◌≡◌, ◌≢◌, ◌≤◌, ◌<◌, ◌^◌, [], Err, IfErr, IfNone, IfOk, OnOk, drop, length, option_map};
 ghost use Rattle.admit_core.specs.declared.chain.CheckReason.TheVariants.{PassExtra};
 ghost use Rattle.admit_core.specs.Chains.{bars_by, closing_by, day_fault, extra_pass, pass_fault};
 ghost use Rattle.admit_core.specs.Days.{freed_after, frees_nothing};
-ghost use Rattle.certificate.specs.Checked.{Finds, state_after};
+ghost use Rattle.certificate.specs.Checked.{Finds};
+ghost use Rattle.certificate.specs.ProvedDays.{IsProvedDay};
+ghost use Rattle.certificate.specs.Verdicts.{StopsAt};
 ghost use Rattle.certificate.specs.declared.stop.CheckStop.TheVariants as stops;
 
 use crate::falls::offers_of;
 use crate::grounds::Grounds;
-use crate::stop::{CheckStop, Rejection};
-use admit_core::{CheckReason, DayChain, Freed, PassChain, Stamp};
+use crate::stop::{CheckStop, rejected_at};
+use admit_core::{CheckReason, DayChain, Freed, PassChain, Stamp, laws_of_chains};
 use desk_day::{Present, frees_nothing};
 use std::alloc::Global;
 
-/// Tests the passes of a day, and leaves the state in which the day ends. It takes memory only
-/// where there is a pass.
-pub(crate) fn check_passes(
+/// Tests the chain of a day from its morning on, which is the present state, and leaves the evening
+/// of the day. Where the check stops, the state may be in the midst of the day.
+pub fn check_day_on(
     alloc: Global,
     grounds: &Grounds<'_, '_>,
     present: &mut Present<'_>,
@@ -26,13 +28,18 @@ pub(crate) fn check_passes(
     requires same { grounds.now.dossier ≡ present.old.dossier }
     requires ceilings { length ceilings.now ≡ length present.old.dossier.schools }
     requires passes { length chain.now.passes < 2 ^ 32 }
+
     ensures found { Finds result
         (day_fault grounds.now.orders ceilings.now day present.old chain.now) }
-    ensures state { OnOk result (present.new ≡ state_after grounds.now.orders ceilings.now day 1
-        present.old chain.now.passes) }
+    ensures proved { OnOk result (IsProvedDay grounds.now.orders ceilings.now day chain.now
+        present.old present.new) }
+
+    // A day without a pass is rejected without memory.
     ensures memory { result ≡ Err stops.OutOfMemory → chain.now.passes ≢ [] }
+    ensures school { IfErr result (StopsAt (length present.old.dossier.schools)) }
     ensures dossier { present.new.dossier ≡ present.old.dossier }
 {
+    laws_of_chains();
     let passes = chain.passes.as_slice();
     for (place, pass) in passes.iter().enumerate() {
         let number = place as u32 + 1;
@@ -41,17 +48,11 @@ pub(crate) fn check_passes(
         if frees_nothing(freed) {
             return match extra_row(passes, place + 1) {
                 None => Ok(()),
-                Some(row) => Err(CheckStop::Rejected(Rejection {
-                    row,
-                    reason: CheckReason::PassExtra,
-                })),
+                Some(row) => Err(rejected_at(row, CheckReason::PassExtra)),
             };
         }
     }
-    Err(CheckStop::Rejected(Rejection {
-        row: chain.next_row,
-        reason: CheckReason::PassMissing,
-    }))
+    Err(rejected_at(chain.next_row, CheckReason::PassMissing))
 }
 
 /// Tests the falls of a pass, and makes its offers and the automatic answers.

@@ -1,4 +1,7 @@
 //! Why a check ends early.
+ghost use Rattle.std.specs.Prelude.{◌≡◌};
+ghost use Rattle.certificate.specs.declared.stop.CheckStop.TheVariants as stop;
+
 use admit_core::{CheckReason, OutOfMemory};
 use std::alloc::AllocError;
 
@@ -19,10 +22,14 @@ pub enum CheckStop {
     OutOfMemory,
 }
 
-impl From<AllocError> for CheckStop {
-    ghost use Rattle.std.specs.Prelude.{◌≡◌};
-    ghost use Rattle.certificate.specs.declared.stop.CheckStop.TheVariants as stop;
+/// The stop of a check whose first fault stands at a row.
+pub(crate) fn rejected_at(row: u64, reason: CheckReason) -> CheckStop
+    ensures { result ≡ stop.Rejected (record { row = row; reason = reason }) }
+{
+    CheckStop::Rejected(Rejection { row, reason })
+}
 
+impl From<AllocError> for CheckStop {
     ghost from_gives = { λ _ found. found ≡ stop.OutOfMemory };
 
     fn from(_error: AllocError) -> CheckStop {
@@ -31,9 +38,6 @@ impl From<AllocError> for CheckStop {
 }
 
 impl From<OutOfMemory> for CheckStop {
-    ghost use Rattle.std.specs.Prelude.{◌≡◌};
-    ghost use Rattle.certificate.specs.declared.stop.CheckStop.TheVariants as stop;
-
     ghost from_gives = { λ _ found. found ≡ stop.OutOfMemory };
 
     fn from(_error: OutOfMemory) -> CheckStop {

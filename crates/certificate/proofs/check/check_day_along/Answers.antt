@@ -1,9 +1,8 @@
 use Rattle.std.proofs.Common.{◌≡◌, ◌∙◌, None, Some, length, subst, sym}
-use Rattle.admit_core.specs.ChainLaws.{passes_told}
-use Rattle.admit_core.specs.Chains.{IsDayChain, day_fault}
-use Rattle.admit_core.specs.Days.{Passes}
+use Rattle.admit_core.specs.Chains.{day_fault}
 use Rattle.admit_core.specs.State.{State}
 use Rattle.certificate.specs.Checked.{Stops}
+use Rattle.certificate.specs.ProvedDays.{IsProvedDay}
 use Rattle.certificate.specs.Verdicts.{KeepsSchool, StopsAt}
 use Rattle.certificate.specs.declared.stop.CheckStop.{CheckStop}
 use Rattle.certificate.proofs.check.check_day_along.Goals as goal
@@ -13,25 +12,12 @@ returns-in-Ok-clause-exact c =
     subst (λ (s : State). day_fault c.args.grounds.now.orders c.args.ceilings.now c.args.day s c.args.chain.now ≡ None)
     (c.begin-present.ensures ∙ c.in_ok-copy.ensures) c.in-Ok.ensures.found
 
-pub returns-in-Ok-clause-valid : goal.returns-in-Ok-clause-valid
-returns-in-Ok-clause-valid c =
-    let orders = c.args.grounds.now.orders in
-    subst (λ (e : State). IsDayChain orders c.args.ceilings.now c.args.day c.args.morning.now c.args.chain.now e)
-    (sym c.into_now.ensures)
-    (subst (λ (s : State). IsDayChain orders c.args.ceilings.now c.args.day s c.args.chain.now
-    c.check_day_on.new.present)
-    (c.begin-present.ensures ∙ c.in_ok-copy.ensures) c.in-Ok.ensures.valid)
-
-pub returns-in-Ok-clause-greatest : goal.returns-in-Ok-clause-greatest
-returns-in-Ok-clause-greatest c =
-    let orders = c.args.grounds.now.orders in
-    let ceilings = c.args.ceilings.now in
-    let day = c.args.day in
-    let told = λ (s : State). passes_told orders ceilings day 1 s c.args.chain.now.passes in
-    subst (λ (e : State). Passes orders ceilings day 1 c.args.morning.now (told c.args.morning.now) e)
-    (sym c.into_now.ensures)
-    (subst (λ (s : State). Passes orders ceilings day 1 s (told s) c.check_day_on.new.present)
-    (c.begin-present.ensures ∙ c.in_ok-copy.ensures) c.in-Ok.ensures.greatest)
+pub returns-in-Ok-clause-proved : goal.returns-in-Ok-clause-proved
+returns-in-Ok-clause-proved c =
+    let Is = IsProvedDay c.args.grounds.now.orders c.args.ceilings.now c.args.day c.args.chain.now in
+    subst (λ (e : State). Is c.args.morning.now e) (sym c.into_now.ensures)
+    (subst (λ (s : State). Is s c.check_day_on.new.present) (c.begin-present.ensures ∙ c.in_ok-copy.ensures)
+    c.in-Ok.ensures.proved)
 
 pub returns-in-Err-Rejected-clause-exact : goal.returns-in-Err-Rejected-clause-exact
 returns-in-Err-Rejected-clause-exact c =

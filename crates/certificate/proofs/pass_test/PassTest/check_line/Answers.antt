@@ -15,17 +15,17 @@ returns-in_default-clause-found c =
     let r = c.self.inside.round in
     let s = c.self.inside.state.now in
     let line = c.args.line.now in
-    subst (λ (x : Round). option_map (λ (reason : CheckReason). (line.row, reason))
+    rw c.rejected_at.ensures (subst (λ (x : Round). option_map (λ (reason : CheckReason). (line.row, reason))
     (line_fault x.state x.orders x.ceilings x.bars line) ≡ Some (line.row, NotOver)) c.self.view_is
     (stops_unknown s r.orders r.ceilings r.bars c.self.inside.index.now line c.self.invariant.index
-    c.self.invariant.ceilings (sym c.school_place.ensures ∙ c.in_default.is))
+    c.self.invariant.ceilings (sym c.school_place.ensures ∙ c.in_default.is)))
 
 pub returns-in_default-first_over-clause-found : goal.returns-in_default-first_over-clause-found
 returns-in_default-first_over-clause-found c =
-    stops_not_over
+    rw c.rejected_at-in_default-first_over.ensures (stops_not_over
     (looked_up c.self.inside.round c.self.view_is c.args.line.now c.self.invariant
     (sym c.school_place.ensures ∙ c.in-Some.is)
-    (sym c.in_default-first_over.is ∙ c.first_over.ensures))
+    (sym c.in_default-first_over.is ∙ c.first_over.ensures)))
 
 pub ranks_up_to-requires : goal.ranks_up_to-requires
 ranks_up_to-requires c =
@@ -49,7 +49,7 @@ returns-then-not-show_ranks-clause-found c =
     let shown = are_shown c.self.inside.round c.self.view_is line c.in-Some.school c.in-Some-first_over.over
     c.marks.ensures.marks c.marks.ensures.one_each (c.deref.ensures.value ∙ c.in_ok-ranks.ensures)
     c.as_slice.ensures c.show_ranks.ensures in
-    stops_wrong_wishes seen shown c.if-not-show_ranks.true
+    rw c.rejected_at-then-not-show_ranks.ensures (stops_wrong_wishes seen shown c.if-not-show_ranks.true)
 
 pub overflow_sub-over : goal.overflow_sub-over
 overflow_sub-over c =
@@ -65,9 +65,9 @@ returns-then-not-tells_bars-clause-found c =
     let shown = are_shown c.self.inside.round c.self.view_is line c.in-Some.school c.in-Some-first_over.over
     c.marks.ensures.marks c.marks.ensures.one_each (c.deref.ensures.value ∙ c.in_ok-ranks.ensures)
     c.as_slice.ensures c.show_ranks.ensures in
-    stops_wrong_bar seen shown (bar_seen c.self.inside.round c.self.view_is c.in-Some.school _ c.bar-from.ensures)
-    c.tells_bars.ensures
-    c.if-not-show_ranks.false c.if-not-tells_bars.true
+    rw c.rejected_at-then-not-tells_bars.ensures (stops_wrong_bar seen shown
+    (bar_seen c.self.inside.round c.self.view_is c.in-Some.school _ c.bar-from.ensures)
+    c.tells_bars.ensures c.if-not-show_ranks.false c.if-not-tells_bars.true)
 
 pub returns-clause-found : goal.returns-clause-found
 returns-clause-found c =

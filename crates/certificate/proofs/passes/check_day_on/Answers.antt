@@ -1,4 +1,4 @@
-use Rattle.std.proofs.Common.{◌≡◌, ◌∙◌, ◌+◌, true, false, drop, ap, sym, length, refl, rules, None, Some}
+use Rattle.std.proofs.Common.{◌≡◌, ◌∙◌, ◌+◌, [], true, false, drop, ap, sym, length, refl, rules, None, Some}
 use Rattle.std.proofs.lemmas.List.{drop_all}
 use Rattle.std.proofs.lemmas.Result.{err_from_is_err_and}
 use Rattle.admit_core.specs.DossierRows.{DossierRows}
@@ -7,8 +7,10 @@ use Rattle.admit_core.specs.declared.chain.CheckReason.TheVariants.{PassExtra}
 use Rattle.admit_core.specs.Chains.{extra_pass, frees_nothing_by, passes_fault}
 use Rattle.admit_core.specs.Days.{frees_nothing}
 use Rattle.certificate.specs.Checked.{state_after}
+use Rattle.certificate.proofs.Ending.{is_proved}
+use Rattle.certificate.proofs.Schools.{stops_school}
 use Rattle.certificate.proofs.Lowering.{drop_item, pass_goes_on, pass_is_last, pass_stops, state_goes_on}
-use Rattle.certificate.proofs.passes.check_passes.Goals as goal
+use Rattle.certificate.proofs.passes.check_day_on.Goals as goal
 
 pub loop-place-preserved : goal.loop-place-preserved
 loop-place-preserved c =
@@ -56,6 +58,25 @@ returns-in-None-clause-found c =
     let none : extra_pass rest ≡ None = search rules in
     last ∙ none
 
+pub returns-in-None-clause-proved : goal.returns-in-None-clause-proved
+returns-in-None-clause-proved c =
+    let orders = c.args.grounds.now.orders in
+    let ceilings = c.args.ceilings.now in
+    let day = c.args.day in
+    let s = c.loop-place.present in
+    let next = c.check_pass.new.present in
+    let k = c.loop-place.place in
+    let passes = c.as_slice-passes.result.now in
+    let pass = c.index-passes-place.result in
+    let rest = drop (k + 1) passes in
+    let here = drop_item passes k pass c.loop-place-test.true c.index-passes-place.is in
+    let none : rest ≡ [] = c.in-None.ensures.last in
+    let goes = state_goes_on orders ceilings day (k + 1) s next pass rest _ (c.loop-place.invariant.state
+    ∙ ap (state_after orders ceilings day (k + 1) s) here) c.in_ok-freed.ensures.state in
+    is_proved c.laws_of_chains.ensures.no_fault c.laws_of_chains.ensures.tells orders ceilings day c.args.present.now
+    c.args.chain.now next (returns-in-None-clause-found c)
+    (sym (goes ∙ ap (state_after orders ceilings day (k + 1 + 1) next) none))
+
 pub returns-in-Some-clause-found : goal.returns-in-Some-clause-found
 returns-in-Some-clause-found c =
     let orders = c.args.grounds.now.orders in
@@ -74,7 +95,7 @@ returns-in-Some-clause-found c =
     let last = pass_is_last orders ceilings day end (k + 1) s pass rest _ (c.loop-place.invariant.fault
     ∙ ap (passes_fault orders ceilings day end (k + 1) s) here) c.in_ok-freed.ensures.found frees in
     let extra : extra_pass rest ≡ Some (c.in-Some.row, PassExtra) = search rules in
-    last ∙ extra
+    rw c.rejected_at.ensures (last ∙ extra)
 
 pub check_pass-requires-clause-same : goal.check_pass-requires-clause-same
 check_pass-requires-clause-same c = c.requires.same ∙ sym c.loop-place.invariant.dossier
@@ -99,6 +120,17 @@ returns-in_err-freed-clause-found c =
     (c.loop-place.invariant.fault ∙ ap (passes_fault orders ceilings day end (k + 1) s) here)
     c.in_err-freed.ensures.found)
 
+pub returns-in_err-freed-clause-school : goal.returns-in_err-freed-clause-school
+returns-in_err-freed-clause-school c =
+    stops_school c.args.grounds.now.orders c.args.ceilings.now c.args.day c.args.present.now c.args.chain.now
+    c.from_residual.result c.requires.ceilings (returns-in_err-freed-clause-found c)
+
+pub returns-in-Some-clause-school : goal.returns-in-Some-clause-school
+returns-in-Some-clause-school c = rw c.rejected_at.ensures tt
+
+pub returns-clause-school : goal.returns-clause-school
+returns-clause-school c = rw c.rejected_at-2.ensures tt
+
 pub loop-place-init : goal.loop-place-init
 loop-place-init c =
     let orders = c.args.grounds.now.orders in
@@ -115,6 +147,6 @@ pub returns-clause-found : goal.returns-clause-found
 returns-clause-found c =
     let end = c.args.chain.now.next_row in
     let k = c.loop-place.place in
-    c.loop-place.invariant.fault
+    rw c.rejected_at-2.ensures (c.loop-place.invariant.fault
     ∙ ap (passes_fault c.args.grounds.now.orders c.args.ceilings.now c.args.day end (k + 1) c.loop-place.present)
-    (drop_all k c.as_slice-passes.result.now c.loop-place-test.false)
+    (drop_all k c.as_slice-passes.result.now c.loop-place-test.false))

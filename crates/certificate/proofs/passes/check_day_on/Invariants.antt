@@ -1,7 +1,7 @@
 use Rattle.std.proofs.Common.{◌≡◌, ◌+◌, drop}
 use Rattle.admit_core.specs.Chains.{day_fault, passes_fault}
 use Rattle.certificate.specs.Checked.{state_after}
-use Rattle.certificate.proofs.passes.check_passes.Given as goal
+use Rattle.certificate.proofs.passes.check_day_on.Given as goal
 
 abbrev pub invariant-loop-place : goal.invariant-loop-place
 invariant-loop-place l =
