@@ -6,7 +6,7 @@ use Rattle.admit_core.specs.Falls.{IsGreatest, Leads, bars_after, falls_by}
 use Rattle.admit_core.proofs.ByPlaces.{by_places}
 use Rattle.admit_core.proofs.FallsLaw.{run_is_greatest}
 use Rattle.markets.specs.Bars.{market_system}
-use Rattle.markets.specs.Lawful.{market_is_lawful}
+use Rattle.markets.proofs.Lawful.{market_is_lawful}
 use Rattle.markets.specs.Markets.{IsMarket, MarketRows, list_of, lists_it, market_position}
 use Rattle.markets.specs.Matchings.{IsBestForAll, IsMatching, IsStable, place_of}
 use Rattle.markets.proofs.Best.{greatest_is_best}

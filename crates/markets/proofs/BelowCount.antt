@@ -9,8 +9,8 @@ use Rattle.std.proofs.lemmas.Map.Keys.{apart_from_distinct}
 use Rattle.std.proofs.lemmas.Map.Made.{distinct_count-from_IsDistinct}
 use Rattle.admit_core.specs.Lists.{is_among, distinct}
 use Rattle.markets.specs.Markets.{is_distinct, is_list_below}
-use Rattle.markets.specs.Firsts.{one_of_all}
-use Rattle.markets.specs.Positions.{distinct_from, first_place, at_first}
+use Rattle.markets.proofs.Firsts.{one_of_all}
+use Rattle.markets.proofs.Positions.{distinct_from, first_place, at_first}
 
 pub is_distinct_from : (xs : List ℕ) → IsDistinct nat_eq xs → is_distinct xs ≡ true
 is_distinct_from xs apart = eq-eqb (length (distinct xs)) (length xs) (distinct_count-from_IsDistinct nat_eq_equiv xs

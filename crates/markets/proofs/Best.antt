@@ -9,12 +9,13 @@ use Rattle.std.proofs.lemmas.List.FromFn.{length-map-range_with_len, get_or-map-
 use Rattle.std.proofs.lemmas.List.Sums.{fails_before_first, passes_at_first, prefix_len-le-length}
 use Rattle.admit_core.specs.Lists.{is_among}
 use Rattle.admit_core.specs.Falls.{IsAtMost, Fits, IsGreatest}
+use Rattle.linked_demand.proofs.HousedRows.{filter_among}
 use Rattle.markets.specs.Markets.{MarketRows, IsMarket, list_of, market_order, lists_it, market_position}
 use Rattle.markets.specs.Matchings.{place_of, is_at, holders, prefers, would_take, IsStable, IsBestForAll}
 use Rattle.markets.specs.Bars.{is_within, best_within, matched_under, market_system}
-use Rattle.markets.specs.Firsts.{among_before, among_filter, any_of, range_has, found_at}
-use Rattle.markets.specs.Positions.{is_candidate, is_programme, in_order, order_distinct, first_place, at_first}
-use Rattle.markets.specs.Positions.{only_place, position_is}
+use Rattle.markets.proofs.Firsts.{among_before, any_of, range_has, found_at}
+use Rattle.markets.proofs.Positions.{is_candidate, is_programme, in_order, order_distinct, first_place, at_first}
+use Rattle.markets.proofs.Positions.{only_place, position_is}
 use Rattle.markets.proofs.Held.{holders_are_demanded}
 use Rattle.markets.proofs.Stable.{ceiling_is, beyond_reach}
 
@@ -73,7 +74,8 @@ module _ (m : MarketRows) (is : IsMarket m) (places : List (Option ℕ)) (stable
             let j_lt : j < length order = omega (arith, le, i_lt) in
             let y : ℕ = get_or order j 0 in
             let wants : test y ≡ true = passes_at_first test order 0 j_lt in
-            let y_at : position_or_len (nat_eq y) order ≡ j = only_place order j (order_distinct m is p p_lt) j_lt in
+            let y_at : position_or_len (nat_eq y) order ≡ j = only_place order y j (order_distinct m is p p_lt)
+            j_lt refl in
             let apart : j < i =
             elim (cases_lt j i) [
               | inl lt ↦ lt
@@ -90,7 +92,7 @@ module _ (m : MarketRows) (is : IsMarket m) (places : List (Option ℕ)) (stable
             let in_range : is_among x range ≡ true =
             range_has x 0 (length places) (omega arith)
             (omega (arith, is_candidate m is p x on_list, stable.matching.one_place_each)) in
-            among_filter (λ z. is_at p (place_of places z)) x range ∙ rw (in_range, holds) refl) in
+            filter_among (λ z. is_at p (place_of places z)) x range ∙ rw (in_range, holds) refl) in
             let later : list_any (λ z. nat_lt (market_position m p y) (market_position m p z)) (holders places p)
             ≡ true =
             any_of (λ z. nat_lt (market_position m p y) (market_position m p z)) x (holders places p) held earlier in

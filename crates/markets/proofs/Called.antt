@@ -28,13 +28,15 @@ use Rattle.admit_core.specs.declared.ranking.CallOrder.{CallOrder}
 use Rattle.admit_core.proofs.Tests.{among-map}
 use Rattle.proposals.proofs.Calling.{all_called}
 use Rattle.linked_demand.proofs.Seating.{called_once}
+use Rattle.day_state.proofs.Ascending.{range_rises}
+use Rattle.linked_demand.proofs.CalledRows.{among_itself}
+use Rattle.linked_demand.proofs.HousedRows.{filter_among}
 use Rattle.markets.specs.Markets.{MarketRows, IsMarket, IsSmall, is_list_below, is_distinct, lists_it, listers}
 use Rattle.markets.specs.Markets.{market_order}
 use Rattle.markets.specs.Listers.{AreLists, naming}
 use Rattle.markets.specs.Dossiers.{counts, counted, named, own, by_preference, lists_in, called_in, market_of}
-use Rattle.markets.specs.Firsts.{all_of, among_filter, range_has}
-use Rattle.markets.specs.Lawful.{range_rises}
-use Rattle.markets.specs.Positions.{first_place, at_first, only_place, among_at}
+use Rattle.markets.proofs.Firsts.{all_of, range_has}
+use Rattle.markets.proofs.Positions.{first_place, at_first, only_place}
 use Rattle.markets.proofs.InTurn.{in_turn_apart, named_length}
 use Rattle.markets.proofs.Rankers.{is_for, lists_wish, one_counted, is_list_of}
 use Rattle.markets.proofs.BelowCount.{is_distinct_from}
@@ -64,7 +66,8 @@ module _ (ws : List Wish) (p x : ℕ) (names : names_it ws p x ≡ true) where
       sym (ap (is_among p) (get_or-map (λ k. by_preference (own ws k)) (named ws) x 0 [] is_number)) ∙ names
 
   pub their_number : number ws (get_or (named ws) x 0) ≡ x
-  their_number = only_place (named ws) x (in_turn_apart (map (λ w. w.candidate) ws)) is_number
+  their_number = only_place (named ws) (get_or (named ws) x 0) x (in_turn_apart (map (λ w. w.candidate) ws))
+      is_number refl
 
 -- a number that is one of the market's is that of one candidate alone
 named_at : (ws : List Wish) (c : ℕ) → number ws c < length (named ws) → c ≡ get_or (named ws) (number ws c) 0
@@ -113,7 +116,7 @@ numbers_apart ws p (c ∷ cs) apart =
           let others : AllByRecursion (λ y. nat_eq x y ≡ false) later =
           all_differ x later (λ q among. ne_eqb x q (λ same.
           let both = and_parts (is_among q (map (number ws) cs)) (names_it ws p q)
-          (sym (among_filter (names_it ws p) q (map (number ws) cs)) ∙ among) in
+          (sym (filter_among (names_it ws p) q (map (number ws) cs)) ∙ among) in
           let (b, (there, is)) = from_map (number ws) q cs both.0 in
           let x_lt : number ws c < length (named ws) = is_number ws p x names in
           let b_lt : number ws b < length (named ws) = omega (arith, x_lt, same, is) in
@@ -170,7 +173,7 @@ module _ (d : DossierRows) (valid : IsValid d) (orders : List CallOrder) (are : 
       let c : ℕ = get_or call j 0 in
       let one : b ≡ c = named_at ws b lt ∙ ap (λ k. get_or (named ws) k 0) same
       ∙ sym (named_at ws c (omega (arith, lt, same))) in
-      sym (only_place call i apart i_lt) ∙ ap (λ k. position_or_len (nat_eq k) call) one ∙ only_place call j apart j_lt
+      sym (only_place call b i apart i_lt refl) ∙ only_place call b j apart j_lt (sym one)
 
   -- an order is one: it has those who list the programme, and nobody else
   order_is_one : (p : ℕ) → p < length d.programmes
@@ -189,12 +192,12 @@ module _ (d : DossierRows) (valid : IsValid d) (orders : List CallOrder) (are : 
       (called_once d valid orders are p)) in
       let list : list_all (names_it ws p) order ≡ true =
       all_of (names_it ws p) order (λ x among.
-      (and_parts (is_among x numbers) (names_it ws p x) (sym (among_filter (names_it ws p) x numbers) ∙ among)).1) in
+      (and_parts (is_among x numbers) (names_it ws p x) (sym (filter_among (names_it ws p) x numbers) ∙ among)).1) in
       let whole : list_all (λ x. is_among x order) (filter (names_it ws p) range) ≡ true =
       all_of (λ x. is_among x order) (filter (names_it ws p) range) (λ x among.
       let names : names_it ws p x ≡ true =
-      (and_parts (is_among x range) (names_it ws p x) (sym (among_filter (names_it ws p) x range) ∙ among)).1 in
-      among_filter (names_it ws p) x numbers
+      (and_parts (is_among x range) (names_it ws p x) (sym (filter_among (names_it ws p) x range) ∙ among)).1 in
+      filter_among (names_it ws p) x numbers
       ∙ and_from (is_among x numbers) (names_it ws p x) (lister_called p x names) names) in
       rw (once, list, whole) refl
 
@@ -262,7 +265,7 @@ called_by_listers ws p order listers is =
     let test : ℕ → Bool = λ x. is_among p (slice_index_or lists x []) in
     let range : List ℕ = range_with_len 0 (length lists) in
     let same : (x : ℕ) → is_among x listers ≡ test x = λ x.
-    ap (is_among x) is ∙ among_filter test x range ∙ elim (cases_lt x (length lists)) [
+    ap (is_among x) is ∙ filter_among test x range ∙ elim (cases_lt x (length lists)) [
       | inl lt ↦ ap (λ b. b && test x) (range_has x 0 (length lists) (omega arith) (omega (arith, lt)))
       | inr past ↦
           let none : test x ≡ false = ap (is_among p) (get_or_past lists x [] past) in
@@ -320,7 +323,7 @@ found_in xs x r rises is = by r (searched xs x r is up)
         (λ i. (i ≤ length xs) × ((k : ℕ) → k < i → get_or xs k 0 < x)
         × ((k : ℕ) → i ≤ k → k < length xs → x < get_or xs k 0))
         → is_ok s ≡ is_among x xs
-    by (Ok i) (lt, at) = sym (ap (λ y. is_among y xs) (sym at) ∙ among_at xs i lt)
+    by (Ok i) (lt, at) = sym (ap (λ y. is_among y xs) (sym at) ∙ among_itself xs i lt)
     by (Err i) (le, below, above) =
         sym (false_from_ne_true (is_among x xs) (λ t.
         let j : ℕ = position_or_len (nat_eq x) xs in

@@ -17,10 +17,11 @@ use Rattle.admit_core.specs.Proposals.{order_of}
 use Rattle.admit_core.specs.Validity.{IsValid}
 use Rattle.admit_core.specs.declared.dossier.Wish.{Wish}
 use Rattle.admit_core.specs.declared.ranking.CallOrder.{CallOrder}
+use Rattle.linked_demand.proofs.CalledRows.{among_itself}
+use Rattle.linked_demand.proofs.HousedRows.{filter_among}
 use Rattle.markets.specs.Dossiers.{by_preference, counted, lists_in, named, own}
-use Rattle.markets.specs.Firsts.{among_filter, among_range, range_has}
+use Rattle.markets.proofs.Firsts.{among_range, range_has}
 use Rattle.markets.specs.Listers.{naming}
-use Rattle.markets.specs.Positions.{among_at}
 use Rattle.markets.specs.Walks.{AreCalled, IsWalk, numbers_in, order_in}
 use Rattle.markets.specs.declared.calling.Walk.{Walk}
 use Rattle.markets.proofs.Called.{called_apart, lister_called, listers_rise, names_it, number}
@@ -50,7 +51,7 @@ are_called d valid orders are p numbers places listers numbers_are long listers_
     let parts : (x : ℕ) → is_among x listers ≡ true → (x < length (named ws)) × (names_it ws p x ≡ true) =
     λ x t.
     let both = and_parts (is_among x range) (names_it ws p x)
-    (sym (among_filter (names_it ws p) x range) ∙ ap (is_among x) (sym listers_are) ∙ t) in
+    (sym (filter_among (names_it ws p) x range) ∙ ap (is_among x) (sym listers_are) ∙ t) in
     (omega (arith, (among_range x 0 count both.0).1, as_many), both.1) in
     let numbers_long : length numbers ≡ length call = ap length numbers_are ∙ length-map call (number ws) in
     let at : (i : ℕ) → i < length call → get_or numbers i 0 ≡ number ws (get_or call i 0) =
@@ -72,7 +73,7 @@ pub place_within : (n i : ℕ) (ps : List ℕ) → IsPermutation (range_with_len
 place_within n i ps moved lt =
     let p : ℕ = get_or ps i 0 in
     let there : is_among p (range_with_len 0 n) ≡ true =
-    list_any-IsPermutation (nat_eq p) (range_with_len 0 n) ps moved ∙ among_at ps i lt in
+    list_any-IsPermutation (nat_eq p) (range_with_len 0 n) ps moved ∙ among_itself ps i lt in
     omega (arith, (among_range p 0 n there).1)
 
 -- what is done at the places of a list

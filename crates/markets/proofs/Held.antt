@@ -11,12 +11,14 @@ use Rattle.std.proofs.lemmas.Map.Made.{length-from_same_keys}
 use Rattle.admit_core.specs.Lists.{is_among}
 use Rattle.admit_core.proofs.Counting.{distinct_kept}
 use Rattle.admit_core.proofs.FullBeds.{rising_distinct}
+use Rattle.day_state.proofs.Ascending.{range_rises}
+use Rattle.linked_demand.proofs.HousedRows.{filter_among}
 use Rattle.markets.specs.Markets.{MarketRows, IsMarket, market_order, lists_it, candidate_at}
 use Rattle.markets.specs.Matchings.{place_of, is_at, holders}
 use Rattle.markets.specs.Bars.{is_within, best_within, demanded, matched_under}
-use Rattle.markets.specs.Firsts.{among_filter, range_has, at_place}
-use Rattle.markets.specs.Positions.{order_distinct, is_candidate, in_order}
-use Rattle.markets.specs.Lawful.{range_rises, best_is_listed}
+use Rattle.markets.proofs.Firsts.{range_has, at_place}
+use Rattle.markets.proofs.Positions.{order_distinct, is_candidate, in_order}
+use Rattle.markets.proofs.Lawful.{best_is_listed}
 
 -- nobody past the end of the lists has a programme within reach
 pub past_lists : (m : MarketRows) (bars : List ℕ) (x : ℕ) → length m.lists ≤ x → best_within m bars x ≡ None
@@ -76,12 +78,12 @@ holders_are_demanded m is bars places each are p lt =
           let in_range : is_among x range ≡ true = range_has x 0 (length places) (omega arith)
           (omega (arith, is_candidate m is p x (listed x t), each)) in
           let in_it : is_among x order ≡ true = in_order m is p x (listed x t) in
-          among_filter holds x range ∙ rw (held, in_range) (sym (among_filter chosen x order ∙ rw (t, in_it) refl))
+          filter_among holds x range ∙ rw (held, in_range) (sym (filter_among chosen x order ∙ rw (t, in_it) refl))
       | inr f ↦
           let held : holds x ≡ false = ap (is_at p) (are x) ∙ f in
-          among_filter holds x range ∙ ap (λ b. is_among x range && b) held
+          filter_among holds x range ∙ ap (λ b. is_among x range && b) held
           ∙ none_and (is_among x range) (is_among x order)
-          ∙ ap (λ b. is_among x order && b) (sym f) ∙ sym (among_filter chosen x order)
+          ∙ ap (λ b. is_among x order && b) (sym f) ∙ sym (filter_among chosen x order)
     ] in
     length-from_same_keys nat_eq_equiv (filter holds range) (filter chosen order)
     (distinct_kept holds range (rising_distinct range (range_rises 0 (length places))))

@@ -1,4 +1,5 @@
 -- Reading order. Each file says in its first line what it shows.
+-- Lists of numbers, orders and positions: Firsts, Positions. A market is lawful: Lawful.
 -- A market is read: BelowCount, Reading, Listing, Stamping, Ordering, Meeting
 -- (where the rows stand).
 -- A market as a falling system: Held, Rounds, Filled; how it is solved: Seated, Led, Noting, Tied.
@@ -13,8 +14,10 @@ pub mod Calls
 pub mod Choosing
 pub mod Existing
 pub mod Filled
+pub mod Firsts
 pub mod Held
 pub mod InTurn
+pub mod Lawful
 pub mod Led
 pub mod Listing
 pub mod Meeting
@@ -22,6 +25,7 @@ pub mod Noting
 pub mod OneMore
 pub mod Ordering
 pub mod Owning
+pub mod Positions
 pub mod Rankers
 pub mod Ranking
 pub mod Reading

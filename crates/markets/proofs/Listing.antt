@@ -11,9 +11,9 @@ use Rattle.std.proofs.lemmas.List.Folds.{list_any-append}
 use Rattle.std.proofs.lemmas.List.FromFn.{filter_of_map_range_with_len_more}
 use Rattle.std.proofs.lemmas.Option.{slice_get_within, slice_get_read}
 use Rattle.admit_core.specs.Lists.{is_among}
+use Rattle.linked_demand.proofs.CalledRows.{among_itself}
 use Rattle.markets.specs.Markets.{is_list_below}
 use Rattle.markets.specs.Listers.{AreListers, ArePutIn, naming}
-use Rattle.markets.specs.Positions.{among_at}
 use Rattle.markets.proofs.BelowCount.{list_below, not_before, last_differs}
 use Rattle.admit_core.proofs.Plain.{get_set_here, get_set_other, get_push}
 
@@ -52,7 +52,7 @@ pub put_more : {A : Type 0} (item : ℕ → A) (xs : List ℕ) (k : ℕ) (old ro
     → ArePutIn (λ p. is_among p (take (k + 1) xs)) item old (set rows (get_or xs k 0) after)
 put_more {A} item xs k old rows before after is_list lt read pushed are =
     let g : ℕ = get_or xs k 0 in
-    let g_lt : g < length rows = omega (arith, list_below (length old) xs g is_list (among_at xs k lt), are.as_many) in
+    let g_lt : g < length rows = omega (arith, list_below (length old) xs g is_list (among_itself xs k lt), are.as_many) in
     let front : List ℕ = take k xs in
     let absent : is_among g front ≡ false = not_before (length old) xs k is_list lt in
     let grown : (p : ℕ) → is_among p (take (k + 1) xs) ≡ (is_among p front || (nat_eq p g || false)) =

@@ -23,13 +23,15 @@ use Rattle.admit_core.proofs.FullBeds.{rising_distinct}
 use Rattle.admit_core.proofs.Plain.{and_assoc, and_true, same_test}
 use Rattle.admit_core.proofs.Tests.{Ascends, same_members}
 use Rattle.linked_demand.proofs.PlaceOrder.{ascends-filter, ascends-range}
-use Rattle.markets.specs.Firsts.{among_filter, range_has, one_of_all, all_of}
+use Rattle.linked_demand.proofs.CalledRows.{among_itself}
+use Rattle.linked_demand.proofs.HousedRows.{filter_among}
+use Rattle.markets.proofs.Firsts.{range_has, one_of_all, all_of}
 use Rattle.markets.specs.Listers.{naming}
 use Rattle.markets.specs.Markets.{MarketRows, market_order, lists_it, listers, is_distinct, is_list_below, is_order}
 use Rattle.markets.specs.Markets.{first_bad_order}
 use Rattle.markets.specs.Matchings.{is_at}
 use Rattle.markets.specs.Meeting.{AreInOrder, AreMet, Meets, begins_with, is_met, met, met_more}
-use Rattle.markets.specs.Positions.{distinct_from, among_at}
+use Rattle.markets.proofs.Positions.{distinct_from}
 use Rattle.markets.proofs.BelowCount.{is_distinct_from, list_below, not_before, last_differs}
 use Rattle.markets.proofs.Called.{listers_rise}
 use Rattle.markets.proofs.Listing.{naming_more}
@@ -128,7 +130,7 @@ module _ (m : MarketRows) (p : ℕ) (sorted : List ℕ) (moved : IsPermutation (
 
   among_listers : (x : ℕ) → is_among x (listers m p)
       ≡ (is_among x (range_with_len 0 (length m.lists)) && lists_it m p x)
-  among_listers x = among_filter (lists_it m p) x (range_with_len 0 (length m.lists))
+  among_listers x = filter_among (lists_it m p) x (range_with_len 0 (length m.lists))
 
   lister : (x : ℕ) → lists_it m p x ≡ true → is_among x (listers m p) ≡ true
   lister x t =
@@ -303,7 +305,7 @@ pub note_was : (orders : List (List ℕ)) (x : ℕ) (xs : List ℕ) (k : ℕ) (o
     → slice_index notes (get_or xs k 0) ≡ slice_index old (get_or xs k 0)
 note_was orders x xs k old notes is_list lt so =
     let g : ℕ = get_or xs k 0 in
-    let g_lt : g < length old = list_below (length old) xs g is_list (among_at xs k lt) in
+    let g_lt : g < length old = list_below (length old) xs g is_list (among_itself xs k lt) in
     so.each g g_lt
     ∙ ap (λ b. cond b (met_more (get_or orders g []) (slice_index old g) x) (slice_index old g))
     (not_before (length old) xs k is_list lt)
@@ -316,7 +318,7 @@ pub meets_more : (orders : List (List ℕ)) (x : ℕ) (xs : List ℕ) (k : ℕ) 
     → Meets orders x (take (k + 1) xs) old (set notes (get_or xs k 0) n)
 meets_more orders x xs k old notes order n is_list lt order_is n_is so =
     let g : ℕ = get_or xs k 0 in
-    let g_lt : g < length old = list_below (length old) xs g is_list (among_at xs k lt) in
+    let g_lt : g < length old = list_below (length old) xs g is_list (among_itself xs k lt) in
     let front : List ℕ = take k xs in
     let grown : (p : ℕ) → is_among p (take (k + 1) xs) ≡ (is_among p front || (nat_eq p g || false)) =
     λ p. ap (is_among p) (take_more xs k 0 lt) ∙ list_any-append (nat_eq p) front (g ∷ []) in

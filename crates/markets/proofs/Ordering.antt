@@ -4,8 +4,8 @@ use Rattle.std.proofs.Common.{length, replicate, get_or, inl, inr, refl, sym, �
 use Rattle.std.proofs.Common.{Vec}
 use Rattle.std.specs.Prelude.{◌==◌, Option, Some, None, find, position, slice_index, All}
 use Rattle.std.specs.List.{list_all, position_or_len, range_with_len, IsDistinct, AllByRecursion}
-use Rattle.std.proofs.lemmas.Bool.{cases_Bool, cases_eq, cases_lt, and_parts, or_parts, and_from, or_cases, or_left}
-use Rattle.std.proofs.lemmas.Bool.{or_right, eqb-true, eq-eqb, lt-ltb, false≢true, false_from_ne_true, not-false}
+use Rattle.std.proofs.lemmas.Bool.{cases_Bool, cases_eq, cases_lt, and_parts, or_parts, and_from, or_cases}
+use Rattle.std.proofs.lemmas.Bool.{eqb-true, eq-eqb, lt-ltb, false≢true, false_from_ne_true, not-false}
 use Rattle.std.proofs.lemmas.Cmp.{nat_eq_equiv}
 use Rattle.std.proofs.lemmas.List.{get_or_past, length-replicate}
 use Rattle.std.proofs.lemmas.List.Folds.{list_any_at}
@@ -16,26 +16,20 @@ use Rattle.std.proofs.lemmas.Map.Made.{length-le_from_is_member, length-from_sam
 use Rattle.admit_core.specs.Lists.{is_among}
 use Rattle.admit_core.proofs.Counting.{distinct_kept}
 use Rattle.admit_core.proofs.FullBeds.{rising_distinct}
+use Rattle.day_state.proofs.Ascending.{range_rises}
+use Rattle.linked_demand.proofs.HousedRows.{filter_among}
 use Rattle.markets.specs.Markets.{MarketRows, IsMarket, market_order, lists_it, listers, is_list_below, is_order}
 use Rattle.markets.specs.Markets.{is_distinct, first_bad_list, first_bad_order}
 use Rattle.markets.specs.Listers.{AreLists, AreListers}
 use Rattle.markets.specs.Rows.{has_all_of}
 use Rattle.markets.specs.Stamps.{AreUpTo, BearStamp}
-use Rattle.markets.specs.Firsts.{among_filter, among_range, range_has, one_of_all, any_of}
-use Rattle.markets.specs.Positions.{distinct_from}
-use Rattle.markets.specs.Lawful.{range_rises}
+use Rattle.markets.proofs.Firsts.{all_of, among_range, range_has, one_of_all, any_of}
+use Rattle.markets.proofs.Positions.{distinct_from}
 use Rattle.markets.proofs.Reading.{list_read}
 use Rattle.markets.proofs.Listing.{row_is}
 use Rattle.markets.proofs.Stamping.{none_newer}
 use Rattle.std.specs.declared.alloc.Global.{Global}
 use Rattle.admit_core.proofs.Plain.{same_test}
-
--- all pass where each does
-pub all_pass : (t : ℕ → Bool) (xs : List ℕ) → ((q : ℕ) → is_among q xs ≡ true → t q ≡ true) → list_all t xs ≡ true
-all_pass t [] h = refl
-all_pass t (x ∷ xs) h =
-    and_from (t x) (list_all t xs) (h x (or_left (nat_eq x x) (is_among x xs) (eq-eqb x x refl)))
-    (all_pass t xs (λ q among. h q (or_right (nat_eq q x) (is_among q xs) among)))
 
 -- who bears the stamp stands in the list
 pub stamped_same : (stamp : ℕ) (ns stamps xs : List ℕ) → BearStamp stamp ns stamps
@@ -43,9 +37,9 @@ pub stamped_same : (stamp : ℕ) (ns stamps xs : List ℕ) → BearStamp stamp n
     → list_all (λ n. nat_eq (slice_index stamps n) stamp) xs ≡ list_all (λ x. is_among x ns) xs
 stamped_same stamp ns stamps xs bear within =
     same_test (list_all (λ n. nat_eq (slice_index stamps n) stamp) xs) (list_all (λ x. is_among x ns) xs)
-    (λ t. all_pass (λ x. is_among x ns) xs
+    (λ t. all_of (λ x. is_among x ns) xs
     (λ q among. sym (bear q (within q among)) ∙ one_of_all (λ n. nat_eq (slice_index stamps n) stamp) q xs t among))
-    (λ t. all_pass (λ n. nat_eq (slice_index stamps n) stamp) xs
+    (λ t. all_of (λ n. nat_eq (slice_index stamps n) stamp) xs
     (λ q among. bear q (within q among) ∙ one_of_all (λ x. is_among x ns) q xs t among))
 
 -- what is not among a list differs from each of it
@@ -93,13 +87,13 @@ order_is m p lt =
     let apart : IsDistinct nat_eq names = distinct_kept (lists_it m p) range
     (rising_distinct range (range_rises 0 n)) in
     let lister : (x : ℕ) → is_among x names ≡ true → (x < n) × (lists_it m p x ≡ true) =
-    λ x t. (let both = and_parts (is_among x range) (lists_it m p x) (sym (among_filter (lists_it m p) x range) ∙ t) in
+    λ x t. (let both = and_parts (is_among x range) (lists_it m p x) (sym (filter_among (lists_it m p) x range) ∙ t) in
     let within = among_range x 0 n both.0 in
     (omega (arith, within.1), both.1)) in
     let is_lister : (x : ℕ) → lists_it m p x ≡ true → is_among x names ≡ true =
     λ x t. (let within : is_among x range ≡ true =
     range_has x 0 n (omega arith) (omega (arith, lister_within m p x t)) in
-    among_filter (lists_it m p) x range ∙ rw (within, t) refl) in
+    filter_among (lists_it m p) x range ∙ rw (within, t) refl) in
     same_test (has_all_of n names order) (is_order m p)
     (λ t.
     let first = and_parts (is_list_below n order && (length order == length names))
@@ -110,7 +104,7 @@ order_is m p lt =
     → is_among x order ≡ true = λ x among. one_of_all (λ y. is_among y order) x names first.1 among in
     let long : length order ≡ length names = eqb-true (length order) (length names) second.1 in
     let only : list_all (lists_it m p) order ≡ true =
-    all_pass (lists_it m p) order (λ x among. (lister x (no_other names order x apart long inside among)).1) in
+    all_of (lists_it m p) order (λ x among. (lister x (no_other names order x apart long inside among)).1) in
     and_from (is_distinct order && list_all (lists_it m p) order) (list_all (λ x. is_among x order) names)
     (and_from (is_distinct order) (list_all (lists_it m p) order) third.0 only) first.1)
     (λ t.
@@ -121,7 +115,7 @@ order_is m p lt =
     → is_among x names ≡ true = λ x among. is_lister x (one_of_all (lists_it m p) x order second.1 among) in
     let inside : (x : ℕ) → is_among x names ≡ true
     → is_among x order ≡ true = λ x among. one_of_all (λ y. is_among y order) x names first.1 among in
-    let below : list_all (λ x. nat_lt x n) order ≡ true = all_pass (λ x. nat_lt x n) order
+    let below : list_all (λ x. nat_lt x n) order ≡ true = all_of (λ x. nat_lt x n) order
     (λ x among. lt-ltb x n (lister x (outside x among)).0) in
     let long : length order ≡ length names =
     length-from_same_keys nat_eq_equiv order names (distinct_from order second.0) apart
@@ -214,7 +208,7 @@ listers_within m p k d lt =
     let x : ℕ = get_or (listers m p) k d in
     let among : is_among x (listers m p) ≡ true = list_any_at (nat_eq x) (listers m p) k d lt (eq-eqb x x refl) in
     let within = among_range x 0 (length m.lists)
-    (and_parts (is_among x range) (lists_it m p x) (sym (among_filter (lists_it m p) x range) ∙ among)).0 in
+    (and_parts (is_among x range) (lists_it m p x) (sym (filter_among (lists_it m p) x range) ∙ among)).0 in
     omega (arith, within.1)
 
 -- the row and the order of a programme, as they are read

@@ -20,7 +20,7 @@ use Rattle.admit_core.proofs.Tests.{among-map_filter}
 use Rattle.admit_core.proofs.SortedLists.{IsPermutation-sorted_by, IsDistinct-sorted_by}
 use Rattle.admit_core.proofs.Plain.{any-map}
 use Rattle.markets.specs.Markets.{is_list_below}
-use Rattle.markets.specs.Firsts.{all_of}
+use Rattle.markets.proofs.Firsts.{all_of}
 use Rattle.markets.specs.Dossiers.{counts, counted, named, own, by_preference}
 use Rattle.markets.proofs.InTurn.{in_turn_has}
 use Rattle.markets.proofs.BelowCount.{is_distinct_from}

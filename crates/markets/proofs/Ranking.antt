@@ -16,13 +16,14 @@ use Rattle.std.proofs.lemmas.List.Folds.{list_any_at}
 use Rattle.std.proofs.lemmas.List.Kept.{AllPairs-from_increasing}
 use Rattle.std.proofs.lemmas.List.Sums.{position_or_len_is}
 use Rattle.admit_core.specs.Lists.{is_among}
+use Rattle.linked_demand.proofs.HousedRows.{filter_among}
 use Rattle.markets.specs.Markets.{MarketRows, IsMarket, market_order, is_distinct, market_position}
 use Rattle.linked_demand.specs.Keyed.{AreEmpty}
 use Rattle.markets.specs.Listers.{AreLists, ArePutIn, naming}
 use Rattle.markets.specs.Ranked.{AreRanked, position_in, rank_at, rank_in}
 use Rattle.markets.specs.declared.ranked.Rank.{Rank}
-use Rattle.markets.specs.Firsts.{all_of, among_filter, range_has}
-use Rattle.markets.specs.Positions.{length_before, only_place, order_distinct, order_lists, is_candidate, position_is}
+use Rattle.markets.proofs.Firsts.{all_of, range_has}
+use Rattle.markets.proofs.Positions.{length_before, only_place, order_distinct, order_lists, is_candidate, position_is}
 use Rattle.markets.proofs.Called.{listers_rise}
 use Rattle.markets.proofs.Listing.{naming_more}
 use Rattle.markets.proofs.BelowCount.{is_distinct_from}
@@ -30,7 +31,8 @@ use Rattle.markets.proofs.BelowCount.{is_distinct_from}
 -- one at a place of a list of numbers that differ stands at the position after it
 pub own_position : (xs : List ℕ) (k : ℕ) → IsDistinct nat_eq xs → k < length xs
     → k + 1 ≡ length (before_first (nat_eq (get_or xs k 0)) xs) + 1
-own_position xs k apart lt = omega (arith, length_before (nat_eq (get_or xs k 0)) xs, only_place xs k apart lt)
+own_position xs k apart lt =
+    omega (arith, length_before (nat_eq (get_or xs k 0)) xs, only_place xs (get_or xs k 0) k apart lt refl)
 
 -- no ranks yet
 pub ranks_none : (m : MarketRows) (n : ℕ) (rows : List (Vec Rank Global)) → n ≡ length m.lists → AreEmpty n rows
@@ -127,7 +129,7 @@ ranked_none m x p own p_lt are is =
     let some : Some (market_position m p x) ≡ None = rw among at found in
     false≢true (sym (ap is_some some))) in
     past_end m p x (sym (ap (λ b. b && test p) (range_has p 0 (length m.orders) (omega arith) (omega (arith, p_lt))))
-    ∙ sym (among_filter test p range) ∙ absent)
+    ∙ sym (filter_among test p range) ∙ absent)
 
 -- one's ranks rise by programme
 pub ranks_rise : (m : MarketRows) (x : ℕ) (own : List Rank)

@@ -11,8 +11,8 @@ use Rattle.std.proofs.lemmas.List.FromFn.{length-range_with_len}
 use Rattle.std.proofs.lemmas.Map.Made.{length-le_from_is_member}
 use Rattle.admit_core.specs.Lists.{is_among}
 use Rattle.markets.specs.Markets.{MarketRows, IsMarket, list_of, market_order, is_distinct, is_list_below}
-use Rattle.markets.specs.Firsts.{one_of_all, range_has}
-use Rattle.markets.specs.Positions.{distinct_from, is_candidate, order_lists, order_distinct}
+use Rattle.markets.proofs.Firsts.{one_of_all, range_has}
+use Rattle.markets.proofs.Positions.{distinct_from, is_candidate, order_lists, order_distinct}
 
 -- one at a place of a list, whatever stands for a place past the end
 pub among_place : (xs : List ℕ) (k d : ℕ) → k < length xs → is_among (get_or xs k d) xs ≡ true

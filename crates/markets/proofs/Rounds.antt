@@ -16,11 +16,11 @@ use Rattle.linked_demand.proofs.Answered.{filter_agree}
 use Rattle.markets.specs.Markets.{MarketRows, IsMarket, list_of, market_order, candidate_at}
 use Rattle.markets.specs.Matchings.{place_of, is_at}
 use Rattle.markets.specs.Bars.{is_within, best_within, demanded, market_system, place_code}
-use Rattle.markets.specs.Firsts.{at_place}
+use Rattle.markets.proofs.Firsts.{at_place}
 use Rattle.markets.specs.Fillings.{Fill, is_over, overfilled}
 use Rattle.markets.specs.Rounds.{IsRound, is_held, held_to}
-use Rattle.markets.specs.Positions.{order_distinct, position_at}
-use Rattle.markets.specs.Lawful.{best_is_within}
+use Rattle.markets.proofs.Positions.{order_distinct, position_at}
+use Rattle.markets.proofs.Lawful.{best_is_within}
 use Rattle.markets.proofs.Held.{holders_are_demanded}
 
 -- what a walk along a list finds

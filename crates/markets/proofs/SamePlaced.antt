@@ -13,13 +13,15 @@ use Rattle.admit_core.specs.Lists.{is_among}
 use Rattle.admit_core.proofs.Counting.{distinct_kept}
 use Rattle.admit_core.proofs.FullBeds.{rising_distinct}
 use Rattle.admit_core.proofs.Tests.{Implies, filter_implied}
+use Rattle.day_state.proofs.Ascending.{range_rises}
+use Rattle.linked_demand.proofs.HousedRows.{filter_among}
 use Rattle.markets.specs.Markets.{MarketRows, IsMarket, list_of, lists_it}
 use Rattle.markets.specs.Matchings.{place_of, is_at, holders, prefers, would_take, IsStable, IsBestForAll}
 use Rattle.markets.specs.Placed.{HaveSamePlaced}
-use Rattle.markets.specs.Firsts.{among_filter, range_has, at_place, before_no}
-use Rattle.markets.specs.Positions.{is_candidate, is_programme}
+use Rattle.markets.proofs.Firsts.{range_has, at_place, before_no}
+use Rattle.markets.proofs.Positions.{is_candidate, is_programme}
 use Rattle.markets.specs.Bars.{market_system, matched_under}
-use Rattle.markets.specs.Lawful.{range_rises, market_is_lawful}
+use Rattle.markets.proofs.Lawful.{market_is_lawful}
 use Rattle.markets.specs.Laws.{GreatestBarsPlaceTheSame, ThereIsABest, TheSameHavePlaces}
 use Rattle.markets.proofs.Best.{greatest_is_best}
 use Rattle.markets.proofs.Existing.{greatest_exists}
@@ -222,7 +224,7 @@ module _ (m : MarketRows) (is : IsMarket m) (best : List (Option ℕ)) (stable :
             (distinct_kept (at best) (range_of best) (rising_distinct (range_of best) (range_rises 0 (length best))))
             (λ x among.
             let both = and_parts (is_among x (range_of best)) (at best x)
-            (sym (among_filter (at best) x (range_of best)) ∙ among) in
+            (sym (filter_among (at best) x (range_of best)) ∙ among) in
             let here : place_of best x ≡ Some p = at_place p (place_of best x) both.1 in
             let on_list : lists_it m p x ≡ true = stable.matching.listed x p here in
             elim (cases_Bool (at other x)) [
@@ -232,7 +234,7 @@ module _ (m : MarketRows) (is : IsMarket m) (best : List (Option ℕ)) (stable :
                     is_candidate m is p x on_list,
                     other_stable.matching.one_place_each,
                   ) in
-                  among_filter (at other) x (range_of other)
+                  filter_among (at other) x (range_of other)
                   ∙ rw (range_has x 0 (length other) (omega arith) (omega (arith, x_lt)), holds) refl
               | inr apart ↦
                   elim (cases_Bool (prefers m other x p)) [

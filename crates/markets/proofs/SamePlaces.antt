@@ -4,7 +4,7 @@ use Rattle.admit_core.proofs.FallsLaw.{run_is_greatest}
 use Rattle.bar_fixpoint.proofs.RunLaws.{unique_greatest}
 use Rattle.markets.specs.Bars.{market_system, matched_under}
 use Rattle.markets.specs.Laws.{TheSameWhicheverFallsFirst}
-use Rattle.markets.specs.Lawful.{market_is_lawful}
+use Rattle.markets.proofs.Lawful.{market_is_lawful}
 
 pub same_places : TheSameWhicheverFallsFirst
 same_places = λ m falls others is run other_run.

@@ -12,9 +12,9 @@ use Rattle.std.proofs.lemmas.Option.{slice_get-get_or, slice_get_past, slice_get
 use Rattle.markets.specs.Markets.{MarketRows, IsMarket, list_of, market_order, market_position, candidate_at}
 use Rattle.markets.specs.Matchings.{place_of, is_at}
 use Rattle.markets.specs.Bars.{is_within, best_within, matched_under}
-use Rattle.markets.specs.Firsts.{at_place}
-use Rattle.markets.specs.Positions.{order_distinct, position_at, position_is}
-use Rattle.markets.specs.Lawful.{best_is_within}
+use Rattle.markets.proofs.Firsts.{at_place}
+use Rattle.markets.proofs.Positions.{order_distinct, position_at, position_is}
+use Rattle.markets.proofs.Lawful.{best_is_within, positions_kept}
 use Rattle.markets.specs.Standing.{AreBeyond, IsStand, AreStands}
 use Rattle.markets.specs.Fillings.{Fill}
 use Rattle.markets.specs.Rounds.{AreCounts, IsRound}
@@ -252,6 +252,7 @@ module _ (m : MarketRows) (bars stands : List ℕ) (places : List (Option ℕ)) 
       ] in
       record {
         valid = round.valid;
+        positions = round.positions;
         seated = record {
           one_bar_each = low_each;
           under = low_under;
@@ -301,6 +302,7 @@ module _ (m : MarketRows) (bars stands : List ℕ) (places : List (Option ℕ)) 
       ] in
       record {
         valid = round.valid;
+        positions = round.positions;
         seated = record {
           one_bar_each = low_each;
           under = low_under;
@@ -427,6 +429,7 @@ module _ {m : MarketRows} (is : IsMarket m) {bars : List ℕ} (each : length bar
       let Q : ℕ → List (Option ℕ) → Type 0 = λ n ps. AreCounts n ps counts in
       subst P (sym f_is) (record {
         valid = is;
+        positions = positions_kept m is;
         seated = record {
           one_bar_each = each;
           under = under;

@@ -9,12 +9,13 @@ use Rattle.std.proofs.lemmas.List.FromFn.{length-map-range_with_len}
 use Rattle.admit_core.specs.Lists.{is_among}
 use Rattle.admit_core.specs.Falls.{IsGreatest}
 use Rattle.admit_core.proofs.FullBeds.{full_below}
+use Rattle.linked_demand.proofs.HousedRows.{filter_among}
 use Rattle.markets.specs.Markets.{MarketRows, IsMarket, list_of, market_order, lists_it, market_position}
 use Rattle.markets.specs.Matchings.{place_of, is_at, holders, prefers, IsStable}
 use Rattle.markets.specs.Bars.{is_within, best_within, demanded, matched_under, market_system}
-use Rattle.markets.specs.Firsts.{among_before, among_filter, fails_before, none_of, at_place}
-use Rattle.markets.specs.Positions.{is_programme, in_order, first_place, position_is}
-use Rattle.markets.specs.Lawful.{best_is_listed, best_is_within, market_is_lawful}
+use Rattle.markets.proofs.Firsts.{among_before, fails_before, none_of, at_place}
+use Rattle.markets.proofs.Positions.{is_programme, in_order, first_place, position_is}
+use Rattle.markets.proofs.Lawful.{best_is_listed, best_is_within, market_is_lawful}
 use Rattle.markets.proofs.Held.{place_under, holders_are_demanded}
 
 -- the ceiling of a programme
@@ -36,7 +37,7 @@ holder_within m bars p y t =
     let places : List (Option ℕ) = matched_under m bars in
     let holds : ℕ → Bool = λ x. is_at p (place_of places x) in
     let range : List ℕ = range_with_len 0 (length places) in
-    let both = and_parts (is_among y range) (holds y) (sym (among_filter holds y range) ∙ t) in
+    let both = and_parts (is_among y range) (holds y) (sym (filter_among holds y range) ∙ t) in
     best_is_within m bars y p (sym (place_under m bars y) ∙ at_place p (place_of places y) both.1)
 
 -- the position of one who lists a programme is at most its ceiling

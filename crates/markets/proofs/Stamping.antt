@@ -14,9 +14,10 @@ use Rattle.std.proofs.lemmas.Grind.{get_or-set_at}
 use Rattle.std.proofs.lemmas.Map.Keys.{IsDistinct-push, apart_from_distinct}
 use Rattle.admit_core.specs.Lists.{is_among}
 use Rattle.admit_core.proofs.FallsLaw.{at_set}
+use Rattle.linked_demand.proofs.CalledRows.{among_itself}
 use Rattle.markets.specs.Markets.{is_distinct, is_list_below}
 use Rattle.markets.specs.Stamps.{AreOlder, AreUpTo, BearStamp}
-use Rattle.markets.specs.Positions.{distinct_from, among_at}
+use Rattle.markets.proofs.Positions.{distinct_from}
 use Rattle.markets.proofs.Reading.{list_read}
 use Rattle.markets.proofs.BelowCount.{last_differs, earlier, list_below, list_distinct, is_distinct_from}
 
@@ -78,7 +79,7 @@ stamped_more n stamp xs stamps k lt below fresh so =
 -- a number out of range, or one that bears the stamp already, shows that it is no list
 pub out_of_range : (n : ℕ) (xs : List ℕ) (k : ℕ) → k < length xs → n ≤ get_or xs k 0 → is_list_below n xs ≡ false
 out_of_range n xs k lt past = false_from_ne_true (is_list_below n xs)
-    (λ t. omega (arith, past, list_below n xs (get_or xs k 0) t (among_at xs k lt)))
+    (λ t. omega (arith, past, list_below n xs (get_or xs k 0) t (among_itself xs k lt)))
 
 pub stands_twice : (n stamp : ℕ) (xs stamps : List ℕ) (k : ℕ) → k < length xs → get_or xs k 0 < n
     → slice_index stamps (get_or xs k 0) ≡ stamp

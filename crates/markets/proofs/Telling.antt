@@ -11,7 +11,7 @@ use Rattle.admit_core.specs.declared.ranking.CallOrder.{CallOrder}
 use Rattle.markets.specs.Bars.{market_system}
 use Rattle.markets.specs.Dossiers.{market_of}
 use Rattle.markets.specs.Matchings.{IsStable}
-use Rattle.markets.specs.Positions.{is_programme}
+use Rattle.markets.proofs.Positions.{is_programme}
 use Rattle.markets.proofs.Called.{market_stands, orders_long}
 
 module _ (d : DossierRows) (valid : IsValid d) (orders : List CallOrder) (are : AreCallOrders d.groups orders) where

@@ -8,8 +8,8 @@ use Rattle.markets.specs.Markets.{MarketRows, IsSmall}
 use Rattle.markets.specs.Matchings.{place_of}
 use Rattle.markets.specs.Bars.{best_within}
 use Rattle.markets.specs.Fillings.{Fill, counted_in}
-use Rattle.markets.specs.Lawful.{best_is_listed}
-use Rattle.markets.specs.Positions.{is_programme}
+use Rattle.markets.proofs.Lawful.{best_is_listed}
+use Rattle.markets.proofs.Positions.{is_programme}
 use Rattle.markets.specs.Rounds.{AreCounts, IsRound}
 use Rattle.markets.specs.Seatings.{AreTied}
 use Rattle.markets.proofs.Noting.{counts_put}

@@ -19,9 +19,10 @@ use Rattle.admit_core.specs.Lists.{is_among}
 use Rattle.admit_core.specs.declared.ranking.CallOrder.{CallOrder}
 use Rattle.admit_core.proofs.Plain.{nat_eq_sym, same_test}
 use Rattle.admit_core.proofs.Tests.{Ascends, among-map, same_members}
-use Rattle.markets.specs.Firsts.{among_filter, among_range, range_has}
-use Rattle.markets.specs.Lawful.{range_rises}
-use Rattle.markets.specs.Positions.{among_at}
+use Rattle.day_state.proofs.Ascending.{range_rises}
+use Rattle.linked_demand.proofs.CalledRows.{among_itself}
+use Rattle.linked_demand.proofs.HousedRows.{filter_among}
+use Rattle.markets.proofs.Firsts.{among_range, range_has}
 use Rattle.markets.specs.Walks.{AreCalled, AreNoted, IsWalk}
 use Rattle.markets.specs.declared.calling.Walk.{Walk}
 use Rattle.markets.proofs.Called.{from_map}
@@ -136,8 +137,8 @@ module _ (numbers places listers : List ℕ) (noted : AreNoted numbers places)
       let x : ℕ = get_or listers i 0 in
       let y : ℕ = get_or listers j 0 in
       let keys : key x ≡ key y = sym (get_or-map key listers i 0 e i_in) ∙ same ∙ get_or-map key listers j 0 e j_in in
-      let one : x ≡ y = sym (at x (among_at listers i i_in)).1 ∙ ap (λ (k : ℕ). get_or numbers k 0) keys
-      ∙ (at y (among_at listers j j_in)).1 in
+      let one : x ≡ y = sym (at x (among_itself listers i i_in)).1 ∙ ap (λ (k : ℕ). get_or numbers k 0) keys
+      ∙ (at y (among_itself listers j j_in)).1 in
       let below : x < y = AllPairs-from_increasing listers are.rises i j 0 i_lt j_in in
       omega (arith, one, below))
 
@@ -152,11 +153,11 @@ module _ (numbers places listers : List ℕ) (noted : AreNoted numbers places)
       let there = at x among in
       let q_lt : q < n = omega (arith, is, there.0) in
       let same : get_or numbers q 0 ≡ x = ap (λ (k : ℕ). get_or numbers k 0) is ∙ there.1 in
-      among_filter passes q range
+      filter_among passes q range
       ∙ and_from (is_among q range) (passes q) (range_has q 0 n (omega arith) (omega (arith, q_lt)))
       (ap (λ (k : ℕ). is_among k listers) same ∙ among))
       (λ t.
-      let both = and_parts (is_among q range) (passes q) (sym (among_filter passes q range) ∙ t) in
+      let both = and_parts (is_among q range) (passes q) (sym (filter_among passes q range) ∙ t) in
       let within = among_range q 0 n both.0 in
       let x : ℕ = get_or numbers q 0 in
       let there = at x both.1 in

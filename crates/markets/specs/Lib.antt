@@ -3,15 +3,13 @@ pub mod Choices
 pub mod Dossiers
 pub mod Faults
 pub mod Fillings
-pub mod Firsts
-pub mod Lawful
+pub mod KeptPositions
 pub mod Laws
 pub mod Listers
 pub mod Markets
 pub mod Matchings
 pub mod Meeting
 pub mod Placed
-pub mod Positions
 pub mod Ranked
 pub mod Rounds
 pub mod Rows

@@ -3,11 +3,9 @@ use Rattle.std.specs.Prelude.{◌≡◌, ℕ, ◌<◌, Bool, List, length, map, 
 use Rattle.std.specs.List.{range_with_len}
 use Rattle.std.proofs.Common.{sym, ◌∙◌}
 use Rattle.std.proofs.lemmas.List.{length-map}
-use Rattle.admit_core.specs.Falls.{IsLawful}
 use Rattle.markets.specs.Markets.{MarketRows, IsMarket, candidate_at}
 use Rattle.markets.specs.Matchings.{holders, is_at, place_of}
-use Rattle.markets.specs.Bars.{market_system}
-use Rattle.markets.specs.Lawful.{market_is_lawful}
+use Rattle.markets.specs.KeptPositions.{KeepsPositions}
 use Rattle.markets.specs.Standing.{AreSeated}
 use Rattle.markets.specs.Fillings.{Fill}
 
@@ -24,16 +22,15 @@ pub record AreCounts (n : ℕ) (places : List (Option ℕ)) (counts : List ℕ) 
   pub one_each : length counts ≡ n
   pub each : (p : ℕ) → p < n → slice_index counts p ≡ length (holders places p)
 
--- what a round keeps of a market
+-- what a round keeps of a market. What its positions keep follows from its rows, and stands here
+-- since the `impl` of a system can cite no proof of its own crate
 pub record IsRound (m : MarketRows) (bars stands : List ℕ) (places : List (Option ℕ))
     (f : Fill) : Type 0 where
   pub valid : IsMarket m
+  pub positions : KeepsPositions m
   pub seated : AreSeated m bars stands places
   pub seats : f.seats ≡ m.seats
   pub counts : AreCounts (length m.orders) places f.counts
-
-pub round_is_lawful : (m : MarketRows) → IsMarket m → IsLawful (market_system m)
-round_is_lawful m is = market_is_lawful m is
 
 pub bar_each : (m : MarketRows) (bars : List ℕ) → length bars ≡ length m.orders
     → length bars ≡ length (map length m.orders)

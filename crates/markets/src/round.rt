@@ -137,7 +137,8 @@ fn first_over(market: &Market, bar: u32, seating: &Seating, programme: u32) -> O
 
 impl Falling for MarketRound<'_> {
     ghost use Rattle.markets.specs.Bars.{market_system, place_codes};
-    ghost use Rattle.markets.specs.Rounds.{round_is_lawful, bar_each};
+    ghost use Rattle.markets.specs.KeptPositions.{lawful_by};
+    ghost use Rattle.markets.specs.Rounds.{bar_each};
 
     ghost system = { λ r. market_system r.market };
 
@@ -147,7 +148,7 @@ impl Falling for MarketRound<'_> {
 
     ghost lends = { λ r. Unit {0} };
 
-    ghost lawful = { λ r. round_is_lawful r.market r.round.valid };
+    ghost lawful = { λ r. lawful_by r.market r.round.positions };
 
     ghost one_bar_each = { λ r. bar_each r.market r.bars.items r.round.seated.one_bar_each };
 

@@ -10,7 +10,7 @@ use Rattle.admit_core.specs.Lists.{is_among}
 use Rattle.admit_core.proofs.NextCalls.{find_none}
 use Rattle.markets.specs.Markets.{MarketRows, list_of}
 use Rattle.markets.specs.Matchings.{place_of, is_at, preferred, prefers, would_take, block_of, IsMatching, IsStable}
-use Rattle.markets.specs.Firsts.{any_of, before_yes, before_no}
+use Rattle.markets.proofs.Firsts.{any_of, before_yes, before_no}
 
 -- a walk along a list up to the first that stops it
 walk_stops : (t u : ℕ → Bool) (xs : List ℕ) (k : ℕ) → k < length xs → ((j : ℕ) → j < k → u (get_or xs j 0) ≡ false)

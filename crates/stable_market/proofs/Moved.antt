@@ -5,10 +5,11 @@ use Rattle.std.specs.Prelude.{Option, Some, slice_index}
 use Rattle.std.specs.List.{list_any, before_first, range_with_len}
 use Rattle.std.proofs.lemmas.Bool.{cases_eq, and_parts, or_left, or_right, eq-eqb}
 use Rattle.admit_core.specs.Lists.{is_among}
+use Rattle.linked_demand.proofs.HousedRows.{filter_among}
 use Rattle.markets.specs.Markets.{MarketRows, list_of, lists_it, market_position}
 use Rattle.markets.specs.Matchings.{place_of, is_at, holders, prefers, IsStable}
 use Rattle.stable_market.specs.Truth.{DifferAtMostIn}
-use Rattle.markets.specs.Firsts.{among_filter, among_before, at_place}
+use Rattle.markets.proofs.Firsts.{among_before, at_place}
 use Rattle.std.proofs.Common.{nat_eq}
 
 any_same : (t u : ℕ → Bool) (xs : List ℕ) → ((z : ℕ) → is_among z xs ≡ true → t z ≡ u z) → list_any t xs ≡ list_any u xs
@@ -22,7 +23,7 @@ holder_at : (places : List (Option ℕ)) (p y : ℕ) → is_among y (holders pla
 holder_at places p y t =
     let holds : ℕ → Bool = λ z. is_at p (place_of places z) in
     let range : List ℕ = range_with_len 0 (length places) in
-    at_place p (place_of places y) (and_parts (is_among y range) (holds y) (sym (among_filter holds y range) ∙ t)).1
+    at_place p (place_of places y) (and_parts (is_among y range) (holds y) (sym (filter_among holds y range) ∙ t)).1
 
 on_list : (m : MarketRows) (places : List (Option ℕ)) (y p : ℕ) → prefers m places y p ≡ true → lists_it m p y ≡ true
 on_list m places y p t = (among_before (λ q. is_at q (place_of places y)) p (list_of m y) t).0

@@ -7,7 +7,7 @@ use Rattle.std.proofs.lemmas.List.{ext_get_or}
 use Rattle.admit_core.specs.Lists.{is_among}
 use Rattle.markets.specs.Markets.{MarketRows, list_of}
 use Rattle.markets.specs.Matchings.{place_of, is_at, IsStable, IsBestForAll}
-use Rattle.markets.specs.Firsts.{at_place}
+use Rattle.markets.proofs.Firsts.{at_place}
 use Rattle.markets.specs.Laws.{TheBestIsOne}
 use Rattle.markets.proofs.SamePlaced.{other_first}
 

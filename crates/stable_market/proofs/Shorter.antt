@@ -9,11 +9,12 @@ use Rattle.std.proofs.lemmas.List.FromFn.{length-map-range_with_len, get_or-map-
 use Rattle.admit_core.specs.Lists.{is_among}
 use Rattle.admit_core.proofs.Counting.{distinct_kept}
 use Rattle.admit_core.proofs.Plain.{or_true, or_false, and_true}
+use Rattle.linked_demand.proofs.HousedRows.{filter_among}
 use Rattle.markets.specs.Markets.{MarketRows, IsMarket, list_of, market_order, lists_it, listers, is_distinct}
 use Rattle.markets.specs.Markets.{is_list_below, is_order, market_position}
 use Rattle.stable_market.specs.Truth.{DifferAtMostIn}
-use Rattle.markets.specs.Firsts.{all_of, among_filter}
-use Rattle.markets.specs.Positions.{order_distinct, order_lists, in_order, is_programme, position_is}
+use Rattle.markets.proofs.Firsts.{all_of}
+use Rattle.markets.proofs.Positions.{order_distinct, order_lists, in_order, is_programme, position_is}
 use Rattle.markets.proofs.BelowCount.{is_distinct_from, list_distinct, list_below}
 
 -- two who are kept stand as they stood, the one before the other or not
@@ -121,7 +122,7 @@ module _ (m : MarketRows) (is : IsMarket m) (x : ℕ) (x_lt : x < length m.lists
   lists_there p y = elim (cases_eq y x) [
     | inl here ↦
         let own : lists_it short p x ≡ (lists_it m p x && keep p) =
-        ap (is_among p) own_list ∙ among_filter keep p (list_of m x) in
+        ap (is_among p) own_list ∙ filter_among keep p (list_of m x) in
         let kept : stays keep x p y ≡ keep p = ap (λ b. keep p || not b) (eq-eqb y x here) ∙ or_false (keep p) in
         ap (lists_it short p) here ∙ own ∙ ap (λ z. lists_it m p z && keep p) (sym here)
         ∙ ap (λ b. lists_it m p y && b) (sym kept)
@@ -136,7 +137,7 @@ module _ (m : MarketRows) (is : IsMarket m) (x : ℕ) (x_lt : x < length m.lists
 
   in_short : (p y : ℕ) → p < length m.orders
       → is_among y (market_order short p) ≡ (is_among y (market_order m p) && stays keep x p y)
-  in_short p y lt = ap (is_among y) (order_is p lt) ∙ among_filter (stays keep x p) y (market_order m p)
+  in_short p y lt = ap (is_among y) (order_is p lt) ∙ filter_among (stays keep x p) y (market_order m p)
 
   own_is_list : is_list_below (length m.orders) (filter keep (list_of m x)) ≡ true
   own_is_list =
@@ -145,7 +146,7 @@ module _ (m : MarketRows) (is : IsMarket m) (x : ℕ) (x_lt : x < length m.lists
       (is_distinct_from (filter keep list)
       (distinct_kept keep list (list_distinct (length m.orders) list (is.lists x x_lt))))
       (all_of (λ p. nat_lt p (length m.orders)) (filter keep list) (λ q among.
-      let both = and_parts (is_among q list) (keep q) (sym (among_filter keep q list) ∙ among) in
+      let both = and_parts (is_among q list) (keep q) (sym (filter_among keep q list) ∙ among) in
       lt-ltb q (length m.orders) (list_below (length m.orders) list q (is.lists x x_lt) both.0)))
 
   are_lists : (y : ℕ) → y < length short.lists → is_list_below (length short.orders) (list_of short y) ≡ true
@@ -173,7 +174,7 @@ module _ (m : MarketRows) (is : IsMarket m) (x : ℕ) (x_lt : x < length m.lists
       let all_in : list_all (λ y. is_among y order) (listers short p) ≡ true =
       all_of (λ y. is_among y order) (listers short p) (λ y among.
       let lister = and_parts (is_among y (range_with_len 0 (length short.lists))) (lists_it short p y)
-      (sym (among_filter (lists_it short p) y (range_with_len 0 (length short.lists))) ∙ among) in
+      (sym (filter_among (lists_it short p) y (range_with_len 0 (length short.lists))) ∙ among) in
       let both = listed_before p y lister.1 in
       in_short p y lt ∙ and_from (is_among y (market_order m p)) (stays keep x p y)
       (in_order m is p y both.0) both.1) in

@@ -8,11 +8,12 @@ use Rattle.std.specs.List.{before_first}
 use Rattle.std.proofs.lemmas.Bool.{cases_Bool, and_parts, and_from, or_cases, or_left, or_right, eq-eqb, eqb-true}
 use Rattle.std.proofs.lemmas.Bool.{false≢true, false_from_ne_true}
 use Rattle.admit_core.specs.Lists.{is_among}
+use Rattle.linked_demand.proofs.HousedRows.{filter_among}
 use Rattle.markets.specs.Markets.{MarketRows, IsMarket, list_of, lists_it}
 use Rattle.markets.specs.Matchings.{place_of, is_at, prefers, IsStable, IsBestForAll}
 use Rattle.stable_market.specs.Truth.{DifferAtMostIn, TruthPays}
-use Rattle.markets.specs.Firsts.{among_filter, among_before, before_yes, before_no}
-use Rattle.markets.specs.Positions.{is_candidate}
+use Rattle.markets.proofs.Firsts.{among_before, before_yes, before_no}
+use Rattle.markets.proofs.Positions.{is_candidate}
 use Rattle.stable_market.proofs.Moved.{stable_there}
 use Rattle.markets.proofs.SamePlaced.{any_two, there_is_a_best}
 use Rattle.stable_market.proofs.Shorter.{shortened, is_shorter, shorter_is_alike, own_list, listed_before}
@@ -153,10 +154,10 @@ module _ (m other : MarketRows) (x q : ℕ) (best found : List (Option ℕ)) (is
 
   -- the one programme is all that is listed there
   alone_list : (p : ℕ) → lists_it one p x ≡ (is_among p (list_of other x) && alone p)
-  alone_list p = ap (is_among p) (own_list other other_is x x_lt_other alone) ∙ among_filter alone p (list_of other x)
+  alone_list p = ap (is_among p) (own_list other other_is x x_lt_other alone) ∙ filter_among alone p (list_of other x)
 
   down_list : (p : ℕ) → lists_it part p x ≡ (is_among p list && down p)
-  down_list p = ap (is_among p) (own_list m is x x_lt down) ∙ among_filter down p list
+  down_list p = ap (is_among p) (own_list m is x x_lt down) ∙ filter_among down p list
 
   -- what was got is stable where it is listed alone
   found_there : IsStable one found
@@ -218,7 +219,7 @@ module _ (m other : MarketRows) (x q : ℕ) (best found : List (Option ℕ)) (is
       let keeps : (w : ℕ) → u w ≡ true → down w ≡ true = λ w is_r. ap down (eqb-true w r is_r) ∙ listed.1 in
       ap (λ (o : Option ℕ). is_among p (before_first (λ w. is_at w o) (list_of part x))) here
       ∙ ap (λ (xs : List ℕ). is_among p (before_first u xs)) (own_list m is x x_lt down)
-      ∙ ap (is_among p) (before_kept u down list keeps) ∙ among_filter down p (before_first u list)
+      ∙ ap (is_among p) (before_kept u down list keeps) ∙ filter_among down p (before_first u list)
       ∙ and_from (is_among p (before_first u list)) (down p) first kept)
 
   gained : ⊥

@@ -1,8 +1,8 @@
 use Rattle.std.proofs.Common.{ℕ, List, ◌<◌, arith, get_or, length}
+use Rattle.linked_demand.proofs.CalledRows.{among_itself}
 use Rattle.markets.proofs.BelowCount.{list_below}
 use Rattle.markets.proofs.Meeting.{meets_none, meets_more, meets_whole, note_was}
 use Rattle.markets.proofs.Reading.{list_read}
-use Rattle.markets.specs.Positions.{among_at}
 use Rattle.markets.proofs.in_place.meet.Goals as goal
 
 pub loop-number-init : goal.loop-number-init
@@ -20,7 +20,7 @@ loop-number-preserved c =
     let k : ℕ = c.loop-number.number-index in
     let g : ℕ = get_or list k 0 in
     let below : g < length c.args.notes.now =
-    list_below (length c.args.notes.now) list g c.requires.list (among_at list k c.loop-number-test.true) in
+    list_below (length c.args.notes.now) list g c.requires.list (among_itself list k c.loop-number-test.true) in
     let read = list_read c.args.orders.now g c.index-orders-place.result c.as_slice.result.now
     (omega (arith, below, c.requires.as_many)) c.index-orders-place.is c.as_slice.ensures in
     meets_more c.args.orders.now c.args.candidate list k c.args.notes.now c.loop-number.notes c.as_slice.result.now

@@ -1,4 +1,4 @@
-use Rattle.markets.specs.Lawful.{market_is_lawful}
+use Rattle.markets.proofs.Lawful.{market_is_lawful}
 use Rattle.markets.proofs.Stable.{greatest_is_stable}
 use Rattle.markets.proofs.Best.{greatest_is_best}
 use Rattle.markets.proofs.SamePlaced.{placed_in_all}

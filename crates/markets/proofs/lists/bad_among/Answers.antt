@@ -1,6 +1,10 @@
-use Rattle.std.proofs.Common.{ℕ, List, [], ◌+◌, ◌-◌, ◌≡◌, Bool, not, refl, arith, length, sym, ◌∙◌, ap, Some}
+use Rattle.std.proofs.Common.{ℕ, List, [], ◌+◌, ◌-◌, ◌≡◌, Bool, None, Some, ap, arith, cond, length, nat_lt, not, refl}
+use Rattle.std.proofs.Common.{subst, sym, ◌∙◌}
+use Rattle.std.specs.List.{position_or_len}
+use Rattle.std.proofs.lemmas.Bool.{le-ltb}
+use Rattle.std.proofs.lemmas.List.Sums.{position_or_len_is}
 use Rattle.markets.specs.Markets.{is_list_below}
-use Rattle.markets.specs.Firsts.{position_found, position_none}
+use Rattle.markets.proofs.Firsts.{position_found}
 use Rattle.markets.proofs.Stamping.{told_list, fresh_stood, stood_more}
 use Rattle.markets.proofs.lists.bad_among.Goals as goal
 
@@ -40,6 +44,10 @@ loop-list-preserved c =
 
 pub returns : goal.returns
 returns c =
+    let xs : List (List ℕ) = c.args.lists.now in
     let test : List ℕ → Bool = λ list. not (is_list_below (length c.args.stamps.now) list) in
-    sym (position_none test c.args.lists.now []
-    (λ k lt. c.loop-list.invariant.stood k (omega (arith, lt, c.loop-list-test.false))))
+    let none : position_or_len test xs ≡ length xs = position_or_len_is test xs (length xs) [] (omega arith)
+    (λ k lt. c.loop-list.invariant.stood k (omega (arith, lt, c.loop-list-test.false)))
+    (λ h. absurd (omega (arith, h))) in
+    let P : ℕ → Type 0 = λ k. cond (nat_lt k (length xs)) (Some k) None ≡ None in
+    sym (subst P (sym none) (rw (le-ltb (length xs) (length xs) (omega arith)) refl))

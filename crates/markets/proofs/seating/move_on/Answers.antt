@@ -3,8 +3,8 @@ use Rattle.std.specs.Prelude.{slice_get, slice_index}
 use Rattle.std.proofs.lemmas.List.{get_or_default}
 use Rattle.markets.specs.Markets.{MarketRows, IsMarket, list_of}
 use Rattle.markets.specs.Bars.{best_within}
-use Rattle.markets.specs.Lawful.{best_is_listed}
-use Rattle.markets.specs.Positions.{is_programme}
+use Rattle.markets.proofs.Lawful.{best_is_listed}
+use Rattle.markets.proofs.Positions.{is_programme}
 use Rattle.markets.specs.Standing.{AreBeyond, IsStand}
 use Rattle.markets.proofs.Reading.{list_short}
 use Rattle.markets.proofs.Rounds.{put_here}

@@ -3,8 +3,8 @@ use Rattle.std.proofs.lemmas.List.FromFn.{length-map-range_with_len}
 use Rattle.markets.specs.Markets.{IsSmall, MarketRows, IsMarket}
 use Rattle.markets.specs.Matchings.{place_of}
 use Rattle.markets.specs.Bars.{best_within, matched_under}
-use Rattle.markets.specs.Lawful.{best_is_listed}
-use Rattle.markets.specs.Positions.{is_programme}
+use Rattle.markets.proofs.Lawful.{best_is_listed}
+use Rattle.markets.proofs.Positions.{is_programme}
 use Rattle.markets.proofs.Held.{place_under}
 use Rattle.markets.proofs.Seated.{round_from}
 use Rattle.markets.proofs.Tied.{tied_from}

@@ -3,7 +3,7 @@ use Rattle.std.specs.Option.{is_some}
 use Rattle.std.proofs.lemmas.Bool.{cases_eq}
 use Rattle.markets.specs.Markets.{MarketRows}
 use Rattle.markets.specs.Matchings.{block_of}
-use Rattle.markets.specs.Positions.{is_programme}
+use Rattle.markets.proofs.Positions.{is_programme}
 use Rattle.markets.specs.Rounds.{AreCounts}
 use Rattle.markets.proofs.Ordering.{range_found}
 use Rattle.stable_market.specs.Blocks.{AreLasts}

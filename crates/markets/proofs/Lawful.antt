@@ -1,33 +1,21 @@
 -- A market is a lawful system of falling bars.
-use Rattle.std.proofs.Common.{ℕ, ◌+◌, ◌≤◌, ◌<◌, ◌≡◌, Bool, true, false, List, length, refl, sym, ◌∙◌, ap, arith, nat_eq}
+use Rattle.std.proofs.Common.{ℕ, ◌≤◌, ◌<◌, ◌≡◌, Bool, true, false, List, length, refl, sym, ◌∙◌, ap, arith, nat_eq}
 use Rattle.std.specs.Prelude.{Some, slice_index}
 use Rattle.std.specs.List.{before_first, range_with_len}
-use Rattle.std.specs.List.Sorted.{IsStrictlyIncreasing}
-use Rattle.std.proofs.lemmas.Bool.{and_parts, leb-true, le-leb, lt-leb, leb-false, eqb-true, eq-eqb}
-use Rattle.std.proofs.lemmas.Cmp.{nat_eq_equiv}
+use Rattle.std.proofs.lemmas.Bool.{and_parts, leb-true, le-leb, lt-leb, leb-false, eq-eqb}
 use Rattle.std.proofs.lemmas.List.{length-map}
-use Rattle.std.proofs.lemmas.List.FromFn.{length-range_with_len, get_or-range_with_len}
 use Rattle.std.proofs.lemmas.List.Kept.{IsStrictlyIncreasing-filter}
-use Rattle.std.proofs.lemmas.Map.Views.{Contains-from_any, list_any-from_Contains}
 use Rattle.admit_core.specs.Lists.{is_among}
 use Rattle.admit_core.specs.Falls.{IsAtMost, IsLawful}
 use Rattle.admit_core.proofs.NextCalls.{find_passes, find_any}
+use Rattle.day_state.proofs.Ascending.{range_rises}
+use Rattle.linked_demand.proofs.HousedRows.{filter_among}
 use Rattle.markets.specs.Markets.{MarketRows, IsMarket, list_of, market_order, lists_it, market_position, candidate_at}
 use Rattle.markets.specs.Matchings.{is_at}
 use Rattle.markets.specs.Bars.{is_within, best_within, demanded, market_system}
-use Rattle.markets.specs.Firsts.{among_filter, among_range, range_has, fails_before, found_at, at_place}
-use Rattle.markets.specs.Positions.{order_distinct, position_at}
-
--- a range rises
-pub range_rises : (a n : ℕ) → IsStrictlyIncreasing (range_with_len a n)
-range_rises a n k lt =
-    let k_lt : k + 1 < n = omega (arith, lt, length-range_with_len a n) in
-    omega (
-      arith,
-      get_or-range_with_len a n k 0 (omega (arith, k_lt)),
-      get_or-range_with_len a
-          n (k + 1) 0 k_lt,
-    )
+use Rattle.markets.specs.KeptPositions.{KeepsPositions, lawful_by}
+use Rattle.markets.proofs.Firsts.{among_range, range_has, fails_before, found_at, at_place}
+use Rattle.markets.proofs.Positions.{order_distinct, position_at}
 
 -- the best programme within reach is on the list, and within reach
 pub best_is_listed : (m : MarketRows) (bars : List ℕ) (x p : ℕ) → best_within m bars x ≡ Some p
@@ -49,7 +37,7 @@ pub demanded_parts : (m : MarketRows) (bars : List ℕ) (p r : ℕ)
 demanded_parts m bars p r t =
     let test : ℕ → Bool = λ q. is_at p (best_within m bars (candidate_at m p q)) in
     let range : List ℕ = range_with_len 1 (length (market_order m p)) in
-    let both = and_parts (is_among r range) (test r) (sym (among_filter test r range) ∙ t) in
+    let both = and_parts (is_among r range) (test r) (sym (filter_among test r range) ∙ t) in
     let within = among_range r 1 (length (market_order m p)) both.0 in
     (within.0, omega (arith, within.1), at_place p (best_within m bars (candidate_at m p r)) both.1)
 
@@ -61,7 +49,7 @@ demanded_from m bars p r one le best =
     let within : is_among r range
     ≡ true = range_has r 1 (length (market_order m p)) one (omega (arith, le)) in
     let passes : test r ≡ true = ap (is_at p) best ∙ eq-eqb p p refl in
-    among_filter test r range ∙ rw (within, passes) refl
+    filter_among test r range ∙ rw (within, passes) refl
 
 -- as bars fall, the best within reach stays the best while it is within reach
 pub best_stays : (m : MarketRows) (lower upper : List ℕ) (x p : ℕ) → IsAtMost lower upper
@@ -84,36 +72,27 @@ best_stays m lower upper x p below best le =
           (slice_index lower p) le,
     ))
 
+pub positions_kept : (m : MarketRows) → IsMarket m → KeepsPositions m
+positions_kept m is = record {
+  one_seat_each = is.one_seat_each ∙ sym (length-map m.orders length);
+  rising = λ bars p. IsStrictlyIncreasing-filter (λ r. is_at p (best_within m bars (candidate_at m p r)))
+      (range_with_len 1 (length (market_order m p))) (range_rises 1 (length (market_order m p)));
+  from_one = λ bars p r among. (demanded_parts m bars p r among).0;
+  to_bar = λ bars p r under lt among.
+      let parts = demanded_parts m bars p r among in
+      let p_lt : p < length m.orders = omega (arith, lt, under.as_many, length-map m.orders length) in
+      omega (
+        arith,
+        best_is_within m bars (candidate_at m p r) p parts.2,
+        position_at m p r (order_distinct m is p p_lt) parts.0 parts.1,
+      );
+  stay = λ lower upper p r below under lt among le.
+      let parts = demanded_parts m upper p r among in
+      let p_lt : p < length m.orders = omega (arith, lt, below.as_many, under.as_many, length-map m.orders length) in
+      let at = position_at m p r (order_distinct m is p p_lt) parts.0 parts.1 in
+      demanded_from m lower p r parts.0 parts.1
+      (best_stays m lower upper (candidate_at m p r) p below parts.2 (omega (arith, le, at)));
+}
+
 pub market_is_lawful : (m : MarketRows) → IsMarket m → IsLawful (market_system m)
-market_is_lawful m is =
-    record {
-      one_free_each = is.one_seat_each ∙ sym (length-map m.orders length);
-      ascending = λ bars p under lt.
-          IsStrictlyIncreasing-filter (λ r. is_at p (best_within m bars (candidate_at m p r)))
-          (range_with_len 1 (length (market_order m p)))
-          (range_rises 1 (length (market_order m p)));
-      from_one =
-          λ bars p r under lt h.
-          (demanded_parts m bars p r
-          (list_any-from_Contains nat_eq_equiv r (demanded m bars p) h)).0;
-      to_bar = λ bars p r under lt h.
-          let parts = demanded_parts m bars p r
-          (list_any-from_Contains nat_eq_equiv r (demanded m bars p) h) in
-          let p_lt : p < length m.orders = omega
-          (arith, lt, under.as_many, length-map m.orders length) in
-          omega (
-            arith,
-            best_is_within m bars (candidate_at m p r) p parts.2,
-            position_at m p r (order_distinct m is p p_lt) parts.0
-                parts.1,
-          );
-      stay_demanded = λ lower upper p r below under lt h le.
-          let parts = demanded_parts m upper p r
-          (list_any-from_Contains nat_eq_equiv r (demanded m upper p) h) in
-          let p_lt : p < length m.orders = omega
-          (arith, lt, below.as_many, under.as_many, length-map m.orders length) in
-          let at = position_at m p r (order_distinct m is p p_lt) parts.0 parts.1 in
-          Contains-from_any eqb-true r (demanded m lower p)
-          (demanded_from m lower p r parts.0 parts.1
-          (best_stays m lower upper (candidate_at m p r) p below parts.2 (omega (arith, le, at))));
-    }
+market_is_lawful m is = lawful_by m (positions_kept m is)

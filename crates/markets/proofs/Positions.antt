@@ -5,14 +5,15 @@ use Rattle.std.specs.List.{list_all, before_first, position_or_len, range_with_l
 use Rattle.std.proofs.lemmas.Bool.{cases_lt, cases_order, and_parts, or_cases, eqb-true, eq-eqb, ltb-true, false≢true}
 use Rattle.std.proofs.lemmas.Cmp.{nat_eq_equiv}
 use Rattle.std.proofs.lemmas.List.{get_or_past, length-take-le}
-use Rattle.std.proofs.lemmas.List.Folds.{list_any_at}
 use Rattle.std.proofs.lemmas.List.Sums.{passes_at_first, prefix_len-le-length}
 use Rattle.std.proofs.lemmas.Map.Made.{IsDistinct-from_count}
 use Rattle.std.proofs.lemmas.Map.Keys.{apart_from_distinct}
 use Rattle.admit_core.specs.Lists.{is_among, distinct}
+use Rattle.linked_demand.proofs.CalledRows.{among_itself}
+use Rattle.linked_demand.proofs.HousedRows.{filter_among}
 use Rattle.markets.specs.Markets.{MarketRows, IsMarket, list_of, market_order, lists_it, listers, is_distinct}
 use Rattle.markets.specs.Markets.{market_position, candidate_at}
-use Rattle.markets.specs.Firsts.{among_filter, one_of_all, range_has}
+use Rattle.markets.proofs.Firsts.{one_of_all, range_has}
 
 -- one who is in an order stands at a first place of it
 pub first_place : (x : ℕ) (xs : List ℕ) → is_among x xs ≡ true
@@ -32,12 +33,7 @@ pub length_before : (u : ℕ → Bool) (xs : List ℕ) → length (before_first 
 length_before u xs =
     length-take-le (position_or_len u xs) xs (prefix_len-le-length (λ x. not (u x)) xs)
 
--- what stands at a place of a list is among it
-pub among_at : (xs : List ℕ) (i : ℕ) → i < length xs → is_among (get_or xs i 0) xs ≡ true
-among_at xs i lt =
-    list_any_at (nat_eq (get_or xs i 0)) xs i 0 lt (eq-eqb (get_or xs i 0) (get_or xs i 0) refl)
-
--- and what is among it stands at the first place where it is found
+-- what is among a list stands at the first place where it is found
 pub at_first : (x : ℕ) (xs : List ℕ) → is_among x xs ≡ true
     → get_or xs (position_or_len (nat_eq x) xs) 0 ≡ x
 at_first x xs t =
@@ -45,13 +41,13 @@ at_first x xs t =
     (passes_at_first (nat_eq x) xs 0 (first_place x xs t)))
 
 -- where none stands twice, each is found at the place where it stands
-pub only_place : (xs : List ℕ) (i : ℕ) → IsDistinct nat_eq xs → i < length xs
-    → position_or_len (nat_eq (get_or xs i 0)) xs ≡ i
-only_place xs i apart lt =
-    let x : ℕ = get_or xs i 0 in
+pub only_place : (xs : List ℕ) (x i : ℕ) → IsDistinct nat_eq xs → i < length xs → get_or xs i 0 ≡ x
+    → position_or_len (nat_eq x) xs ≡ i
+only_place xs x i apart lt here =
     let j : ℕ = position_or_len (nat_eq x) xs in
-    let j_lt : j < length xs = first_place x xs (among_at xs i lt) in
-    let same : get_or xs j 0 ≡ get_or xs i 0 = at_first x xs (among_at xs i lt) in
+    let among : is_among x xs ≡ true = ap (λ y. is_among y xs) (sym here) ∙ among_itself xs i lt in
+    let j_lt : j < length xs = first_place x xs among in
+    let same : get_or xs j 0 ≡ get_or xs i 0 = at_first x xs among ∙ sym here in
     elim (cases_order j i) [
       | inl e ↦ e
       | inr (inl before) ↦
@@ -106,7 +102,7 @@ module _ (m : MarketRows) (is : IsMarket m) where
       ≡ true = range_has x 0 (length m.lists) (omega arith)
       (omega (arith, is_candidate p x t)) in
       let lister : is_among x (listers m p)
-      ≡ true = among_filter (lists_it m p) x (range_with_len 0 (length m.lists))
+      ≡ true = filter_among (lists_it m p) x (range_with_len 0 (length m.lists))
       ∙ rw (within, t) refl in
       one_of_all (λ y. is_among y (market_order m p)) x (listers m p)
       (order_tests p (is_programme p x t)).2 lister
@@ -129,6 +125,5 @@ position_at m p r apart one le =
     omega (
       arith,
       position_is m p (candidate_at m p r),
-      only_place (market_order m p) (r - 1) apart
-          (omega (arith, one, le)),
+      only_place (market_order m p) (candidate_at m p r) (r - 1) apart (omega (arith, one, le)) refl,
     )

@@ -1,20 +1,13 @@
 -- The first of a list that passes, and those before it.
-use Rattle.std.proofs.Common.{ℕ, zero, suc, ◌+◌, ◌≤◌, ◌<◌, ◌≡◌, Bool, true, false, cond, ◌&&◌, List, [], ◌∷◌, length}
-use Rattle.std.proofs.Common.{get_or, inl, inr, refl, sym, ◌∙◌, ap, subst, arith, nat_eq, nat_lt, filter}
+use Rattle.std.proofs.Common.{ℕ, zero, suc, ◌+◌, ◌≤◌, ◌<◌, ◌≡◌, Bool, true, false, cond, List, [], ◌∷◌, length}
+use Rattle.std.proofs.Common.{get_or, inl, inr, refl, sym, ◌∙◌, ap, subst, arith, nat_eq, nat_lt}
 use Rattle.std.specs.Prelude.{Option, Some, None, find, position}
 use Rattle.std.specs.List.{list_any, list_all, before_first, position_or_len, range_with_len}
 use Rattle.std.proofs.lemmas.Bool.{cases_Bool, cases_eq, and_parts, or_cases, or_left, or_right, or_from, eqb-true}
-use Rattle.std.proofs.lemmas.Bool.{eq-eqb, lt-ltb, le-ltb, false≢true}
-use Rattle.std.proofs.lemmas.Cmp.{nat_eq_equiv}
+use Rattle.std.proofs.lemmas.Bool.{eq-eqb, lt-ltb, false≢true}
 use Rattle.std.proofs.lemmas.List.Sums.{position_or_len_is}
-use Rattle.std.proofs.lemmas.Map.Made.{is_member-filter}
 use Rattle.admit_core.specs.Lists.{is_among}
 use Rattle.markets.specs.Matchings.{is_at}
-
--- what stands in a filtered list
-pub among_filter : (t : ℕ → Bool) (q : ℕ) (xs : List ℕ) → is_among q (filter t xs)
-    ≡ (is_among q xs && t q)
-among_filter t q xs = is_member-filter nat_eq_equiv t q (λ x same. ap t (eqb-true q x same)) xs
 
 -- what stands in a range
 pub among_range : (q a n : ℕ) → is_among q (range_with_len a n) ≡ true → (a ≤ q) × (q < a + n)
@@ -179,13 +172,3 @@ position_found test xs i d lt fails passes =
     ≡ i = position_or_len_is test xs i d (omega (arith, lt)) fails (λ h. passes) in
     let P : ℕ → Type 0 = λ k. cond (nat_lt k (length xs)) (Some k) None ≡ Some i in
     subst P (sym first) (rw (lt-ltb i (length xs) lt) refl)
-
-pub position_none : {X : Type 0} (test : X → Bool) (xs : List X) (d : X)
-    → ((k : ℕ) → k < length xs → test (get_or xs k d) ≡ false)
-    → position test xs ≡ None
-position_none test xs d fails =
-    let none : position_or_len test xs
-    ≡ length xs = position_or_len_is test xs (length xs) d (omega arith) fails
-    (λ h. absurd (omega (arith, h))) in
-    let P : ℕ → Type 0 = λ k. cond (nat_lt k (length xs)) (Some k) None ≡ None in
-    subst P (sym none) (rw (le-ltb (length xs) (length xs) (omega arith)) refl)
