@@ -30,7 +30,7 @@ use Rattle.desk_day.specs.RunDay.{IsStampedBy, KeepsStamps}
 use Rattle.intake.specs.Dated.{AreDatedFor}
 use Rattle.intake.specs.declared.terms.DatedTerms.{DatedTerms}
 use Rattle.modes.proofs.Writable.{finals_dated, first_known}
-use Rattle.modes.specs.CheckedDays.{StopsBy, TellsWhy}
+use Rattle.modes.specs.CheckedDays.{IsEveningOfDay, StopsBy, TellsWhy}
 use Rattle.modes.specs.Checking.{EndsProof, IsRefused, IsReply, Replies, rejected_at, why_none, why_not, why_without}
 use Rattle.modes.specs.Replay.{CanBeDated, CanBeWritten}
 use Rattle.modes.specs.declared.exit.Exit.{Exit}
@@ -106,7 +106,7 @@ module _ (terms : Option Terms) (orders : List CallOrder) (day : ℕ) (old dawn 
         subst (λ (s : State). IsDayChain orders (ceilings_of old.dossier day) day s chain evening) begins
         (subst (λ (cs : List ℕ). IsDayChain orders cs day dawn chain evening) under valid)
 
-    pub leads : evening ≡ evening_by terms orders day old chain
+    leads : evening ≡ evening_by terms orders day old chain
     leads = evening_is orders (ceilings_of old.dossier day) day 1
         (morning terms day old) chain.passes evening valid_here
 
@@ -131,9 +131,12 @@ module _ (terms : Option Terms) (orders : List CallOrder) (day : ℕ) (old dawn 
       free = refl;
     }
 
-    pub keeps_stamps : KeepsStamps day old evening
+    keeps_stamps : KeepsStamps day old evening
     unfolding told
     keeps_stamps = stamps_kept terms orders (ceilings_of old.dossier day) old told evening is_day
+
+    pub is_evening : IsEveningOfDay terms orders day old chain evening
+    is_evening = record { is = leads; stamps = keeps_stamps }
 
 -- the days from a place on
 pub why_stops : (found : Unproved) (why rest all : Option Why) → all ≡ option_or why rest → StopsBy found why

@@ -19,13 +19,11 @@ use Rattle.bed_need.proofs.Growing.{figures_are_fixed}
 use Rattle.bar_fixpoint.specs.Runs.{schools_of}
 use Rattle.desk_day.proofs.PassesSoFar.{tells_from}
 use Rattle.desk_day.specs.DayPasses.{TellsMore}
-use Rattle.desk_day.specs.DeskStates.{DeskStates}
 use Rattle.desk_day.specs.LastPasses.{IsLastPass}
-use Rattle.dossier_check.specs.Ids.{Ids}
 use Rattle.played.specs.LastDays.{IsDeskAfter, IsLastOf, pass_on}
 use Rattle.round.proofs.EarlyEnds.{told_of_all}
 use Rattle.modes.specs.LentPicker.{TellsPicks}
-use Rattle.modes.specs.Beds.{BreaksFigures, BreaksFiguring, IsAsked, IsOnlyText, IsTextOf, PicksForFigures}
+use Rattle.modes.specs.Beds.{AfterDays, BreaksFigures, BreaksFiguring, IsAsked, IsOnlyText, IsTextOf, PicksForFigures}
 use Rattle.modes.specs.Beds.{TellsFigures}
 
 -- the figures that were found, with what the picker told
@@ -139,23 +137,22 @@ figures_more s orders ceilings place need choice told after tells =
 one_place : (found one other : ℕ) (p : Option ℕ) → p ≡ Some one → p ≡ Some other → one ≡ other
 one_place found one other p is also = cc (is, also)
 
-module _ (d : DossierRows) (ids : Ids) (orders : List CallOrder) (days : List DayRecord) (desk : DeskStates)
-    (school : ℕ) where
-  one_day : (one other : DayRecord) → IsLastOf days one → IsLastOf days other → one ≡ other
+module _ (left : AfterDays) (school : ℕ) where
+  one_day : (one other : DayRecord) → IsLastOf left.days one → IsLastOf left.days other → one ≡ other
   one_day one other is also = cc (is, also)
 
-  one_pass : (p q : ℕ) (one other : LastPass) → IsAsked d ids orders days desk school p one
-      → IsAsked d ids orders days desk school q other → (p ≡ q) × (one ≡ other)
+  one_pass : (p q : ℕ) (one other : LastPass) → IsAsked left school p one → IsAsked left school q other
+      → (p ≡ q) × (one ≡ other)
   one_pass p q one other is also = (
-    one_place p p q (position (nat_eq school) ids.schools) is.is_place also.is_place,
-    is.is_pass ∙ ap (λ (day : DayRecord). pass_on d orders day desk) (one_day is.day also.day is.is_last also.is_last)
-        ∙ sym also.is_pass,
+    one_place p p q (position (nat_eq school) left.index.schools) is.is_place also.is_place,
+    is.is_pass ∙ ap (λ (day : DayRecord). pass_on left.dossier left.orders day left.desk)
+        (one_day is.day also.day is.is_last also.is_last) ∙ sym also.is_pass,
   )
 
   -- one text tells the figures
-  pub only_text : (one other : List ℕ) → TellsFigures d ids orders days desk school one
-      → TellsFigures d ids orders days desk school other → other ≡ one
+  pub only_text : (one other : List ℕ) → TellsFigures left school one → TellsFigures left school other → other ≡ one
   only_text one other is also =
+      let d = left.dossier in
       let same = one_pass also.place is.place also.pass is.pass also.is_asked is.is_asked in
       let P : ℕ → LastPass → Type 0 = λ p x. AreFigures x.opening x.orders x.ceilings p also.figures in
       let there : P is.place is.pass =
@@ -169,33 +166,33 @@ module _ (d : DossierRows) (ids : Ids) (orders : List CallOrder) (days : List Da
       ∙ ap (λ (f : Figures). beds_text d is.place f.need f.before f.after) figures ∙ sym is.is_text.is_text
 
 -- the school of an id in the last pass
-module _ (d : DossierRows) (ids : Ids) (orders : List CallOrder) (days : List DayRecord) (desk : DeskStates)
-    (school place : ℕ) (day : DayRecord) (is_place : position (nat_eq school) ids.schools ≡ Some place)
-    (is_last : IsLastOf days day) (after : IsDeskAfter d orders days desk) where
+module _ (left : AfterDays) (school place : ℕ) (day : DayRecord)
+    (is_place : position (nat_eq school) left.index.schools ≡ Some place) (is_last : IsLastOf left.days day)
+    (after : IsDeskAfter left.dossier left.orders left.days left.desk) where
   abbrev last : LastPass
-  last = pass_on d orders day desk
+  last = pass_on left.dossier left.orders day left.desk
 
-  ends_so : IsLastPass last desk.present
+  ends_so : IsLastPass last left.desk.present
   ends_so = after.last day is_last
 
-  asked_so : IsAsked d ids orders days desk school place last
+  asked_so : IsAsked left school place last
   asked_so = record { is_place = is_place; day = day; is_last = is_last; is_pass = refl }
 
-  pub opening_dossier : desk.opening.dossier ≡ d
+  pub opening_dossier : left.desk.opening.dossier ≡ left.dossier
   opening_dossier = sym (ap (λ (s : State). s.dossier) ends_so.leaves) ∙ after.dossier
 
-  pub opening_called : AreCallOrders desk.opening.dossier.groups orders
+  pub opening_called : AreCallOrders left.desk.opening.dossier.groups left.orders
   opening_called = ends_so.of_dossier.called
 
-  pub opening_ceilings : length last.ceilings ≡ length desk.opening.dossier.schools
+  pub opening_ceilings : length last.ceilings ≡ length left.desk.opening.dossier.schools
   opening_ceilings = ends_so.of_dossier.ceilings
 
   -- where memory ran out in the opening, by the call orders of a roster, under the day's ceilings
   pub all_broken : {T E : Type 0} (opening : State) (called : List CallOrder) (ceilings : List ℕ)
-      (choice : List ℕ → List ℕ → ℕ) (told after : List ℕ) → opening ≡ desk.opening → called ≡ orders
+      (choice : List ℕ → List ℕ → ℕ) (told after : List ℕ) → opening ≡ left.desk.opening → called ≡ left.orders
       → ceilings ≡ last.ceilings → (r : Result T E)
       → OnErr r (BreaksFiguring opening called ceilings place choice told after)
-      → OnErr r (BreaksFigures d ids orders days desk school choice told after)
+      → OnErr r (BreaksFigures left school (record { before = told; after = after; choice = choice }))
   all_broken opening called ceilings choice told after opens calls ceil (Ok text) breaks = tt
   all_broken opening called ceilings choice told after opens calls ceil (Err e) breaks =
       let P : State → List CallOrder → List ℕ → Type 0 =
@@ -204,31 +201,31 @@ module _ (d : DossierRows) (ids : Ids) (orders : List CallOrder) (days : List Da
         place = place;
         pass = last;
         is_asked = asked_so;
-        breaks = subst (λ (o : State). P o orders last.ceilings) opens
+        breaks = subst (λ (o : State). P o left.orders last.ceilings) opens
             (subst (λ (os : List CallOrder). P opening os last.ceilings) calls
             (subst (λ (cs : List ℕ). P opening called cs) ceil breaks));
       })
 
   -- what was figured in the opening, by the call orders of a roster, under the day's ceilings
   module _ (opening : State) (called : List CallOrder) (ceilings : List ℕ) (choice : List ℕ → List ℕ → ℕ)
-      (told told' : List ℕ) (opens : opening ≡ desk.opening) (calls : called ≡ orders)
+      (told told' : List ℕ) (opens : opening ≡ left.desk.opening) (calls : called ≡ left.orders)
       (ceil : ceilings ≡ last.ceilings) where
     abbrev Figured : List ℕ → Type 0
-    Figured text = (figures : Figures) × IsTextOf d opening called ceilings place figures text
+    Figured text = (figures : Figures) × IsTextOf left.dossier opening called ceilings place figures text
         × TellsOfFigures opening called ceilings place figures.need choice told told'
 
     in_last : (text : List ℕ) → Figured text
-        → (figures : Figures) × IsTextOf d last.opening orders last.ceilings place figures text
-        × TellsOfFigures last.opening orders last.ceilings place figures.need choice told told'
+        → (figures : Figures) × IsTextOf left.dossier last.opening left.orders last.ceilings place figures text
+        × TellsOfFigures last.opening left.orders last.ceilings place figures.need choice told told'
     in_last text figured =
         let P : State → List CallOrder → List ℕ → Type 0 =
-        λ o os cs. (figures : Figures) × IsTextOf d o os cs place figures text
+        λ o os cs. (figures : Figures) × IsTextOf left.dossier o os cs place figures text
         × TellsOfFigures o os cs place figures.need choice told told' in
-        subst (λ (o : State). P o orders last.ceilings) opens
+        subst (λ (o : State). P o left.orders last.ceilings) opens
         (subst (λ (os : List CallOrder). P opening os last.ceilings) calls
         (subst (λ (cs : List ℕ). P opening called cs) ceil figured))
 
-    tells : (text : List ℕ) → Figured text → TellsFigures d ids orders days desk school text
+    tells : (text : List ℕ) → Figured text → TellsFigures left school text
     tells text figured =
         let found = in_last text figured in record {
           place = place;
@@ -238,11 +235,10 @@ module _ (d : DossierRows) (ids : Ids) (orders : List CallOrder) (days : List Da
           is_text = found.1;
         }
 
-    picks : (text : List ℕ) → Figured text → TellsPicks (PicksForFigures d ids orders days desk school choice told) told
-        told'
+    picks : (text : List ℕ) → Figured text → TellsPicks (PicksForFigures left school choice told) told told'
     picks text figured =
         let found = in_last text figured in
-        let more = figures_more last.opening orders last.ceilings place found.0.need choice told told' found.2 in (
+        let more = figures_more last.opening left.orders last.ceilings place found.0.need choice told told' found.2 in (
           more.0,
           record {
             place = place;
@@ -250,24 +246,24 @@ module _ (d : DossierRows) (ids : Ids) (orders : List CallOrder) (days : List Da
             figures = found.0;
             is_asked = asked_so;
             are_figures = found.1.are_figures;
-            tells = subst (λ (l : List ℕ). TellsOfFigures last.opening orders last.ceilings place found.0.need choice
-                told l) more.1 found.2;
+            tells = subst (λ (l : List ℕ). TellsOfFigures last.opening left.orders last.ceilings place
+                found.0.need choice told l) more.1 found.2;
           },
           more.1,
         )
 
     pub all_tell : {T E : Type 0} (bytes : T → List ℕ) (r : Result T E) → IfOk r (λ text. Figured (bytes text))
-        → IfOk r (λ text. TellsFigures d ids orders days desk school (bytes text))
+        → IfOk r (λ text. TellsFigures left school (bytes text))
     all_tell bytes (Ok text) figured = tells (bytes text) figured
     all_tell bytes (Err e) figured = tt
 
     pub all_only : {T E : Type 0} (bytes : T → List ℕ) (r : Result T E) → IfOk r (λ text. Figured (bytes text))
-        → IfOk r (λ text. IsOnlyText d ids orders days desk school (bytes text))
-    all_only bytes (Ok text) figured = λ other also. only_text d ids orders days desk school (bytes text) other
+        → IfOk r (λ text. IsOnlyText left school (bytes text))
+    all_only bytes (Ok text) figured = λ other also. only_text left school (bytes text) other
         (tells (bytes text) figured) also
     all_only bytes (Err e) figured = tt
 
     pub all_picked : {T E : Type 0} (bytes : T → List ℕ) (r : Result T E) → IfOk r (λ text. Figured (bytes text))
-        → IfOk r (λ text. TellsPicks (PicksForFigures d ids orders days desk school choice told) told told')
+        → IfOk r (λ text. TellsPicks (PicksForFigures left school choice told) told told')
     all_picked bytes (Ok text) figured = picks (bytes text) figured
     all_picked bytes (Err e) figured = tt

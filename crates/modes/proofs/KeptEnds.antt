@@ -20,7 +20,7 @@ use Rattle.request.specs.declared.modes.Mode.{Mode}
 use Rattle.request.specs.declared.modes.Mode.TheVariants as modes
 use Rattle.request.specs.declared.pickers.PickerName.{PickerName}
 use Rattle.modes.specs.LentPicker.{ArePicks, Asked, BreaksEnding, BreaksLent, BreaksPicks, TellsAfter, TellsLent}
-use Rattle.modes.specs.Beds.{IsAsked}
+use Rattle.modes.specs.Beds.{AfterDays, IsAsked, seen_after}
 use Rattle.modes.specs.Endings.{EndsAfter, EndsWith, IsEndOf, IsRefusedWith, lines_before}
 use Rattle.modes.specs.Explained.{IsExplained}
 use Rattle.modes.specs.Jobs.{JobView, keeps_falls, picker_after}
@@ -28,20 +28,20 @@ use Rattle.modes.specs.declared.exit.Exit.{Exit}
 use Rattle.modes.specs.declared.reply.Reply.{Reply}
 
 -- what is asked of the last day
+asked_whole : (keeps : Bool) (left : AfterDays) (school place : ℕ) (pass : LastPass)
+    → IsAsked (record left { days = map (kept_day keeps) left.days }) school place pass
+    → IsAsked left school place pass
+asked_whole keeps left school place pass is =
+    let last = last_whole keeps left.days is.day is.is_last in
+    record {
+      is_place = is.is_place;
+      day = last.0;
+      is_last = last.1;
+      is_pass = is.is_pass ∙ pass_kept keeps left.dossier left.orders is.day last.0 left.desk last.2;
+    }
+
 module _ (keeps : Bool) (d : DossierRows) (ids : Ids) (orders : List CallOrder) (days : List DayRecord)
     (desk : DeskStates) where
-  asked_whole : (school place : ℕ) (pass : LastPass)
-      → IsAsked d ids orders (map (kept_day keeps) days) desk school place pass
-      → IsAsked d ids orders days desk school place pass
-  asked_whole school place pass is =
-      let last = last_whole keeps days is.day is.is_last in
-      record {
-        is_place = is.is_place;
-        day = last.0;
-        is_last = last.1;
-        is_pass = is.is_pass ∙ pass_kept keeps d orders is.day last.0 desk last.2;
-      }
-
   explained_whole : (wish : ℕ) (text : List ℕ)
       → IsExplained d ids orders (map (kept_day keeps) days) desk wish text
       → IsExplained d ids orders days desk wish text
@@ -82,8 +82,7 @@ module _ (view : JobView) (whole : Played) where
           place = tells.place;
           pass = tells.pass;
           figures = tells.figures;
-          is_asked = asked_whole keeps view.dossier view.index whole.orders whole.days desk school tells.place
-              tells.pass tells.is_asked;
+          is_asked = asked_whole keeps (seen_after view whole desk) school tells.place tells.pass tells.is_asked;
           is_text = tells.is_text;
         },
       )
@@ -110,8 +109,7 @@ module _ (view : JobView) (whole : Played) where
         place = are.place;
         pass = are.pass;
         figures = are.figures;
-        is_asked = asked_whole keeps view.dossier view.index whole.orders whole.days desk school are.place are.pass
-            are.is_asked;
+        is_asked = asked_whole keeps (seen_after view whole desk) school are.place are.pass are.is_asked;
         are_figures = are.are_figures;
         tells = are.tells;
       }
@@ -138,8 +136,7 @@ module _ (view : JobView) (whole : Played) where
       inr (record {
         place = breaks.place;
         pass = breaks.pass;
-        is_asked = asked_whole keeps view.dossier view.index whole.orders whole.days desk school breaks.place
-            breaks.pass breaks.is_asked;
+        is_asked = asked_whole keeps (seen_after view whole desk) school breaks.place breaks.pass breaks.is_asked;
         breaks = breaks.breaks;
       })
   broken_whole _ desk before told breaks = breaks

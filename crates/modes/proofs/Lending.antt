@@ -201,11 +201,12 @@ ends_so end found view orders days between after result is ends =
     between after result) (sym is) ends
 
 -- the same of days that were run by call orders of another name
-pub ends_by_orders : {E : Type 0} (end found : Result DeskStates Refusal) (view : JobView) (one other : List CallOrder)
-    (days : List DayRecord) (between after : Lent) (result : Result Reply E) → end ≡ found → one ≡ other
+pub ends_by_orders : {E : Type 0} {end found : Result DeskStates Refusal} {view : JobView} {one other : List CallOrder}
+    {days : List DayRecord} {between after : Lent} (result : Result Reply E) → end ≡ found → one ≡ other
     → EndsAfter found view (record { orders = one; days = days; end = found }) between after result
     → EndsAfter end view (record { orders = other; days = days; end = end }) between after result
-ends_by_orders end found view one other days between after result is same ends =
+ends_by_orders {end = end} {found = found} {view = view} {other = other} {days = days} {between = between}
+    {after = after} result is same ends =
     ends_so end found view other days between after result is
     (subst (λ (o : List CallOrder). EndsAfter found view (record { orders = o; days = days; end = found }) between after
     result) same ends)

@@ -13,8 +13,12 @@ use Rattle.bed_need.specs.Growing.{with_more_beds, with_n_beds}
 use Rattle.bed_need.specs.Telling.{TellsOfFallsOfBoth, TellsOfRun}
 use Rattle.bed_need.specs.Text.{beds_text}
 use Rattle.desk_day.specs.DeskStates.{DeskStates}
+use Rattle.desk_day.specs.Telling.{Telling}
 use Rattle.dossier_check.specs.Ids.{Ids}
+use Rattle.intake.specs.declared.input.Input.{Input}
 use Rattle.played.specs.LastDays.{IsLastOf, pass_on}
+use Rattle.played.specs.PlayedDays.{Played}
+use Rattle.modes.specs.Jobs.{JobView}
 
 -- the school at a place has these figures, which the text tells
 pub record IsTextOf (d : DossierRows) (s : State) (orders : List CallOrder) (ceilings : List ℕ)
@@ -22,31 +26,55 @@ pub record IsTextOf (d : DossierRows) (s : State) (orders : List CallOrder) (cei
   pub are_figures : AreFigures s orders ceilings place figures
   pub is_text : text ≡ beds_text d place figures.need figures.before figures.after
 
+-- what days leave to the mode: the dossier and its ids, the call orders by which they were run,
+-- their records, and the desk after them
+pub record AfterDays : Type 0 where
+  pub dossier : DossierRows
+  pub index : Ids
+  pub orders : List CallOrder
+  pub days : List DayRecord
+  pub desk : DeskStates
+
+abbrev pub after_days : Input → List CallOrder → List DayRecord → DeskStates → AfterDays
+after_days input orders days desk = record {
+  dossier = input.dossier;
+  index = input.index;
+  orders = orders;
+  days = days;
+  desk = desk;
+}
+
+abbrev pub seen_after : JobView → Played → DeskStates → AfterDays
+seen_after view played desk = record {
+  dossier = view.dossier;
+  index = view.index;
+  orders = played.orders;
+  days = played.days;
+  desk = desk;
+}
+
 -- the school of this id, and the last pass of the last day
-pub record IsAsked (d : DossierRows) (ids : Ids) (orders : List CallOrder) (days : List DayRecord)
-    (desk : DeskStates) (school place : ℕ) (pass : LastPass) : Type 0 where
-  pub is_place : position (nat_eq school) ids.schools ≡ Some place
+pub record IsAsked (left : AfterDays) (school place : ℕ) (pass : LastPass) : Type 0 where
+  pub is_place : position (nat_eq school) left.index.schools ≡ Some place
   pub day : DayRecord
-  pub is_last : IsLastOf days day
-  pub is_pass : pass ≡ pass_on d orders day desk
+  pub is_last : IsLastOf left.days day
+  pub is_pass : pass ≡ pass_on left.dossier left.orders day left.desk
 
 -- the text tells the figures of the school in the last pass
-pub record TellsFigures (d : DossierRows) (ids : Ids) (orders : List CallOrder)
-    (days : List DayRecord) (desk : DeskStates) (school : ℕ) (text : List ℕ) : Type 0 where
+pub record TellsFigures (left : AfterDays) (school : ℕ) (text : List ℕ) : Type 0 where
   pub place : ℕ
   pub pass : LastPass
   pub figures : Figures
-  pub is_asked : IsAsked d ids orders days desk school place pass
-  pub is_text : IsTextOf d pass.opening pass.orders pass.ceilings place figures text
+  pub is_asked : IsAsked left school place pass
+  pub is_text : IsTextOf left.dossier pass.opening pass.orders pass.ceilings place figures text
 
 -- what a picker picks as the figures of the school are found
-pub record PicksForFigures (d : DossierRows) (ids : Ids) (orders : List CallOrder)
-    (days : List DayRecord) (desk : DeskStates) (school : ℕ) (choice : List ℕ → List ℕ → ℕ)
+pub record PicksForFigures (left : AfterDays) (school : ℕ) (choice : List ℕ → List ℕ → ℕ)
     (told picks : List ℕ) : Type 0 where
   pub place : ℕ
   pub pass : LastPass
   pub figures : Figures
-  pub is_asked : IsAsked d ids orders days desk school place pass
+  pub is_asked : IsAsked left school place pass
   pub are_figures : AreFigures pass.opening pass.orders pass.ceilings place figures
   pub tells : TellsOfFigures pass.opening pass.orders pass.ceilings place figures.need choice
       told (told ++ picks)
@@ -70,22 +98,19 @@ BreaksFiguring s orders ceilings place choice told after =
     ⊎ TellsOfGrowth s orders ceilings place choice told after
 
 -- what it told of the school of this id in the last pass
-pub record BreaksInPass (d : DossierRows) (ids : Ids) (orders : List CallOrder)
-    (days : List DayRecord) (desk : DeskStates) (school : ℕ) (choice : List ℕ → List ℕ → ℕ)
-    (told after : List ℕ) : Type 0 where
+pub record BreaksInPass (left : AfterDays) (school : ℕ) (telling : Telling) : Type 0 where
   pub place : ℕ
   pub pass : LastPass
-  pub is_asked : IsAsked d ids orders days desk school place pass
-  pub breaks : BreaksFiguring pass.opening pass.orders pass.ceilings place choice told after
+  pub is_asked : IsAsked left school place pass
+  pub breaks : BreaksFiguring pass.opening pass.orders pass.ceilings place telling.choice
+      telling.before telling.after
 
 -- the same, or nothing
-abbrev pub BreaksFigures : DossierRows → Ids → List CallOrder → List DayRecord → DeskStates → ℕ
-    → (List ℕ → List ℕ → ℕ) → List ℕ → List ℕ → Type 0
-BreaksFigures d ids orders days desk school choice told after =
-    (after ≡ told) ⊎ BreaksInPass d ids orders days desk school choice told after
+abbrev pub BreaksFigures : AfterDays → ℕ → Telling → Type 0
+BreaksFigures left school telling =
+    (telling.after ≡ telling.before) ⊎ BreaksInPass left school telling
 
 -- no other text tells the figures, whatever a picker chooses
-abbrev pub IsOnlyText : DossierRows → Ids → List CallOrder → List DayRecord → DeskStates → ℕ
-    → List ℕ → Type 0
-IsOnlyText d ids orders days desk school text =
-    (other : List ℕ) → TellsFigures d ids orders days desk school other → other ≡ text
+abbrev pub IsOnlyText : AfterDays → ℕ → List ℕ → Type 0
+IsOnlyText left school text =
+    (other : List ℕ) → TellsFigures left school other → other ≡ text

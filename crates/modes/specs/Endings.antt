@@ -21,7 +21,7 @@ use Rattle.request.specs.declared.modes.Mode.{Mode}
 use Rattle.request.specs.declared.modes.Mode.TheVariants.{Order, Replay, Chain, Check, Explain, Envy, Beds, Market}
 use Rattle.request.specs.declared.modes.Mode.TheVariants.{Sample}
 use Rattle.modes.specs.LentPicker.{ArePicks, Asked, BreaksEnding, BreaksPicks, IsLent, TellsAfter, TellsPicks}
-use Rattle.modes.specs.Beds.{TellsFigures}
+use Rattle.modes.specs.Beds.{TellsFigures, seen_after}
 use Rattle.modes.specs.Blocked.{blocked_text}
 use Rattle.modes.specs.Checking.{IsChecked}
 use Rattle.modes.specs.Explained.{IsExplained}
@@ -69,7 +69,7 @@ IsEndOf (Explain wish) view played desk =
     IsDoneSaying (IsExplained view.dossier view.index played.orders played.days desk wish)
 IsEndOf Envy view played desk = IsDoneWith (blocked_text desk.present played.orders)
 IsEndOf (Beds school) view played desk =
-    IsDoneSaying (TellsFigures view.dossier view.index played.orders played.days desk school)
+    IsDoneSaying (TellsFigures (seen_after view played desk) school)
 IsEndOf Market view played desk = IsDoneSaying (TellsMarket view.dossier played.orders)
 IsEndOf (Sample number) view played desk =
     IsDoneWith (sample_text number (length view.dossier.wishes) played.days desk.present)

@@ -7,7 +7,7 @@ use Rattle.played.specs.PlayedDays.{Played}
 use Rattle.request.specs.declared.modes.Mode.{Mode}
 use Rattle.request.specs.declared.modes.Mode.TheVariants.{Beds, Market}
 use Rattle.request.specs.declared.pickers.PickerName.{PickerName}
-use Rattle.modes.specs.Beds.{BreaksFigures, PicksForFigures}
+use Rattle.modes.specs.Beds.{BreaksFigures, PicksForFigures, seen_after}
 use Rattle.modes.specs.Jobs.{JobView, picker_after}
 use Rattle.modes.specs.Market.{BreaksMarket, PicksForMarket}
 
@@ -23,8 +23,7 @@ asked lent name = record { told = lent.told name; choice = lent.choice name }
 -- what the picker that each mode asks tells in the ending; most modes ask nobody
 abbrev pub ArePicks : Mode → JobView → Played → DeskStates → Asked → List ℕ → Type 0
 ArePicks (Beds school) view played desk before picks =
-    PicksForFigures view.dossier view.index played.orders played.days desk school before.choice
-    before.told picks
+    PicksForFigures (seen_after view played desk) school before.choice before.told picks
 ArePicks Market view played desk before picks =
     PicksForMarket view.dossier played.orders before.choice before.told picks
 ArePicks _ view played desk before picks = picks ≡ []
@@ -49,8 +48,8 @@ TellsAfter (Err refusal) view played = Untold
 -- the ending would have told it
 abbrev pub BreaksPicks : Mode → JobView → Played → DeskStates → Asked → List ℕ → Type 0
 BreaksPicks (Beds school) view played desk before told =
-    BreaksFigures view.dossier view.index played.orders played.days desk school before.choice
-    before.told told
+    BreaksFigures (seen_after view played desk) school
+    (record { before = before.told; after = told; choice = before.choice })
 BreaksPicks Market view played desk before told =
     BreaksMarket view.dossier played.orders before.choice before.told told
 BreaksPicks _ view played desk before told = told ≡ before.told

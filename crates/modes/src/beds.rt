@@ -4,7 +4,7 @@ ghost use Rattle.admit_core.specs.DossierRows.{beds_of};
 ghost use Rattle.admit_core.specs.Lists.{is_among};
 ghost use Rattle.bed_need.specs.Figures.{Figures, TellsOfFigures};
 ghost use Rattle.modes.specs.LentPicker.{TellsPicks};
-ghost use Rattle.modes.specs.Beds.{BreaksFigures, BreaksFiguring, IsOnlyText, IsTextOf, PicksForFigures, TellsFigures};
+ghost use Rattle.modes.specs.Beds.{BreaksFigures, BreaksFiguring, IsOnlyText, IsTextOf, PicksForFigures, TellsFigures, after_days};
 ghost use Rattle.modes.specs.Endings.{IsDoneSaying};
 ghost use Rattle.played.specs.LastDays.{IsDeskAfter};
 
@@ -104,18 +104,19 @@ fn school_text(
     requires desk { IsDeskAfter input.now.dossier along.now.orders days.now along.now.desk }
 
     ensures text { IfOk result (λ text. TellsFigures
-        input.now.dossier input.now.index along.now.orders days.now along.now.desk school
-        text.items) }
+        (after_days input.now along.now.orders days.now along.now.desk) school text.items) }
     ensures only { IfOk result (λ text. IsOnlyText
-        input.now.dossier input.now.index along.now.orders days.now along.now.desk school
-        text.items) }
-    ensures picks { IfOk result (λ text. TellsPicks
-        (PicksForFigures input.now.dossier input.now.index along.now.orders days.now along.now.desk
-        school (choice picker.old) (told picker.old))
-        (told picker.old) (told picker.new)) }
+        (after_days input.now along.now.orders days.now along.now.desk) school text.items) }
+    ensures picks { IfOk result (λ text. TellsPicks (PicksForFigures
+        (after_days input.now along.now.orders days.now along.now.desk) school
+        (choice picker.old) (told picker.old)) (told picker.old) (told picker.new)) }
     ensures breaks { OnErr result (BreaksFigures
-        input.now.dossier input.now.index along.now.orders days.now along.now.desk school
-        (choice picker.old) (told picker.old) (told picker.new)) }
+        (after_days input.now along.now.orders days.now along.now.desk) school
+        (record {
+          before = told picker.old;
+          after = told picker.new;
+          choice = choice picker.old;
+        })) }
     ensures choice { choice picker.new ≡ choice picker.old }
 {
     let Some(place) = school_place(&input.index, school) else {
@@ -151,17 +152,22 @@ pub(crate) fn needed(
     requires desk { IsDeskAfter
         input.now.dossier played.last.orders played.days.items played.last.desk }
 
-    ensures text { IfOk result (λ reply. IsDoneSaying
-        (TellsFigures input.now.dossier input.now.index played.entry.last.orders
-        played.entry.days.items played.entry.last.desk school)
+    ensures text { IfOk result (λ reply. IsDoneSaying (TellsFigures
+        (after_days input.now played.entry.last.orders played.entry.days.items
+        played.entry.last.desk) school)
         reply.exit reply.text.items) }
-    ensures picks { IfOk result (λ _. TellsPicks
-        (PicksForFigures input.now.dossier input.now.index played.entry.last.orders
-        played.entry.days.items played.entry.last.desk school (choice picker.old) (told picker.old))
-        (told picker.old) (told picker.new)) }
-    ensures breaks { OnErr result (BreaksFigures input.now.dossier input.now.index
-        played.entry.last.orders played.entry.days.items played.entry.last.desk school
-        (choice picker.old) (told picker.old) (told picker.new)) }
+    ensures picks { IfOk result (λ _. TellsPicks (PicksForFigures
+        (after_days input.now played.entry.last.orders played.entry.days.items
+        played.entry.last.desk) school
+        (choice picker.old) (told picker.old)) (told picker.old) (told picker.new)) }
+    ensures breaks { OnErr result (BreaksFigures
+        (after_days input.now played.entry.last.orders played.entry.days.items
+        played.entry.last.desk) school
+        (record {
+          before = told picker.old;
+          after = told picker.new;
+          choice = choice picker.old;
+        })) }
     ensures choice { choice picker.new ≡ choice picker.old }
 {
     let (days, along) = played.into_along(alloc)?;

@@ -6,10 +6,9 @@ ghost use Rattle.admit_core.specs.Lapses.{AreTermsFor};
 ghost use Rattle.admit_core.specs.Ranges.{IsDay as IsDayNumber};
 ghost use Rattle.certificate.specs.Checked.{ids_in};
 ghost use Rattle.certificate.specs.Grammar.{read};
-ghost use Rattle.certificate.specs.ProvedDays.{evening_after, evening_by};
-ghost use Rattle.desk_day.specs.RunDay.{IsStampedBy, KeepsStamps};
+ghost use Rattle.certificate.specs.ProvedDays.{evening_after};
 ghost use Rattle.intake.specs.Dated.{AreDatedFor, terms_in};
-ghost use Rattle.modes.specs.CheckedDays.{KeepsIn, NamesSchool, TellsWhy};
+ghost use Rattle.modes.specs.CheckedDays.{IsEveningOfDay, IsEveningOfDays, KeepsIn, NamesSchool, TellsWhy};
 ghost use Rattle.modes.specs.Checking.{BeginsWithPass, EndsProof, IsChecked, Replies, proved_text, rejected_at};
 ghost use Rattle.modes.specs.Checking.{why_line, why_none, why_not, why_without};
 ghost use Rattle.modes.specs.Replay.{CanBeDated};
@@ -95,9 +94,8 @@ fn check_next(
 
     ensures found { TellsWhy result (why_not (option_copied terms.entry) grounds.now.orders day
         present.old chain.now) }
-    ensures evening { OnOk result (present.new ≡ evening_by (option_copied terms.entry)
-        grounds.now.orders day present.old chain.now) }
-    ensures stamps { OnOk result (KeepsStamps day present.old present.new) }
+    ensures evening { OnOk result (IsEveningOfDay (option_copied terms.entry) grounds.now.orders day
+        present.old chain.now present.new) }
     ensures memory { result ≡ Err unproved.OutOfMemory → chain.now.passes ≢ [] }
     ensures school { IfErr result (KeepsIn (length present.old.dossier.schools)) }
 {
@@ -124,10 +122,8 @@ fn check_days(
 
     ensures found { TellsWhy result (why_none (option_copied terms.entry) grounds.now.orders 1
         present.old days.now) }
-    ensures evening { OnOk result (present.new ≡ evening_after (option_copied terms.entry)
-        grounds.now.orders 1 present.old days.now) }
-    ensures stamps { OnOk result (All (IsStampedBy 366) present.old.marks → All (IsStampedBy 366)
-        present.new.marks) }
+    ensures evening { OnOk result (IsEveningOfDays (option_copied terms.entry) grounds.now.orders
+        present.old days.now present.new) }
     ensures school { IfErr result (KeepsIn (length present.old.dossier.schools)) }
     ensures memory { result ≡ Err unproved.OutOfMemory → BeginsWithPass days.now }
 {

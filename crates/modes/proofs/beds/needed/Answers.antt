@@ -7,7 +7,7 @@ use Rattle.played.specs.LastDays.{IsDeskAfter}
 use Rattle.played.specs.LastDesks.{DeskBy}
 use Rattle.std.proofs.lemmas.Result.{IfOk-from_err}
 use Rattle.modes.specs.LentPicker.{TellsPicks}
-use Rattle.modes.specs.Beds.{BreaksFigures, PicksForFigures, TellsFigures}
+use Rattle.modes.specs.Beds.{BreaksFigures, PicksForFigures, TellsFigures, after_days}
 use Rattle.modes.proofs.Lending.{same_led}
 use Rattle.modes.proofs.beds.needed.Goals as goal
 
@@ -39,15 +39,17 @@ pub returns-in_err-text-clause-breaks : goal.returns-in_err-text-clause-breaks
 returns-in_err-text-clause-breaks g c =
     let called = ap (λ (x : DeskBy). x.orders) c.in_ok-days.ensures.along in
     let led = ap (λ (x : DeskBy). x.desk) c.in_ok-days.ensures.along in
-    let d = c.args.input.now.dossier in
-    let index = c.args.input.now.index in
+    let input = c.args.input.now in
     let school = c.args.school in
     let before = goal.Picker-dyn g c.args.picker.now in
     let after = goal.Picker-dyn g (c.args.picker.now.0, c.school_text.new.picker) in
     on_err c.from_residual-in_err-text.result
     (same_led (λ (o : List CallOrder) (ds : List DayRecord) (k : DeskStates).
-    BreaksFigures d index o ds k school (before.choice c.args.picker.now.1) (before.told c.args.picker.now.1)
-    (after.told c.school_text.new.picker))
+    BreaksFigures (after_days input o ds k) school (record {
+      before = before.told c.args.picker.now.1;
+      after = after.told c.school_text.new.picker;
+      choice = before.choice c.args.picker.now.1;
+    }))
     called (c.as_slice.ensures.value ∙ c.in_ok-days.ensures.days)
     led c.in_err-text.ensures.breaks)
 
@@ -61,14 +63,14 @@ pub returns-clause-text : goal.returns-clause-text
 returns-clause-text g c =
     let called = ap (λ (x : DeskBy). x.orders) c.in_ok-days.ensures.along in
     let led = ap (λ (x : DeskBy). x.desk) c.in_ok-days.ensures.along in
-    let d = c.args.input.now.dossier in
-    let index = c.args.input.now.index in
-    let school = c.args.school in (
+    let input = c.args.input.now in
+    let school = c.args.school in
+    let played = c.args.played in (
       c.done.ensures.exit,
-      subst (TellsFigures d index c.args.played.last.orders c.args.played.days.items c.args.played.last.desk school)
+      subst (TellsFigures (after_days input played.last.orders played.days.items played.last.desk) school)
           (sym c.done.ensures.text)
-          (same_led (λ (o : List CallOrder) (ds : List DayRecord) (k : DeskStates). TellsFigures d index o ds k school
-          c.in_ok-text.text.items)
+          (same_led (λ (o : List CallOrder) (ds : List DayRecord) (k : DeskStates).
+          TellsFigures (after_days input o ds k) school c.in_ok-text.text.items)
           called (c.as_slice.ensures.value ∙ c.in_ok-days.ensures.days)
           led c.in_ok-text.ensures.text),
     )
@@ -77,13 +79,12 @@ pub returns-clause-picks : goal.returns-clause-picks
 returns-clause-picks g c =
     let called = ap (λ (x : DeskBy). x.orders) c.in_ok-days.ensures.along in
     let led = ap (λ (x : DeskBy). x.desk) c.in_ok-days.ensures.along in
-    let d = c.args.input.now.dossier in
-    let index = c.args.input.now.index in
+    let input = c.args.input.now in
     let school = c.args.school in
     let before = goal.Picker-dyn g c.args.picker.now in
     let after = goal.Picker-dyn g (c.args.picker.now.0, c.school_text.new.picker) in
     same_led (λ (o : List CallOrder) (ds : List DayRecord) (k : DeskStates).
-    TellsPicks (PicksForFigures d index o ds k school (before.choice c.args.picker.now.1)
+    TellsPicks (PicksForFigures (after_days input o ds k) school (before.choice c.args.picker.now.1)
     (before.told c.args.picker.now.1))
     (before.told c.args.picker.now.1) (after.told c.school_text.new.picker))
     called (c.as_slice.ensures.value ∙ c.in_ok-days.ensures.days)

@@ -34,13 +34,13 @@ check_days-requires-clause-terms c =
 pub proved_text-requires : goal.proved_text-requires
 proved_text-requires c =
     let dated = option_copied c.args.dated in
-    let stays = ap (λ (t : State). t.dossier) c.in_ok-check_days.ensures.evening
+    let stays = ap (λ (t : State). t.dossier) c.in_ok-check_days.ensures.evening.is
     ∙ days_stay (option_copied c.terms_in.result) c.along-grounds.result.orders 1 c.begin-present.result
     c.args.days.now in
     subst (CanBeDated dated) (sym c.into_now.ensures)
     (evening_dated c.args.input.now.dossier dated c.begin-present.result c.check_days.new.present
     (c.begin-present.ensures ∙ c.in_ok-first.ensures.now ∙ c.requires.first) stays
-    c.in_ok-check_days.ensures.stamps c.requires.dated)
+    c.in_ok-check_days.ensures.evening.stamps c.requires.dated)
 
 pub returns-clause-tells : goal.returns-clause-tells
 returns-clause-tells c =
@@ -55,6 +55,6 @@ returns-clause-text c =
     let begun : c.begin-present.result ≡ first_evening c.args.input.now.dossier =
     c.begin-present.ensures ∙ c.in_ok-first.ensures.now ∙ c.requires.first in
     let days = c.args.days.now in
-    let evening = c.in_ok-check_days.ensures.evening ∙ evening_alike days c.terms_in.ensures lent begun in
+    let evening = c.in_ok-check_days.ensures.evening.is ∙ evening_alike days c.terms_in.ensures lent begun in
     c.in_ok-proved_text.ensures
     ∙ ap (λ (s : State). proved_text (length days) s (option_copied c.args.dated)) (c.into_now.ensures ∙ evening)

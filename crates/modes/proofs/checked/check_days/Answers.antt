@@ -1,4 +1,5 @@
 use Rattle.std.proofs.Common.{◌∙◌, ◌+◌, ◌≤◌, Err, ap, arith, drop, subst, sym}
+use Rattle.std.proofs.lemmas.List.{drop_all}
 use Rattle.std.proofs.lemmas.Result.{err_from_is_err_and}
 use Rattle.std.specs.Option.{option_copied}
 use Rattle.admit_core.specs.DossierRows.{DossierRows}
@@ -34,14 +35,23 @@ loop-place-preserved c =
     let within : i + 1 ≤ 366 = omega (arith, c.requires.days) in
     record {
       why = days_go_on terms orders (i + 1) s next chain rest _
-          (inv.why ∙ ap (why_none terms orders (i + 1) s) here) after.found after.evening;
+          (inv.why ∙ ap (why_none terms orders (i + 1) s) here) after.found after.evening.is;
       evening = evening_goes_on terms orders (i + 1) s next chain rest _
-          (inv.evening ∙ ap (evening_after terms orders (i + 1) s) here) after.evening;
-      dossier = ap (λ (t : State). t.dossier) after.evening
+          (inv.evening ∙ ap (evening_after terms orders (i + 1) s) here) after.evening.is;
+      dossier = ap (λ (t : State). t.dossier) after.evening.is
           ∙ evening_stays terms orders (i + 1) s chain ∙ inv.dossier;
-      stamped = λ all. after.stamps 366 within (inv.stamped all);
+      stamped = λ all. after.evening.stamps 366 within (inv.stamped all);
       begins = λ more. inv.begins (subst BeginsWithPass (sym here)
           (has_pass terms orders (i + 1) s chain after.found));
+    }
+
+pub returns-clause-evening : goal.returns-clause-evening
+returns-clause-evening c =
+    let k = c.loop-place.place in
+    let after = evening_after (option_copied c.args.terms) c.args.grounds.now.orders (k + 1) c.loop-place.present in
+    record {
+      is = sym (c.loop-place.invariant.evening ∙ ap after (drop_all k c.args.days.now c.loop-place-test.false));
+      stamps = c.loop-place.invariant.stamped;
     }
 
 pub check_next-requires-clause-day : goal.check_next-requires-clause-day

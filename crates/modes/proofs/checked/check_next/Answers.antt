@@ -5,7 +5,7 @@ use Rattle.admit_core.specs.Days.{ceilings_of}
 use Rattle.admit_core.specs.DossierRows.{DossierRows}
 use Rattle.admit_core.specs.State.{State}
 use Rattle.modes.specs.CheckedDays.{KeepsIn}
-use Rattle.modes.proofs.CheckedDay.{chain_tells, keeps_stamps, leads}
+use Rattle.modes.proofs.CheckedDay.{chain_tells, is_evening}
 use Rattle.modes.proofs.checked.check_next.Goals as goal
 
 pub check_morning-requires-clause-same : goal.check_morning-requires-clause-same
@@ -40,19 +40,7 @@ returns-clause-evening c =
     ∙ ap (λ (d : DossierRows). ceilings_of d c.args.day)
     (c.dossier.ensures ∙ ap (λ (t : State). t.dossier) c.now.ensures) in
     on_ok_weaker c.check_morning.result
-    (leads (option_copied c.args.terms) c.args.grounds.now.orders c.args.day c.args.present.now c.begin_day.new.self
-    c.deref.result.now c.args.chain.now
-    c.in_ok-begin_day.ensures.begun.fits c.in_ok-begin_day.ensures.begun.state under c.check_morning.new.present)
-    c.check_morning.ensures.valid
-
-pub returns-clause-stamps : goal.returns-clause-stamps
-returns-clause-stamps c =
-    let under = c.deref.ensures.value ∙ c.in_ok-ceilings.ensures.ceilings
-    ∙ ap (λ (d : DossierRows). ceilings_of d c.args.day)
-    (c.dossier.ensures ∙ ap (λ (t : State). t.dossier) c.now.ensures) in
-    on_ok_weaker c.check_morning.result
-    (keeps_stamps (option_copied c.args.terms) c.args.grounds.now.orders c.args.day c.args.present.now
-    c.begin_day.new.self
-    c.deref.result.now c.args.chain.now
+    (is_evening (option_copied c.args.terms) c.args.grounds.now.orders c.args.day c.args.present.now
+    c.begin_day.new.self c.deref.result.now c.args.chain.now
     c.in_ok-begin_day.ensures.begun.fits c.in_ok-begin_day.ensures.begun.state under c.check_morning.new.present)
     c.check_morning.ensures.valid
