@@ -19,7 +19,6 @@ BAD_WORDS = (
 )
 OTHER_TEXT = '#!/bin/sh\necho "$1"\n'
 # The script `parcours` looks at 64,000 blocks of 1024 bytes.
-LARGE = 70_000_000
 
 
 def call(program: str, *words: str, runs: str = "1") -> Ended:
@@ -83,13 +82,10 @@ def check_start(tally: Tally) -> None:
     """Programs are started as the script `parcours` starts its own."""
     tally.begin("measure.sh, how it starts programs")
     with scratch() as folder:
-        for length, threshold in ((0, 8 << 20), (LARGE, 32 << 20)):
-            with (folder / "rankings.csv").open("wb") as file:
-                file.truncate(length)
-            given = surroundings(folder)
-            expected = ["glibc.malloc.hugetlb=1", f"glibc.malloc.mmap_threshold={threshold}"]
-            tally.equal(f"rankings of {length} bytes", given["GLIBC_TUNABLES"].split(":")[:2], expected)
-            tally.equal("symbols are bound at once", given["LD_BIND_NOW"], "1")
+        given = surroundings(folder)
+        tally.equal("huge pages, and blocks that go back", given["GLIBC_TUNABLES"].split(":")[:2],
+                    ["glibc.malloc.hugetlb=1", f"glibc.malloc.mmap_threshold={8 << 20}"])
+        tally.equal("symbols are bound at once", given["LD_BIND_NOW"], "1")
 
 
 def columns(folder: Path, slot: str) -> list[dict[str, str]]:
