@@ -28,7 +28,7 @@ use Rattle.played.specs.Lent.{Lent}
 use Rattle.played.specs.OneDay.{DayEndsWith, TellsWhereUndone}
 use Rattle.played.specs.PlayedDays.{BreaksDays, EndsNext, IsPlayed, OnFit, Plan, Played, first_desk}
 use Rattle.played.proofs.DaysSoFar.{SoFar, all_played, cut_short, lead_dossier, none_played, nothing_played, played_on}
-use Rattle.played.proofs.DaysSoFar.{plays_all, plays_out, plays_some}
+use Rattle.played.proofs.DaysSoFar.{plays_all, plays_out, plays_some, still}
 
 -- one day with one picker
 ok_so : {A E P : Type 0} (r : Result A E) → P → IfOk r (λ x. P)
@@ -108,11 +108,15 @@ pub none_kept : (keeps : Bool) (plan : Plan) (begun : DeskStates) (before : Lent
     → IsKeptOf (map (kept_day keeps)) (λ days. SoFar plan begun before 0 days begun before) kept
 none_kept keeps plan begun before kept none = ([], nothing_played plan begun before [] refl, none)
 
-module _ (keeps : Bool) (plan : Plan) (old : DeskStates) (before : Lent) (played : ℕ) (kept : List DayRecord)
-    (mid : DeskStates) (between : Lent)
+module _ (keeps : Bool) {plan : Plan} {old mid : DeskStates} {before between : Lent} {played : ℕ}
+    {kept : List DayRecord}
     (so_far : IsKeptOf (map (kept_day keeps)) (λ days. SoFar plan old before played days mid between) kept) where
   abbrev Next : DeskStates → Lent → Result DayRecord DayRefusal → Type 0
   Next new after = IsKeptOf (kept_result keeps) (λ r. EndsNext plan (played + 1) mid between r new after)
+
+  -- what holds of the dossier holds of it still
+  pub kept_still : (P : DossierRows → Type 0) → P old.present.dossier → P mid.present.dossier
+  kept_still = still plan old before played so_far.0 mid between so_far.1
 
   -- one more day
   pub kept_on : (day : DayRecord) (more : List DayRecord) (new : DeskStates) (after : Lent) → Next new after (Ok day)
@@ -157,24 +161,26 @@ module _ (keeps : Bool) (plan : Plan) (old : DeskStates) (before : Lent) (played
     keeps_so = so_far.2;
   }
 
+-- what was played, and what is kept of it
+abbrev with_days : Plan → Result DeskLeft Refusal → List DayRecord → Played
+with_days plan end days = record { orders = plan.orders; days = days; end = desk_in end }
+
+abbrev IsAll : Bool → DossierRows → ℕ → Plan → Lent → Lent → List DayRecord → Result DeskLeft Refusal → Type 0
+IsAll keeps d number plan before after kept end =
+    EndsBy plan.orders number (λ played. IsPlayedKept keeps d plan.terms number plan.who before played after) kept end
+
 -- what became of the days that were asked for
-module _ (keeps : Bool) (d : DossierRows) (number : ℕ) (plan : Plan) (old new : DeskStates) (before after : Lent)
-    (kept : List DayRecord) (end : Result DeskLeft Refusal)
+module _ (d : DossierRows) {keeps : Bool} {number : ℕ} {plan : Plan} {old new : DeskStates} {before after : Lent}
+    {kept : List DayRecord} {end : Result DeskLeft Refusal}
     (called : AreCallOrders d.groups plan.orders) (begun : old ≡ first_desk d) where
-  abbrev with_days : List DayRecord → Played
-  with_days days = record { orders = plan.orders; days = days; end = desk_in end }
-
-  abbrev IsAll : Type 0
-  IsAll = EndsBy plan.orders number (λ played. IsPlayedKept keeps d plan.terms number plan.who before played after)
-      kept end
-
   pub all_kept : 0 < number → PlaysDaysKept keeps plan number old before kept (Ok tt) new after
-      → end ≡ Ok (record { desk = new; orders = plan.orders; is_begun = true }) → IsAll
+      → end ≡ Ok (record { desk = new; orders = plan.orders; is_begun = true })
+      → IsAll keeps d number plan before after kept end
   all_kept some plays is = record {
     plays = (
-      with_days plays.days,
+      with_days plan end plays.days,
       all_played d number plan old new before after plays.days (desk_in end) called begun plays.plays (ap desk_in is),
-      ap with_days plays.keeps_so,
+      ap (with_days plan end) plays.keeps_so,
     );
     left = subst (λ (e : Result DeskLeft Refusal). IfOk e (IsLeftBy plan.orders number)) (sym is)
         (record { by_orders = refl; begun = sym (lt-ltb 0 number some) });
@@ -182,31 +188,31 @@ module _ (keeps : Bool) (d : DossierRows) (number : ℕ) (plan : Plan) (old new 
 
   pub cut_kept : (refusal : Refusal)
       → PlaysDaysKept keeps plan number old before kept (Err (refusals.Unfit refusal)) new after → end ≡ Err refusal
-      → IsAll
+      → IsAll keeps d number plan before after kept end
   cut_kept refusal plays is = record {
     plays = (
-      with_days plays.days,
+      with_days plan end plays.days,
       cut_short d number plan old new before after plays.days (desk_in end) called begun refusal plays.plays
           (ap desk_in is),
-      ap with_days plays.keeps_so,
+      ap (with_days plan end) plays.keeps_so,
     );
     left = subst (λ (e : Result DeskLeft Refusal). IfOk e (IsLeftBy plan.orders number)) (sym is) tt;
   }
 
 -- the desk after days is of the roster's dossier still
-pub along_still : (keeps : Bool) (plan : Plan) (number : ℕ) (old new : DeskStates) (before after : Lent)
-    (kept : List DayRecord) (d : DossierRows) → PlaysDaysKept keeps plan number old before kept (Ok tt) new after
+pub along_still : {keeps : Bool} {plan : Plan} {number : ℕ} {old new : DeskStates} {before after : Lent}
+    {kept : List DayRecord} {d : DossierRows} → PlaysDaysKept keeps plan number old before kept (Ok tt) new after
     → d ≡ old.present.dossier → d ≡ new.present.dossier
-along_still keeps plan number old new before after kept d plays same =
+along_still {plan = plan} {old = old} {before = before} plays same =
     same ∙ sym (lead_dossier plan 1 old before plays.days plays.plays.last plays.plays.lead)
     ∙ ap (λ (desk : DeskStates). desk.present.dossier) (sym plays.plays.stops.1)
 
 -- memory ran out on one of the days
-pub breaks_kept : (keeps : Bool) (plan : Plan) (number : ℕ) (old new : DeskStates) (before after : Lent)
-    (kept : List DayRecord) (d : DossierRows) → old ≡ first_desk d
+pub breaks_kept : (d : DossierRows) {keeps : Bool} {plan : Plan} {number : ℕ} {old new : DeskStates}
+    {before after : Lent} {kept : List DayRecord} → old ≡ first_desk d
     → PlaysDaysKept keeps plan number old before kept (Err refusals.OutOfMemory) new after
     → BreaksDays plan number (first_desk d) before after
-breaks_kept keeps plan number old new before after kept d begun plays =
+breaks_kept d {plan = plan} {number = number} {before = before} {after = after} begun plays =
     subst (λ (desk : DeskStates). BreaksDays plan number desk before after) begun plays.plays.breaks
 
 -- what is said where memory ran out
@@ -216,13 +222,13 @@ where_broken P Q Breaks (Ok x) is breaks = absurd is
 where_broken P Q Breaks (Err e) is breaks = breaks
 
 -- along a roster, by the orders that it was made of
-pub kept_by_orders : (keeps : Bool) (one other : List CallOrder) (terms : Option Terms) (who : PickerChoice)
-    (number : ℕ)
-    (old : DeskStates) (before : Lent) (kept : List DayRecord) (result : Result (Unit {0}) DayRefusal)
-    (new : DeskStates) (after : Lent) → one ≡ other
+pub kept_by_orders : {keeps : Bool} {one other : List CallOrder} {terms : Option Terms} {who : PickerChoice}
+    {number : ℕ} {old new : DeskStates} {before after : Lent} {kept : List DayRecord}
+    {result : Result (Unit {0}) DayRefusal} → one ≡ other
     → PlaysDaysKept keeps (record { orders = one; terms = terms; who = who }) number old before kept result new after
     → PlaysDaysKept keeps (record { orders = other; terms = terms; who = who }) number old before kept result new after
-kept_by_orders keeps one other terms who number old before kept result new after same plays =
+kept_by_orders {keeps = keeps} {terms = terms} {who = who} {number = number} {old = old} {new = new} {before = before}
+    {after = after} {kept = kept} {result = result} same plays =
     subst (λ (orders : List CallOrder).
     PlaysDaysKept keeps (record { orders = orders; terms = terms; who = who }) number old before kept result new after)
     same plays

@@ -8,7 +8,7 @@ use Rattle.played.proofs.days.play_some.Goals as goal
 
 pub invariant_of-after_days : goal.invariant_of-after_days
 invariant_of-after_days g c =
-    along_still _ _ _ _ _ _ _ _ _ c.in-Ok.ensures.plays
+    along_still c.in-Ok.ensures.plays
     (c.into_parts-desk.ensures.dossier
     ∙ ap (λ (k : DeskStates). k.present.dossier) (sym c.into_parts-desk.ensures.desk))
 
@@ -19,16 +19,16 @@ returns-in-Ok-clause-ends g c =
     let left : List CallOrder → DeskLeft =
     λ orders. record { desk = c.play_days.new.desk; orders = orders; is_begun = true } in
     let ended : DeskLeft → Result DeskLeft Refusal = λ last. Ok last in
-    all_kept _ _ _ _ _ _ _ _ _ _ c.requires.orders begun c.requires.some_day
-    (kept_by_orders _ _ _ _ _ _ _ _ _ _ _ _ same c.in-Ok.ensures.plays)
+    all_kept c.args.dossier.now c.requires.orders begun c.requires.some_day
+    (kept_by_orders same c.in-Ok.ensures.plays)
     (ap ended (c.after_days.ensures ∙ ap left same))
 
 pub returns-in-Err-Unfit-clause-ends : goal.returns-in-Err-Unfit-clause-ends
 returns-in-Err-Unfit-clause-ends g c =
     let same = c.into_parts-desk.ensures.orders ∙ ap (λ (x : DeskBy). x.orders) c.in_ok-begin.ensures in
     let begun = c.into_parts-desk.ensures.desk ∙ ap (λ (x : DeskBy). x.desk) c.in_ok-begin.ensures in
-    cut_kept _ _ _ _ _ _ _ _ _ _ c.requires.orders begun c.in-Err-Unfit.refusal
-    (kept_by_orders _ _ _ _ _ _ _ _ _ _ _ _ same (rw c.in-Err-Unfit.field-0-is at c.in-Err-Unfit.ensures.plays)) refl
+    cut_kept c.args.dossier.now c.requires.orders begun c.in-Err-Unfit.refusal
+    (kept_by_orders same (rw c.in-Err-Unfit.field-0-is at c.in-Err-Unfit.ensures.plays)) refl
 
 pub returns-in_err-begin-clause-ends : goal.returns-in_err-begin-clause-ends
 returns-in_err-begin-clause-ends g c =
@@ -38,6 +38,6 @@ pub returns-clause-ends : goal.returns-clause-ends
 returns-clause-ends g c =
     let same = c.into_parts-desk.ensures.orders ∙ ap (λ (x : DeskBy). x.orders) c.in_ok-begin.ensures in
     let begun = c.into_parts-desk.ensures.desk ∙ ap (λ (x : DeskBy). x.desk) c.in_ok-begin.ensures in
-    breaks_kept _ _ _ _ _ _ _ _ _ begun
-    (kept_by_orders _ _ _ _ _ _ _ _ _ _ _ _ same
+    breaks_kept c.args.dossier.now begun
+    (kept_by_orders same
     (rw c.in-Err-OutOfMemory.field-0-is at c.in-Err-OutOfMemory.ensures.plays))
