@@ -56,6 +56,9 @@ def check_tools(tally: Tally, prefix: Path, place: Path) -> None:
                   ("parcours-in_words", "--help"), ("parcours-take_in", "--version")):
         ended = installed(prefix, place, *words)
         tally.check(" ".join(words), ended.status == 0 and ended.output != b"", ended)
+    ended = run(prefix / "bin/parcours-audit_day", "dossier", "1", folder=place, environment={"PARCOURS": ""})
+    proved = f"chain      ok: proved by {(prefix / 'lib/torchpoppy/program').resolve()}, "
+    tally.check("audit_day, bin not on the PATH", ended.status == 0 and proved in ended.output.decode(), ended)
     tally.equal("the slots", (place / "dossier/groups.csv").read_bytes(),
                 (EXAMPLES / "lycee/slots/groups.csv").read_bytes())
     lines = installed(prefix, place, "parcours", "--version").output.decode().splitlines()
