@@ -131,7 +131,9 @@ def check_headers(tally: Tally) -> None:
     found, complaint = Sheets(ordered).prepared("wishes.csv")
     is_asked = found == "" and '--column "ordre=preference"' in complaint
     tally.check("an order may be one of preference, or of the rows", is_asked, complaint)
-    for titles, is_for_take_in in (("Réponse;Candidat;Vœu", True), ("Réponse;Vœu", True), ("Jour;Réponse;Vœu", False)):
+    for titles, is_for_take_in in (
+        ("Réponse;Candidat;Vœu", True), ("Réponse;Vœu", True), ("Réponse;Vœu ou candidat", True), ("kind,target", True),
+        ("Jour;Réponse;Vœu", False), ("Le;Réponse;Vœu ou candidat", False)):
         found, complaint = Sheets({**whole, "answers.csv": f"{titles}\n".encode()}).prepared("answers.csv")
         is_told = ("give it to take_in" in complaint or "donnez-la à take_in" in complaint) == is_for_take_in
         tally.check(f"{titles}, a sheet for take_in", found == "" and is_told, complaint)

@@ -154,12 +154,14 @@ def differing(slots: Sequence[Slot], titles: Sequence[str], chosen: Mapping[str,
 
 
 def is_for_take_in(titles: Sequence[str], chosen: Mapping[str, str]) -> bool:
-    """Whether they are those of a day's answers, which have no day, or tell the wish and the candidate apart."""
+    """Whether they are those of a day's answers, which have no day, or tell the wish and the candidate apart. A title that
+    is unknown beside a target may be that of the days."""
     header = matched(ANSWER_SHEET, titles, chosen)
     named = set(header.places) if header else set()
     is_wishes = bool(candidates_for(WISHES.column("programme"), [fold(title) for title in titles], chosen))
-    return not is_wishes and "target" not in named and ({"wish", "candidate"} <= named
-                                                        or "day" not in named and bool({"wish", "candidate"} & named))
+    if is_wishes or "target" in named and ("day" in named or unknown_titles(ANSWER_SHEET, titles, chosen)):
+        return False
+    return {"wish", "candidate"} <= named or "day" not in named and bool({"target", "wish", "candidate"} & named)
 
 
 def difference_of(column: Column, slot: Slot, titles: Sequence[str],
