@@ -123,7 +123,7 @@ def main():
     for crate in crates:
         for path in sorted(glob.glob(f"{ROOT}/crates/{crate}/[sp]*/**/*.antt", recursive=True)):
             left += break_file(path)
-    print(f"{left} lines have over {MOST} characters")
+    print(f"{left} {'line has' if left == 1 else 'lines have'} over {MOST} characters")
     return 1 if left else 0
 
 

@@ -45,8 +45,7 @@ def main():
         for line in sorted(lines.elements()):
             print(mark, line)
     print(f"{sum(found.values())} lines answer that memory ran out, or state a size; "
-          f"{sum((found - known).values())} are new, "
-          f"{sum((known - found).values())} are gone")
+          f"{sum((found - known).values())} new, {sum((known - found).values())} gone")
     return int(found != known)
 
 

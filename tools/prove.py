@@ -180,7 +180,7 @@ def main(folder):
     new = [it for it in libraries if not is_kept(it)]
     chain = max((way_up(it, new) for it in new), default=0)
     minutes = 2 + max(chain / 2, sum(map(cost, new)) / width) / LINES_A_MINUTE
-    say(f"{len(new)} of {len(libraries)} libraries are to be proved, which takes about {minutes:.0f} minutes")
+    say(f"libraries to be proved: {len(new)} of {len(libraries)}, which takes about {minutes:.0f} minutes")
     failed = prove(libraries, width)
     for crate in failed:
         say(f"{crate.name} is not proved: {crate.folder}/out/proved.log says why")

@@ -56,7 +56,7 @@ def main():
         print(same)
         for path, name in places:
             print(f"    {path}: {name}")
-    print(f"{len(twice)} statements stand more than once")
+    print(f"{len(twice)} {'statement stands' if len(twice) == 1 else 'statements stand'} more than once")
     return 1 if twice else 0
 
 

@@ -30,7 +30,7 @@ def check_same_lemmas(tally: Tally) -> None:
         tally.equal("none", look(folder, one=ONE, other=OTHER), (0, ["0 statements stand more than once"]))
     with scratch() as folder:
         said = ["($0 : Bool) → ($0 || $0) ≡ $0", "    crates/one/proofs/Facts.antt: or_twice",
-                "    crates/twin/proofs/Facts.antt: or_same", "1 statements stand more than once"]
+                "    crates/twin/proofs/Facts.antt: or_same", "1 statement stands more than once"]
         tally.equal("under other names", look(folder, one=ONE, twin=TWIN), (1, said))
     ended = run(TOOLS / "same_lemmas.py")
     tally.equal("the crates", (ended.status, ended.output), (0, b"0 statements stand more than once\n"))
@@ -81,9 +81,9 @@ CASES = """pub fn witnesses()
 """
 def check_memory_answers(tally: Tally) -> None:
     tally.begin("memory_answers.py")
-    for fault, code, said in (("handed on", "read(alloc)?", "0 are new, 1 are gone"),
-                              ("the one that is known", "Err(OutOfMemory)", "0 are new, 0 are gone"),
-                              ("a new one", "Err(AllocError)", "1 are new, 1 are gone")):
+    for fault, code, said in (("handed on", "read(alloc)?", "0 new, 1 gone"),
+                              ("the one that is known", "Err(OutOfMemory)", "0 new, 0 gone"),
+                              ("a new one", "Err(AllocError)", "1 new, 1 gone")):
         with scratch() as folder:
             (folder / "tools").mkdir()
             (folder / "crates/one/src").mkdir(parents=True)

@@ -60,8 +60,9 @@ EXPORT_MISSING = Text("export those sheets too; for one without rows copy its fi
                       "comme {file}.")
 TOO_MANY_ROWS = Text("it has more than {most} rows.", "il a plus de {most} lignes.")
 FEWER_ROWS = Text("leave out what is not of this dossier.", "n'y laissez que ce qui est de ce dossier.")
-FEW_CELLS = Text("it has {found} cells, and the row of names has {width}.",
-                 "elle a {found} cellules, et la ligne de titres en a {width}.")
+FEW_CELLS = Text("it has {cells}, and the row of names has {width}.",
+                 "elle a {cells}, et la ligne de titres en a {width}.")
+CELL, CELLS = Text("cell", "cellule"), Text("cells", "cellules")
 WRITE_CELLS = Text("write the cells that are missing, or export the sheet again.",
                    "écrivez les cellules qui manquent, ou exportez de nouveau la feuille.")
 UNNAMED_CELL = Text("it has a cell in a column without a name.", "elle a une cellule dans une colonne sans titre.")

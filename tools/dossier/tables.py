@@ -9,9 +9,10 @@ from dataclasses import dataclass, field
 from .cells import DateOrder, Rates, rates_of
 from .faults import Faults, Row
 from .headers import Header
-from .messages import FEW_CELLS, FEWER_ROWS, NAME_IT, TOO_MANY_ROWS, UNNAMED_CELL, WRITE_CELLS
+from .messages import CELL, CELLS, FEW_CELLS, FEWER_ROWS, NAME_IT, TOO_MANY_ROWS, UNNAMED_CELL, WRITE_CELLS
 from .slots import MOST_ROWS, Column, Content, Slot, Thing
 from .sources import CHUNK, AnySheet, records_of
+from .texts import Counted
 from .values import FAULT, QUIT, Reader, Spellings, Values, no_values, numerals_of, reader_of
 
 LARGE = 400_000
@@ -187,7 +188,8 @@ class Reading:
     def _is_whole(self, cells: list[str], number: int) -> bool:
         width = self.header.width
         if len(cells) < width:
-            self.faults.at(Row(self.table.sheet, number), FEW_CELLS.of(found=len(cells), width=width), WRITE_CELLS.of())
+            found = Counted(len(cells), CELL, CELLS)
+            self.faults.at(Row(self.table.sheet, number), FEW_CELLS.of(cells=found, width=width), WRITE_CELLS.of())
             return False
         if any(map(str.strip, cells[width:])) or any(cells[place].strip() for place in self.unnamed):
             self.faults.at(Row(self.table.sheet, number), UNNAMED_CELL.of(), NAME_IT.of())
