@@ -1,6 +1,7 @@
 """Real workbooks: made by LibreOffice, as `.ods` and `.xlsx` and as exports of all their sheets, and prepared."""
 
 import shutil
+import zipfile
 from pathlib import Path
 from xml.sax.saxutils import escape
 
@@ -99,6 +100,58 @@ def check_workbooks(tally: Tally) -> None:
             tally.check(f"{kind}: its answers", ended.status == 0 and b"4" in ended.output, ended)
         check_exports(tally, place, expected)
         check_broken(tally, place)
+
+
+EXCEL = "http://schemas.openxmlformats.org/spreadsheetml/2006/main"
+LINKS = "http://schemas.openxmlformats.org/officeDocument/2006/relationships"
+TITLES, NUMBERS = ("formation", "groupe", "places", "rang limite"), ("7", "1", "2")
+
+
+def write_xlsx(path: Path, last: str) -> None:
+    """Programmes in a workbook by hand, of which the last cell is this one."""
+    titles = "".join(f'<c t="inlineStr"><is><t>{title}</t></is></c>' for title in TITLES)
+    numbers = "".join(f"<c><v>{number}</v></c>" for number in NUMBERS)
+    with zipfile.ZipFile(path, "w") as archive:
+        archive.writestr("xl/workbook.xml", f'<workbook xmlns="{EXCEL}" xmlns:r="{LINKS}"><sheets>'
+                                            '<sheet name="Formations" r:id="r1"/></sheets></workbook>')
+        archive.writestr("xl/_rels/workbook.xml.rels", '<Relationships><Relationship Id="r1" '
+                                                       'Target="worksheets/sheet1.xml"/></Relationships>')
+        archive.writestr("xl/worksheets/sheet1.xml", f'<worksheet xmlns="{EXCEL}"><sheetData><row>{titles}</row>'
+                                                     f"<row>{numbers}{last}</row></sheetData></worksheet>")
+
+
+def write_ods(path: Path, last: str) -> None:
+    titles, numbers = "".join(map(cell_of, TITLES)), "".join(cell_of(f"#{number}") for number in NUMBERS)
+    with zipfile.ZipFile(path, "w") as archive:
+        archive.writestr("content.xml", f'<office:document {SPACES}><table:table table:name="Formations">'
+                                        f"<table:table-row>{titles}</table:table-row><table:table-row>{numbers}{last}"
+                                        "</table:table-row></table:table></office:document>")
+
+
+def check_formulas(tally: Tally) -> None:
+    """A formula of which a workbook has no value is no empty cell; one whose value is an empty text is. Faults are told
+    with the rows of the sheet."""
+    tally.begin("prepare, workbooks by hand: formulas, and faults")
+    for write, name, last, expected in (
+        (write_xlsx, "x.xlsx", "<c><f>C2+1</f><v></v></c>", "=C2+1 is a formula"),
+        (write_xlsx, "x.xlsx", "<c><f>C2+1</f></c>", "=C2+1 is a formula"),
+        (write_xlsx, "x.xlsx", "<c><f>C2+1</f><v>3</v></c>", "7,1,2,3"),
+        (write_xlsx, "x.xlsx", '<c t="str"><f>""</f><v></v></c>', "7,1,2,0"), (write_xlsx, "x.xlsx", "<c/>", "7,1,2,0"),
+        (write_ods, "x.ods", '<table:table-cell table:formula="of:=[.C2]+1"/>', "=[.C2]+1 is a formula"),
+        (write_ods, "x.ods", '<table:table-cell table:formula="of:=A9" office:value-type="string"/>', "7,1,2,0"),
+        (write_ods, "x.ods", cell_of("#3"), "7,1,2,3"),
+        (write_ods, "x.ods", cell_of("many"), "x.ods, Formations, row 2: 7 | 1 | 2 | many\n    rang limite: many is"),
+        (write_xlsx, "x.xlsx", '<c t="str"><v>many</v></c>', "x.xlsx, Formations, row 2: 7 | 1 | 2 | many\n"),
+    ):
+        with scratch() as place:
+            shutil.copytree(EXAMPLES / "blank", place / "sheets")
+            (place / "sheets/programmes.csv").unlink()
+            (place / "sheets/groups.csv").write_text("group,scholar_pct,resident_pct\n1,2,3\n")
+            write(place / "sheets" / name, last)
+            ended = run(TOOLS / "prepare", place / "sheets", place / "slots", "--lang", "en")
+            made = place / "slots/programmes.csv"
+            found = made.read_text() if made.exists() else ended.complaint
+            tally.check(f"{name}: {last}", expected in found and made.exists() == (ended.status == 0), found)
 
 
 def check_exports(tally: Tally, place: Path, expected: dict[str, bytes]) -> None:

@@ -154,8 +154,8 @@ def differing(slots: Sequence[Slot], titles: Sequence[str], chosen: Mapping[str,
 
 
 def is_for_take_in(titles: Sequence[str], chosen: Mapping[str, str]) -> bool:
-    """Whether they are those of a day's answers, which have no day, or tell the wish and the candidate apart. A title that
-    is unknown beside a target may be that of the days."""
+    """Whether they are those of a day's answers, which have no day, or tell the wish and the candidate apart. A title
+    that is unknown beside a target may be that of the days."""
     header = matched(ANSWER_SHEET, titles, chosen)
     named = set(header.places) if header else set()
     is_wishes = bool(candidates_for(WISHES.column("programme"), [fold(title) for title in titles], chosen))

@@ -56,9 +56,10 @@ def _parted(text: Iterable[str], separator: str) -> Iterator[list[list[str]]]:
         yield chunk
 
 
-@dataclass(frozen=True)
+@dataclass(frozen=True, eq=False)
 class WorkbookSheet:
-    """A sheet of a workbook, whose cells were read by their types."""
+    """A sheet of a workbook, whose cells were read by their types. It is the same as itself alone, so that a fault may
+    name a row of it."""
 
     label: str
     rows: list[list[str]]

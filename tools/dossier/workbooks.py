@@ -115,8 +115,14 @@ def text_of_ods(cell: ElementTree.Element) -> str:
             return cell.get(f"{OFFICE}date-value", "").removesuffix("T00:00:00")
         case "boolean":
             return cell.get(f"{OFFICE}boolean-value", "").upper()
-        case _:
-            return " ".join("".join(part.itertext()) for part in cell if part.tag == f"{TEXT}p").strip()
+    if kind is None and (formula := cell.get(f"{TABLE}formula")):
+        return as_formula(formula.partition(":")[2])
+    return " ".join("".join(part.itertext()) for part in cell if part.tag == f"{TEXT}p").strip()
+
+
+def as_formula(text: str) -> str:
+    """A formula of which the workbook has no value: no cell that is empty, and refused as such."""
+    return f"={text.removeprefix('=')}"
 
 
 def sheets_of_xlsx(archive: zipfile.ZipFile) -> Iterator[tuple[str, list[list[str]]]]:
@@ -212,6 +218,9 @@ def column_of(name: str) -> int:
 
 def text_of_xlsx(cell: ElementTree.Element, shared: list[str], kinds: list[str], is_from_1904: bool) -> str:
     value = next((part.text or "" for part in cell if part.tag.endswith("}v")), "")
+    if not value and cell.get("t") != "str":
+        for formula in (part for part in cell if part.tag.endswith("}f")):
+            return as_formula(formula.text or "")
     match cell.get("t", "n"):
         case "s":
             return shared[int(value)].strip() if value else ""
