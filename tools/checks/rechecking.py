@@ -9,6 +9,7 @@ import ast
 import importlib.machinery
 import importlib.util
 import re
+import shutil
 import sys
 import time
 from collections import Counter
@@ -234,6 +235,10 @@ def check_said(tally: Tally, program: str) -> None:
         says("a folder that next_day keeps", 1, "see audit_day", EXAMPLES / "kept", days / "replay.txt")
         says("the stored report", 0, "as the rules say: 2 days, 38 lines", days, days / "replay.txt")
         says("the stored chain", 0, "as the rules say: 2 days, 7 lines", days, days / "chain.txt")
+        shutil.copytree(days, folder / "broken")
+        (folder / "broken/groups.csv").write_text("group\n")
+        report.write_bytes(run_text(program, ("order",), folder / "broken")[1])
+        says("a refusal", 0, "as the rules say: 0 days, 1 line\n", folder / "broken", report)
         right = (days / "replay.txt").read_bytes()
         for name, text, sentence in (("line ends of another system", right.replace(b"\n", b"\r\n"), "104\\x0d\n"),
                                      ("a blank at an end", right.replace(b"offer 7\n", b"offer 7 \n"), "7\\x20\n"),
