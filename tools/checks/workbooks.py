@@ -2,8 +2,13 @@
 
 import shutil
 import zipfile
+from collections import Counter
 from pathlib import Path
+from random import Random
 from xml.sax.saxutils import escape
+
+from dossier.decoding import Unreadable
+from dossier.workbooks import sheets_of_workbook
 
 from .harness import EXAMPLES, TOOLS, Tally, contents, run, scratch
 
@@ -104,6 +109,7 @@ def check_workbooks(tally: Tally) -> None:
 
 EXCEL = "http://schemas.openxmlformats.org/spreadsheetml/2006/main"
 LINKS = "http://schemas.openxmlformats.org/officeDocument/2006/relationships"
+DAMAGED = 250
 TITLES, NUMBERS = ("formation", "groupe", "places", "rang limite"), ("7", "1", "2")
 
 
@@ -152,6 +158,50 @@ def check_formulas(tally: Tally) -> None:
             made = place / "slots/programmes.csv"
             found = made.read_text() if made.exists() else ended.complaint
             tally.check(f"{name}: {last}", expected in found and made.exists() == (ended.status == 0), found)
+
+
+def check_damaged(tally: Tally) -> None:
+    """Workbooks with bytes that are others, in the archive and in its parts, are read or told."""
+    tally.begin("prepare, workbooks with other bytes")
+    random, odd = Random(1), Counter[str]()
+    with scratch() as place:
+        for write, name, last in ((write_xlsx, "x.xlsx", '<c t="s"><v>0</v></c>'),
+                                  (write_ods, "x.ods", cell_of("@2026-06-02"))):
+            path = place / name
+            write(path, last)
+            with zipfile.ZipFile(path) as archive:
+                parts = {part: archive.read(part) for part in archive.namelist()}
+            for packed in (False, True):
+                for _ in range(DAMAGED):
+                    damaged = {part: changed(data, random) for part, data in parts.items()} if packed else parts
+                    write_parts(path, damaged)
+                    if not packed:
+                        path.write_bytes(changed(path.read_bytes(), random))
+                    odd[what_ends(path)] += 1
+        tally.equal("what else reading them ends with", [end for end in odd if end], [])
+
+
+def changed(data: bytes, random: Random) -> bytes:
+    """The bytes with one of them another."""
+    at = random.randrange(len(data))
+    return data[:at] + bytes([random.randrange(256)]) + data[at + 1:]
+
+
+def write_parts(path: Path, parts: dict[str, bytes]) -> None:
+    with zipfile.ZipFile(path, "w", zipfile.ZIP_DEFLATED) as archive:
+        for name, data in parts.items():
+            archive.writestr(name, data)
+
+
+def what_ends(path: Path) -> str:
+    """What ends the reading of a workbook; nothing where it is read, or told to be broken."""
+    try:
+        sheets_of_workbook(path)
+    except Unreadable:
+        pass
+    except Exception as error:
+        return f"{type(error).__name__}: {error}"
+    return ""
 
 
 def check_exports(tally: Tally, place: Path, expected: dict[str, bytes]) -> None:

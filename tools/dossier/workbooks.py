@@ -1,7 +1,9 @@
 """Workbooks: the sheets of `.ods` and `.xlsx` files, which are zipped XML, with each cell read by its type."""
 
+import errno
 import re
 import zipfile
+import zlib
 from collections.abc import Iterator
 from datetime import datetime, timedelta
 from decimal import Decimal, InvalidOperation
@@ -24,6 +26,8 @@ TEXT = "{urn:oasis:names:tc:opendocument:xmlns:text:1.0}"
 MAIN = "{http://schemas.openxmlformats.org/spreadsheetml/2006/main}"
 STRICT = "{http://purl.oclc.org/ooxml/spreadsheetml/main}"
 LINK = re.compile(r"\{[^}]*\}id")
+# What reading a workbook that is damaged ends with.
+BROKEN = (zipfile.BadZipFile, zlib.error, ElementTree.ParseError, LookupError, ValueError, RuntimeError, EOFError)
 
 
 def sheets_of_workbook(path: Path) -> list[WorkbookSheet]:
@@ -39,8 +43,11 @@ def sheets_of_workbook(path: Path) -> list[WorkbookSheet]:
                 found = list(sheets_of_xlsx(archive))
             else:
                 raise Unreadable(BROKEN_WORKBOOK.of(why="no sheet is in it"), SAVE_WORKBOOK.of())
-    except (zipfile.BadZipFile, ElementTree.ParseError, KeyError, ValueError, RuntimeError, NotImplementedError,
-            EOFError) as error:
+    except BROKEN as error:
+        raise Unreadable(BROKEN_WORKBOOK.of(why=error), SAVE_WORKBOOK.of()) from None
+    except OSError as error:
+        if error.errno != errno.EINVAL:  # so it is where a part is said to stand before the file
+            raise
         raise Unreadable(BROKEN_WORKBOOK.of(why=error), SAVE_WORKBOOK.of()) from None
     return [WorkbookSheet(f"{path.name}, {name}", rows) for name, rows in found]
 
@@ -242,9 +249,12 @@ def text_of_xlsx(cell: ElementTree.Element, shared: list[str], kinds: list[str],
 
 
 def date_of(text: str, is_from_1904: bool) -> str:
-    """The date of a number of days. Before March 1900 the count has a day that was none."""
-    days = float(text)
+    """The date of a number of days; no other number is changed. Before March 1900 the count has a day that was none."""
     first = datetime(1904, 1, 1) if is_from_1904 else datetime(1899, 12, 30)
-    if not is_from_1904 and days < 61:
+    try:
+        days = float(text)
+        if not is_from_1904 and days < 61:
+            return text
+        return (first + timedelta(seconds=round(86400 * days))).isoformat(" ").removesuffix(" 00:00:00")
+    except (ValueError, OverflowError):
         return text
-    return (first + timedelta(seconds=round(86400 * days))).isoformat(" ").removesuffix(" 00:00:00")
