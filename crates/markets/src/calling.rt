@@ -1,7 +1,7 @@
 //! Who lists a programme, in the order in which its group calls them.
 ghost use Rattle.std.specs.Prelude.{◌≡◌, ◌<◌, ◌≤◌, [], length, filter, map, nat_eq, slice_index, IfOk, None, OnOk, Some};
 ghost use Rattle.std.specs.List.{position_or_len, range_with_len};
-ghost use Rattle.std.specs.List.Sorted.{IsPermutation};
+ghost use Rattle.std.specs.List.Sorted.{IsNonDecreasingBy, IsPermutation};
 ghost use Rattle.admit_core.specs.DossierRows.{group_of};
 ghost use Rattle.admit_core.specs.Lists.{is_among};
 ghost use Rattle.markets.specs.Walks.{AreCalled, AreNoted, IsWalk, numbers_in};
@@ -187,7 +187,9 @@ pub fn group_at(dossier: &Dossier, orders: &CallOrders, programme: u32) -> u32
 }
 
 /// The number by which programmes are put in order: that of the group.
-fn order_key(dossier: &Dossier, programme: u32) -> u32 {
+fn order_key(dossier: &Dossier, programme: u32) -> u32
+    ensures { result ≡ group_of dossier.now programme }
+{
     match dossier.programmes.as_slice().get(programme as usize) {
         Some(row) => row.group,
         None => 0,
@@ -203,7 +205,8 @@ fn all_programmes(alloc: Global, count: u32) -> Result<Vec<u32>, OutOfMemory>
 
 /// The places of all programmes, those of one group together.
 pub fn by_group(alloc: Global, dossier: &Dossier, count: u32) -> Result<Vec<u32>, OutOfMemory>
-    ensures { IfOk result (λ v. IsPermutation (range_with_len 0 count) v.items) }
+    ensures all { IfOk result (λ v. IsPermutation (range_with_len 0 count) v.items) }
+    ensures together { IfOk result (λ v. IsNonDecreasingBy (group_of dossier.now) v.items) }
 {
     let mut programmes = all_programmes(alloc, count)?;
     programmes.sort_by_key(|programme| order_key(dossier, *programme))?;

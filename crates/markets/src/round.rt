@@ -1,5 +1,5 @@
 //! A market as a system of falling bars.
-ghost use Rattle.std.specs.Prelude.{ℕ, ◌≡◌, ◌<◌, ◌≤◌, length, map, filter, nat_le, slice_get, slice_index, ◌-◌, [], IfOk, IsOk};
+ghost use Rattle.std.specs.Prelude.{ℕ, ◌≡◌, ◌<◌, ◌≤◌, length, map, filter, nat_le, slice_get, slice_index, slice_set, ◌+◌, ◌-◌, [], IfOk, IsOk};
 ghost use Rattle.markets.specs.Markets.{market_order, candidate_at};
 ghost use Rattle.markets.specs.Bars.{market_system, place_codes, place_code};
 ghost use Rattle.markets.specs.Rounds.{IsRound, held_to};
@@ -195,7 +195,14 @@ impl Falling for MarketRound<'_> {
         names_within(alloc, self.market.market(), &self.seating.places, i, end)
     }
 
-    fn lower<L: Ledger>(&mut self, i: u32, to: u32, steps: &mut Steps<L>) {
+    fn lower<L: Ledger>(&mut self, i: u32, to: u32, steps: &mut Steps<L>)
+        requires in_range { i < length (market_system self.old.market).ceilings }
+        requires lower { to < slice_index self.old.bars.items i }
+        ensures bars { self.new.bars.items ≡ slice_set self.old.bars.items i to }
+        ensures same { market_system self.new.market ≡ market_system self.old.market }
+        ensures offers { place_codes self.new.market ≡ place_codes self.old.market }
+        ensures steps { steps.new ≡ steps.old + (slice_index self.old.bars.items i - to) }
+    {
         lower_to(
             &self.market,
             &mut self.bars,

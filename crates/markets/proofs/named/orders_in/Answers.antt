@@ -45,5 +45,5 @@ orders_along-requires-clause-programmes c =
     let n_is : c.len-count.result ≡ length d.programmes = c.len-count.ensures
     ∙ ap (λ (e : DossierRows). length e.programmes) c.dossier.view_is in
     let programmes = c.in_ok-programmes.programmes.items in
-    let all = subst (λ n. IsPermutation (range_with_len 0 n) programmes) n_is c.in_ok-programmes.ensures in
+    let all = subst (λ n. IsPermutation (range_with_len 0 n) programmes) n_is c.in_ok-programmes.ensures.all in
     subst (IsPermutation (range_with_len 0 (length d.programmes))) (sym c.deref-2.ensures.value) all
