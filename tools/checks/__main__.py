@@ -37,7 +37,7 @@ def topics(program: str) -> dict[str, list[Checks]]:
         "disks": [disks.check_full_devices, disks.check_small_disks],
         "killing": list(killing.CHECKS),
         "lemmas": [lemmas.check_same_lemmas, lemmas.check_witnesses, lemmas.check_memory_answers,
-                   lemmas.check_promises],
+                   lemmas.check_one_run, lemmas.check_promises],
         "edits": [edits.check_edits],
         "rounds": [*given(rounds.check_small_rounds, rounds.check_finds, rounds.check_unknown_modes),
                    rounds.check_endless, *given(rounds.check_stopped)],

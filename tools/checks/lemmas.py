@@ -1,12 +1,12 @@
 """Checks of same_lemmas.py and laws_without_witness.py, and by them of the crates: a lemma is stated once, and each law
 has a worked case. Of memory_answers.py: each line that answers that memory ran out is known. And of what `promises.py`
-finds in a page."""
+finds in a page. That no program can run twice by a call of `report`."""
 
 import shutil
 from pathlib import Path
 
 from . import promises
-from .harness import TOOLS, Tally, run, scratch
+from .harness import TOOLS, TOP, Tally, run, scratch
 
 ONE = "-- A comment.\npub or_twice : (b : Bool) → (b || b) ≡ b -- here\nor_twice true = refl\nor_twice false = refl\n"
 TWIN = "or_same : (test : Bool)\n    → (test || test) ≡ test\nor_same true = refl\nor_same false = refl\n"
@@ -148,6 +148,15 @@ PROMISED = """| promise | contract |
 |---|---|---|---|
 | `read_slot` | `TooLarge` | `reads` | `over`, `gifen` |
 """
+
+
+def check_one_run(tally: Tally) -> None:
+    """The value with which `main` ends is used up by its trait's `report` alone, and no source calls that."""
+    tally.begin("main runs once")
+    sources = {path.relative_to(TOP): path.read_text(encoding="utf-8") for path in TOP.glob("crates/*/src/**/*.rt")}
+    ends = Path("crates/replay_cli/src/start.rt")
+    tally.equal("who names the trait", [path for path, text in sources.items() if "Termination" in text], [ends])
+    tally.check("no call of report", not any(".report(" in text for text in sources.values()), len(sources))
 
 
 def check_promises(tally: Tally) -> None:

@@ -52,7 +52,8 @@ pub trait Program {
 }
 
 /// The number that a program ends with. `started` alone makes one, and it can be neither copied
-/// nor let go: so `main` ends with the number of a run, and runs once.
+/// nor let go: so `main` ends with the number of a run. A call of `report` would use it up, and
+/// leave room for a second run: no source has one.
 pub struct Ended {
     number: u8,
 }
