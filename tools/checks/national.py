@@ -4,8 +4,8 @@ There is a programme for every 40 candidates, of very different sizes: at a mill
 thousands, and the best known one is wished for by more than 100,000. Three of ten programmes share a group, all three
 the same one; one of four has a boarding school, and some schools have many programmes. A candidate wishes for up to 19
 programmes, and every third one boards too where they can. A third rank their wishes; a tenth hold a seat, others an
-offer; on days 1 to 3 some accept, refuse or quit, and on day 1 some withdraw a wish. The groups rank by what they
-share, a candidate's merit, and by as much of their own.
+offer. Some accept, refuse or quit: most of them on days 1 to 3, and a fourth of them on any of thirty days. On day 1
+some withdraw a wish. The groups rank by what they share, a candidate's merit, and by as much of their own.
 
 The same size always gives the same rows, which go to the disk as they are made. As a program, `KIND SIZE FOLDER`
 writes a dossier of sorted or shuffled rows, or of shuffled ones with gaps in the ids, to a new folder. It prints how
@@ -36,6 +36,8 @@ FALL = 0.85
 FIRST_PLACE = 3
 SEATS_OF_A_CANDIDATE = 0.8
 NO_CEILING = 2_000_000_000
+# Most answers come on the first days, and a fourth of them on any of all.
+FIRST_DAYS, ALL_DAYS = 3, 30
 # The greatest prime below 2,000,000,000. It leaves 2 when divided by 3, so by it no two cubes leave the same.
 PRIME = 1_999_999_973
 FIRST_WISH = 500_000_000
@@ -120,7 +122,8 @@ class Nation:
 
     def tell_past(self, candidate: int, wish: int, is_automatic: bool) -> None:
         """What the candidate has when the run begins, and what they answer."""
-        day, part = 1 + candidate // 20 % 3, candidate % 20
+        turn, part = divmod(candidate, 20)
+        day = 1 + (turn % FIRST_DAYS if turn % 4 else turn // 4 % ALL_DAYS)
         if part < 2:
             self.state.append(f"{wish},accepted\n")
         elif part == 5:
