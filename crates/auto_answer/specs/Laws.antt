@@ -1,23 +1,16 @@
 -- Laws of automatic answers.
-use Rattle.std.specs.Prelude.{◌≡◌, ◌≢◌, ℕ, ◌<◌, List, map, true, false, length}
+use Rattle.std.specs.Prelude.{◌≡◌, ◌≢◌, ℕ, ◌<◌, List, true, false, length}
 use Rattle.admit_core.specs.declared.state.Stamp.{Stamp}
 use Rattle.admit_core.specs.declared.state.Status.TheVariants.{AutoRefused}
-use Rattle.admit_core.specs.DossierRows.{candidate_of}
-use Rattle.admit_core.specs.Lists.{is_among}
 use Rattle.admit_core.specs.State.{State, is_live}
-use Rattle.admit_core.specs.Answers.{mark_at, status_at, candidate_at}
+use Rattle.admit_core.specs.Answers.{mark_at, status_at}
 use Rattle.admit_core.specs.AutoAnswer.{auto_one, auto_all, freed}
 use Rattle.admit_core.specs.Days.{frees_nothing}
+pub use Rattle.day_state.specs.Others.{SameOthers, SameOwnMarks}
 
 -- each wish has a mark
 abbrev pub IsMarked : State → Type 0
 IsMarked s = length s.marks ≡ length s.dossier.wishes
-
--- two states of one dossier in which a candidate's own wishes have the same marks
-pub record SameOwnMarks (c : ℕ) (s t : State) : Type 0 where
-  pub dossier : t.dossier ≡ s.dossier
-  pub each : (place : ℕ) → place < length s.dossier.wishes → candidate_at s place ≡ c
-      → mark_at s place ≡ mark_at t place
 
 -- what becomes of a candidate's wishes depends on their own wishes alone
 abbrev pub OwnWishesDecide : Type 0
@@ -41,11 +34,6 @@ abbrev pub OnceIsEnough : Type 0
 OnceIsEnough =
     (s : State) (stamp again : Stamp) → IsMarked s
     → auto_all (auto_all s stamp) again ≡ auto_all s stamp
-
--- two states in which whoever has none of the wishes at these places has the same marks
-abbrev pub SameOthers : List ℕ → State → State → Type 0
-SameOthers places s t =
-    (c : ℕ) → is_among c (map (candidate_of s.dossier) places) ≡ false → SameOwnMarks c s t
 
 -- automatic answers change nothing for whoever has none of the wishes at these places
 abbrev pub AreAnsweredBut : List ℕ → State → Stamp → Type 0

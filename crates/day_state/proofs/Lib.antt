@@ -1,6 +1,7 @@
 -- Reading order. Each file says in its first line what it shows.
 -- One mark: Counting, Places, KeptCounts, Lost, Freeing, Change, SameMarks, Paired (statuses and stamps).
 -- The order by candidate: Ordering, Keys, Runs. A candidate's wishes: Along, Changing, Best, Taking.
+-- Marks of another state: TakingOver.
 -- Bundles, from bottom to top: Numbering (their first wishes), Laters (the others), Sharing (which
 -- have a count), Ascending, Numbered (the numbers of those), Entries (how a wish's number is kept),
 -- Bundled (how many of a bundle are live), Telling (what that tells of its candidate).
@@ -35,3 +36,4 @@ pub mod Independence
 pub mod Lapsing
 pub mod FittingLists
 pub mod SameMarks
+pub mod TakingOver

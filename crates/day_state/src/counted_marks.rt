@@ -10,6 +10,7 @@ ghost use Rattle.day_state.specs.Along.{change_own, changed_by};
 ghost use Rattle.day_state.specs.Best.{best_among};
 ghost use Rattle.day_state.specs.Bundles.{seat_bundle};
 ghost use Rattle.day_state.specs.Kept.{mark_in, lives_at, has_seat_there, has_bed_there, waiting_mark, state_of, IsIndex};
+ghost use Rattle.day_state.specs.Others.{TakesOver};
 
 use crate::bundle_numbers::laters_of;
 use crate::bundles::{Bundles, Sites};
@@ -107,6 +108,17 @@ impl<'d> CountedMarks<'d> {
         copy_counts(&mut self.beds, &other.beds);
         self.in_programmes.set_from(&other.in_programmes);
         self.in_schools.set_from(&other.in_schools);
+    }
+
+    /// Gives wishes the marks that they have in another one of as many.
+    pub fn take_over(&mut self, places: &[u32], other: &CountedMarks<'d>)
+        requires long { length other.now.marks ≡ length self.old.marks }
+        requires places { All (λ k. k < length self.old.marks) places.now }
+        ensures { TakesOver places.now other.now self.old self.new }
+    {
+        for place in places {
+            self.set_other(*place, other.mark(*place));
+        }
     }
 
     /// The marks of all wishes, by place.

@@ -14,6 +14,7 @@ ghost use Rattle.day_state.specs.Bundles.{seat_bundle};
 ghost use Rattle.day_state.specs.Kept.{mark_in, wish_in, has_seat_there, holds_bed_in, IsIndex};
 ghost use Rattle.day_state.specs.Along.{change_along};
 ghost use Rattle.day_state.specs.Lapsing.{lapsed};
+ghost use Rattle.day_state.specs.Others.{SameOthers};
 ghost use Rattle.day_state.specs.Laws.{AreOwn, OwnFit};
 ghost use Rattle.day_state.specs.Applied.{answered, after_fitting, after_fitting_front, refused_at};
 
@@ -41,6 +42,10 @@ pub struct UnfitAt {
     pub index: u32,
     pub status: Status,
 }
+
+/// So many wishes are copied in their order in the time in which those of one candidate are looked
+/// for, and taken over one by one.
+const COPIED_PER_TAKEN: usize = 512;
 
 /// The marks of a dossier's wishes. At most one wish of each candidate is accepted.
 pub struct DayState<'d> {
@@ -97,6 +102,34 @@ impl<'d> DayState<'d> {
         ensures { self.new ≡ other.now }
     {
         self.live.set_from(&other.live);
+    }
+
+    /// Becomes equal to another state of the same dossier that differs from this one in wishes of
+    /// the candidates of these wishes alone.
+    pub fn take_over_beside(&mut self, other: &DayState<'d>, places: &[u32])
+        requires dossier { self.old.dossier ≡ other.now.dossier }
+        requires within { All (λ k. k < length self.old.dossier.wishes) places.now }
+        requires others { SameOthers places.now self.old other.now }
+        ensures { self.new ≡ other.now }
+    {
+        if places.len() > self.dossier().wishes.len() / COPIED_PER_TAKEN {
+            self.set_from(other);
+        } else {
+            self.take_over_each(other, places);
+        }
+    }
+
+    /// Does the same candidate by candidate.
+    fn take_over_each(&mut self, other: &DayState<'d>, places: &[u32])
+        requires dossier { self.old.dossier ≡ other.now.dossier }
+        requires within { All (λ k. k < length self.old.dossier.wishes) places.now }
+        requires others { SameOthers places.now self.old other.now }
+        ensures { self.new ≡ other.now }
+    {
+        for place in places {
+            let own = self.index.own_of(*place);
+            self.live.take_over(own, &other.live);
+        }
     }
 
     /// The dossier.
