@@ -1,6 +1,7 @@
 -- Entries of wishes that share their bundles, and where those of a block begin.
 use Rattle.std.proofs.Common.{ℕ, zero, suc, ◌+◌, ◌≤◌, ◌<◌, ◌≡◌, Bool, true, false, List, [], ◌∷◌, ◌++◌, length}
-use Rattle.std.proofs.Common.{get_or, take, set, replicate, inl, inr, refl, sym, ◌∙◌, ap, arith, Option, Some, None, subst}
+use Rattle.std.proofs.Common.{get_or, take, set, replicate, inl, inr, refl, sym, ◌∙◌, ap, arith, Option, Some, None}
+use Rattle.std.proofs.Common.{subst}
 use Rattle.std.specs.Prelude.{slice_index, slice_index_or, is_some, ◌==◌, ◌/◌, ◌||◌, All}
 use Rattle.std.specs.Cmp.{IsEquivalence}
 use Rattle.std.specs.List.{find, list_any, dedup}
@@ -8,7 +9,8 @@ use Rattle.std.specs.List.Sorted.{IsPermutation}
 use Rattle.std.proofs.lemmas.Bool.{cases_Bool, cases_eq, cases_lt, eqb-true, eq-eqb, ne_eqb, false≢true}
 use Rattle.std.proofs.lemmas.Option.{unwrap_or-slice_get}
 use Rattle.std.proofs.lemmas.List.{length-set, get_or-set_same, get_or-set_other, take_more, take_all, get_or-map}
-use Rattle.std.proofs.lemmas.List.{length-map, length-replicate, get_or-replicate, get_or_default, ext_get_or, get_or_past}
+use Rattle.std.proofs.lemmas.List.{length-map, length-replicate, get_or-replicate, get_or_default, ext_get_or}
+use Rattle.std.proofs.lemmas.List.{get_or_past}
 use Rattle.std.proofs.lemmas.List.Elements.{All-append, All-cons, All-nil}
 use Rattle.std.proofs.lemmas.Cmp.{nat_eq_equiv, on_equiv}
 use Rattle.std.proofs.lemmas.List.Filters.{All-dedup}
@@ -352,7 +354,8 @@ module _ (sites : Sites) (ws : List Wish) (laters : List Later) (are : AreLaters
       }
 
 -- each once, they are still all
-pub entries_once : (bundles : List (Option ℕ)) (sorted once : List Entry) → once ≡ dedup (λ x y. x.wish == y.wish) sorted
+pub entries_once : (bundles : List (Option ℕ)) (sorted once : List Entry)
+    → once ≡ dedup (λ x y. x.wish == y.wish) sorted
     → AreEntries bundles sorted → AreEntries bundles once
 entries_once bundles sorted once once_is are =
     let E = λ (x y : Entry). x.wish == y.wish in

@@ -8,4 +8,5 @@ use Rattle.day_state.proofs.bundle_numbers.entries_of.Given as goal
 abbrev pub invariant-loop-later : goal.invariant-loop-later
 invariant-loop-later l =
     (sites : Sites) (ws : List Wish) → l.shared ≡ shared_places (bundles_of sites ws)
-    → AreLaters (bundles_of sites ws) l.laters → AreEntriesTo (bundles_of sites ws) l.laters l.entries.items l.later-index
+    → AreLaters (bundles_of sites ws) l.laters
+    → AreEntriesTo (bundles_of sites ws) l.laters l.entries.items l.later-index
