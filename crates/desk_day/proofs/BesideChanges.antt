@@ -20,7 +20,7 @@ use Rattle.admit_core.specs.Lists.{is_among}
 use Rattle.admit_core.specs.OwnWishes.{own_places}
 use Rattle.admit_core.specs.State.{State, status_number}
 use Rattle.day_state.specs.Kept.{mark_in}
-use Rattle.auto_answer.specs.Laws.{SameOthers}
+use Rattle.day_state.specs.Others.{SameOthers}
 use Rattle.linked_demand.proofs.Listing.{in_order_once}
 use Rattle.desk_day.specs.Changes.{is_answered_change, answered_changes, wishes_beside}
 use Rattle.desk_day.proofs.ChangedMarks.{change_of, is_answered}

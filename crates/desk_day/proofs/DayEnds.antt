@@ -51,7 +51,7 @@ not_begun terms orders ceilings day before after (Err e) refusal is unfit openin
 
 -- a day on a desk from the day that ran on its states
 module _ (terms : Option Terms) (orders : List CallOrder) (ceilings : List ℕ) (day : ℕ) (desk : DeskStates)
-    (was new noted : RunningStates) (evening now : State) (told told_after : List ℕ)
+    (was new : RunningStates) (evening now : State) (told told_after : List ℕ)
     (choice choice_after : List ℕ → List ℕ → ℕ)
     (is : record { present = was.present; evening = evening; opening = was.opening } ≡ desk)
     (now_is : now ≡ was.present)
@@ -60,15 +60,12 @@ module _ (terms : Option Terms) (orders : List CallOrder) (ceilings : List ℕ) 
   Ends before after r = EndsDay terms orders ceilings day (record { desk = before; told = told; choice = choice })
       (moment_on after now told_after choice_after) r
 
-  pub ends_done : (done : DayRecord) → noted ≡ new
+  pub ends_done : (done : DayRecord)
       → IsDayDone terms orders ceilings day (moment_on was was.present told choice) done
       (moment_on new was.present told_after choice_after)
-      → new.present.dossier ≡ was.present.dossier → Ends desk noted (Ok done)
-  ends_done done noted_is came same =
-      subst (λ (d : DeskStates). Ends d noted (Ok done)) is
-      (subst (λ (r : RunningStates). Ends (record { present = was.present; evening = evening; opening = was.opening }) r
-      (Ok done))
-      (sym noted_is) (record {
+      → new.present.dossier ≡ was.present.dossier → Ends desk new (Ok done)
+  ends_done done came same =
+      subst (λ (d : DeskStates). Ends d new (Ok done)) is (record {
         done = record {
           rule = record {
             number = came.rule.number;
@@ -87,13 +84,14 @@ module _ (terms : Option Terms) (orders : List CallOrder) (ceilings : List ℕ) 
         untold = tt;
         asked = tt;
         choice = kept;
-      }))
+      })
 
-  pub ends_undone : (refusal : DayRefusal) → noted.present ≡ was.present → noted.opening ≡ new.opening
+  pub ends_undone : (refusal : DayRefusal) (noted : RunningStates) → noted.present ≡ was.present
+      → noted.opening ≡ new.opening
       → IsUndone terms orders ceilings day (moment_on was was.present told choice)
       (moment_on new was.present told_after choice_after) refusal
       → Ends desk noted (Err refusal)
-  ends_undone refusal restored opened undone = subst (λ (d : DeskStates). Ends d noted (Err refusal)) is (record {
+  ends_undone refusal noted restored opened undone = subst (λ (d : DeskStates). Ends d noted (Err refusal)) is (record {
     done = tt;
     unfit = undone.unfit;
     restored = restored;

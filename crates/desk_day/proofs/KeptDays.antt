@@ -1,13 +1,9 @@
 -- Days whose falls are kept or left out.
-use Rattle.std.proofs.Common.{◌≡◌, Bool, true, List, [], ◌∷◌, map, Result, Ok, Err, length, nat_eq, refl, sym, ◌∙◌, ap}
-use Rattle.std.proofs.Common.{subst, ◌&&◌}
-use Rattle.std.specs.List.{list_all}
+use Rattle.std.proofs.Common.{◌≡◌, Bool, true, List, [], ◌∷◌, map, Result, Ok, Err, refl, sym, ◌∙◌, ap}
+use Rattle.std.proofs.Common.{subst}
 use Rattle.admit_core.specs.declared.records.DayRecord.{DayRecord}
 use Rattle.admit_core.specs.declared.records.PassEnd.{PassEnd}
-use Rattle.admit_core.specs.Days.{answers_of}
-use Rattle.admit_core.specs.DossierRows.{DossierRows}
 use Rattle.round.specs.KeptFalls.{IsKeptOf}
-use Rattle.desk_day.specs.Idle.{is_idle, offers_nothing}
 use Rattle.desk_day.specs.KeptDays.{kept_day, kept_end, kept_result}
 use Rattle.desk_day.specs.declared.refusal.DayRefusal.{DayRefusal}
 
@@ -26,19 +22,6 @@ result_whole (Err refusal) = refl
 pub ends_whole_day : (Holds : Result DayRecord DayRefusal → Type 0) (result : Result DayRecord DayRefusal)
     → IsKeptOf (kept_result true) Holds result → Holds result
 ends_whole_day Holds result is = subst Holds (sym (result_whole is.0) ∙ sym is.2) is.1
-
--- nothing happened on a day where nothing happened by what is kept of it
-offers_kept : (keeps : Bool) (ends : List PassEnd)
-    → list_all offers_nothing (map (kept_end keeps) ends) ≡ list_all offers_nothing ends
-offers_kept keeps [] = refl
-offers_kept keeps (end ∷ ends) = ap (λ (rest : Bool). offers_nothing end && rest) (offers_kept keeps ends)
-
-pub idle_kept : (keeps : Bool) (d : DossierRows) (kept day : DayRecord) → kept ≡ kept_day keeps day
-    → is_idle d kept ≡ true → is_idle d day ≡ true
-idle_kept keeps d kept day same idle =
-    ap (λ (none : Bool). nat_eq (length day.lapsed) 0 && (nat_eq (length (answers_of d day.day)) 0 && none))
-    (sym (offers_kept keeps day.passes))
-    ∙ ap (λ (done : DayRecord). is_idle d done) (sym same) ∙ idle
 
 -- what is kept of a day that came about is kept of a day that did
 module _ (keeps : Bool) (Holds : Result DayRecord DayRefusal → Type 0) where

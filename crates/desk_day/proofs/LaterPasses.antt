@@ -1,9 +1,10 @@
 -- Where all have been answered for but those who have one of some wishes, only they and those with an offer are
 -- answered for, and change.
-use Rattle.std.proofs.Common.{ℕ, ◌<◌, ◌≡◌, false, List, [], ◌++◌, arith, map, length, inl, inr, refl, sym, ◌∙◌, ap}
+use Rattle.std.proofs.Common.{ℕ, ◌<◌, ◌≡◌, true, false, List, [], ◌∷◌, ◌++◌, arith, map, length, inl, inr, refl, sym}
+use Rattle.std.proofs.Common.{◌∙◌, ap}
 use Rattle.std.proofs.Common.{subst, nat_eq}
 use Rattle.std.specs.Prelude.{All, if◌then◌else◌}
-use Rattle.std.proofs.lemmas.Bool.{cases_Bool, false≢true, or_parts}
+use Rattle.std.proofs.lemmas.Bool.{cases_Bool, eqb-true, false≢true, or_parts}
 use Rattle.std.proofs.lemmas.List.{map-append}
 use Rattle.std.proofs.lemmas.List.Folds.{list_any-append}
 use Rattle.admit_core.specs.declared.ranking.CallOrder.{CallOrder}
@@ -11,7 +12,7 @@ use Rattle.admit_core.specs.declared.dossier.Wish.{Wish}
 use Rattle.admit_core.specs.declared.state.Status.TheVariants.{Offered}
 use Rattle.admit_core.specs.declared.state.Mark.{Mark}
 use Rattle.admit_core.specs.declared.state.Stamp.{Stamp}
-use Rattle.admit_core.specs.DossierRows.{candidate_of}
+use Rattle.admit_core.specs.DossierRows.{DossierRows, candidate_of}
 use Rattle.admit_core.specs.Lists.{is_among}
 use Rattle.admit_core.specs.State.{State, entries, changed_to}
 use Rattle.admit_core.specs.Proposals.{is_proposed, proposed}
@@ -23,7 +24,8 @@ use Rattle.day_state.specs.Along.{change_along}
 use Rattle.day_state.proofs.Along.{along_at, length-with_marks, same_marks, same_state}
 use Rattle.day_state.proofs.Independence.{Agrees}
 use Rattle.day_state.proofs.Places.{candidate_in}
-use Rattle.auto_answer.specs.Laws.{SameOthers, AreAnsweredBut, SameOwnMarks}
+use Rattle.day_state.specs.Others.{SameOthers, SameOwnMarks}
+use Rattle.auto_answer.specs.Laws.{AreAnsweredBut}
 use Rattle.auto_answer.proofs.Answering.{all_mark, turned, joined, all_both}
 use Rattle.auto_answer.proofs.LawsOfAnswers.{agrees, same_own}
 use Rattle.round.proofs.Offering.{apart_places, offers_made, proposed_are_wishes}
@@ -126,15 +128,26 @@ answered_all s answered none stamp c apart =
     subst (λ (t : State). SameOwnMarks c s t) (sym (answered stamp))
     (record { dossier = refl; each = λ place lt own. refl })
 
--- where nobody is left out, all have been answered for
+pub no_items : {X : Type 0} (xs : List X) → nat_eq (length xs) 0 ≡ true → xs ≡ []
+no_items [] none = refl
+no_items (x ∷ xs) none = absurd (omega (arith, eqb-true (length (x ∷ xs)) 0 none))
+
+-- where nobody is left out, two states are one
+pub nobody_differs : (s t : State) (none : List ℕ) → length s.marks ≡ length s.dossier.wishes
+    → length t.marks ≡ length t.dossier.wishes → t.dossier ≡ s.dossier → none ≡ [] → SameOthers none s t → t ≡ s
+nobody_differs s t none long long_too same empty others =
+    let as_long : length t.marks ≡ length s.marks =
+    long_too ∙ ap (λ (d : DossierRows). length d.wishes) same ∙ sym long in
+    same_state t s same (same_marks t.marks s.marks as_long (λ k lt.
+    let c = candidate_of s.dossier k in
+    let k_in : k < length s.dossier.wishes = omega (arith, as_long, long, lt) in
+    let own : SameOwnMarks c s t =
+    others c (ap (λ (ks : List ℕ). is_among c (map (candidate_of s.dossier) ks)) empty) in
+    sym (own.each k k_in refl)))
+
+-- and all have been answered for
 pub settled : (s : State) (beside : List ℕ) → length s.marks ≡ length s.dossier.wishes → beside ≡ []
     → IsAnsweredBut beside s → IsAnswered s
 settled s beside long none answered stamp =
     let t = auto_all s stamp in
-    let as_long : length t.marks ≡ length s.marks = length-with_marks (all_mark s stamp) s long in
-    same_state t s refl (same_marks t.marks s.marks as_long (λ k lt.
-    let c = candidate_of s.dossier k in
-    let k_in : k < length s.dossier.wishes = omega (arith, as_long, long, lt) in
-    let own : SameOwnMarks c s t =
-    answered stamp c (ap (λ (ks : List ℕ). is_among c (map (candidate_of s.dossier) ks)) none) in
-    sym (own.each k k_in refl)))
+    nobody_differs s t beside long (length-with_marks (all_mark s stamp) s long ∙ long) refl none (answered stamp)

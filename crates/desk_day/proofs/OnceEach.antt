@@ -25,7 +25,7 @@ use Rattle.admit_core.specs.State.{State, changed_to}
 use Rattle.admit_core.specs.declared.state.Status.TheVariants.{Offered}
 use Rattle.day_state.proofs.Along.{along_dossier, among-filter}
 use Rattle.desk_day.specs.DayPasses.{offered_along}
-use Rattle.auto_answer.specs.Laws.{SameOthers}
+use Rattle.day_state.specs.Others.{SameOthers}
 use Rattle.admit_core.specs.declared.state.Stamp.{Stamp}
 use Rattle.desk_day.specs.DayPlaces.{AreWishesOf}
 use Rattle.desk_day.specs.Once.{AreOfOneEach, NamesSame, first_own}

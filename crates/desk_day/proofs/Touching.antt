@@ -26,8 +26,9 @@ use Rattle.admit_core.specs.Validity.{IsTarget}
 use Rattle.admit_core.proofs.Tests.{among-map}
 use Rattle.auto_answer.proofs.Answering.{turned, joined, all_both}
 use Rattle.auto_answer.proofs.LawsOfAnswers.{same_own}
-use Rattle.day_state.specs.Kept.{mark_in, wish_in}
-use Rattle.day_state.proofs.Along.{among-filter, same_marks, same_state}
+use Rattle.day_state.specs.Kept.{mark_in}
+use Rattle.day_state.specs.Others.{SameOthers}
+use Rattle.day_state.proofs.Along.{among-filter}
 use Rattle.day_state.proofs.Change.{own_within}
 use Rattle.day_state.proofs.Independence.{Agrees, agrees_self, agrees_after}
 use Rattle.day_state.proofs.Lapsing.{lapse_at, length-lapse}
@@ -156,25 +157,15 @@ lapse_long : (terms : Option Terms) (day : ℕ) (s : State) → length s.marks �
 lapse_long None day s long each = (refl, long)
 lapse_long (Some terms) day s long each = (refl, length-lapse terms day s (each ∙ sym long) ∙ long)
 
--- where nobody is named, the day begins as the evening before
-pub nothing_changed : (terms : Option Terms) (day : ℕ) (s : State) → length s.marks ≡ length s.dossier.wishes
-    → AreTermsFor s.dossier terms → touched s.dossier (lapsed_on terms day s) day ≡ []
-    → morning terms day s ≡ s
-nothing_changed terms day s long each none =
-    let m = morning terms day s in
-    let l = after_lapse terms day s in
-    let parts = lapse_long terms day s long each in
-    let same : m.dossier ≡ s.dossier = morning_dossier terms day s in
-    let m_long : length m.marks ≡ length m.dossier.wishes =
-    (agrees_after 0 s l l (stamp_of day 0) parts.0 (agrees_self 0 l parts.1) (answers_of s.dossier day)).long in
-    let as_long : length m.marks ≡ length s.marks =
-    m_long ∙ ap (λ (d : DossierRows). length d.wishes) same ∙ sym long in
-    same_state m s same (same_marks m.marks s.marks as_long (λ k lt.
-    let c = (wish_in s.dossier.wishes k).candidate in
-    let k_in : k < length s.dossier.wishes = omega (arith, as_long, long, lt) in
-    let stays : Agrees c s m = kept terms day c s k long each k_in (candidate_in s.dossier.wishes k)
-    (ap (λ (ks : List ℕ). is_among c (map (candidate_of s.dossier) ks)) none) in
-    sym (stays.same k k_in refl)))
+-- so the morning changes nobody else
+others_kept : (terms : Option Terms) (day : ℕ) (s : State) → length s.marks ≡ length s.dossier.wishes
+    → AreTermsFor s.dossier terms
+    → SameOthers (touched s.dossier (lapsed_on terms day s) day) s (morning terms day s)
+others_kept terms day s long each c none = record {
+  dossier = morning_dossier terms day s;
+  each = λ place lt its.
+      (same_own c s (morning terms day s) (kept terms day c s place long each lt its none)).each place lt its;
+}
 
 untouched : (terms : Option Terms) (day : ℕ) (s : State) → length s.marks ≡ length s.dossier.wishes
     → AreTermsFor s.dossier terms → IsAnswered s
@@ -208,16 +199,17 @@ morning_answered terms day s m lapsed beside long each m_is lapsed_is beside_is 
     (subst (λ (ks : List ℕ). IsAnsweredBut ks (morning terms day s)) (sym named)
     (untouched terms day s long each answered))
 
-pub morning_alike : (terms : Option Terms) (day : ℕ) (s m : State) (lapsed : List Lapse) (beside : List ℕ)
+pub morning_others : (terms : Option Terms) (day : ℕ) (s m : State) (lapsed : List Lapse) (beside : List ℕ)
     → length s.marks ≡ length s.dossier.wishes
     → AreTermsFor s.dossier terms → m ≡ morning terms day s → lapsed ≡ lapsed_on terms day s
-    → beside ≡ touched m.dossier lapsed day → beside ≡ [] → m ≡ s
-morning_alike terms day s m lapsed beside long each m_is lapsed_is beside_is none =
+    → beside ≡ touched m.dossier lapsed day → SameOthers beside s m
+morning_others terms day s m lapsed beside long each m_is lapsed_is beside_is =
     let same : m.dossier ≡ s.dossier = ap (λ (t : State). t.dossier) m_is ∙ morning_dossier terms day s in
     let named : beside ≡ touched s.dossier (lapsed_on terms day s) day =
     beside_is ∙ ap (λ (d : DossierRows). touched d lapsed day) same
     ∙ ap (λ (ls : List Lapse). touched s.dossier ls day) lapsed_is in
-    m_is ∙ nothing_changed terms day s long each (sym named ∙ none)
+    subst (λ (t : State). SameOthers beside s t) (sym m_is)
+    (subst (λ (ks : List ℕ). SameOthers ks s (morning terms day s)) (sym named) (others_kept terms day s long each))
 
 -- and those are wishes of the dossier
 kind_within : (d : DossierRows) (kind : AnswerKind) (target : ℕ) → IsTarget d kind target

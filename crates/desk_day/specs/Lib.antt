@@ -3,6 +3,7 @@ pub mod Changes
 pub mod DayPasses
 pub mod Touched
 pub mod Unanswered
+pub mod Who
 pub mod DeskStates
 pub mod Evening
 pub mod Ceilings
@@ -10,7 +11,6 @@ pub mod DayLaws
 pub mod DayPlaces
 pub mod LastPasses
 pub mod RunDay
-pub mod Idle
 pub mod Once
 pub mod Running
 pub mod KeptDays

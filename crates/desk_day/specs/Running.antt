@@ -1,5 +1,5 @@
 -- What the desk of a day that runs holds.
-use Rattle.std.specs.Prelude.{◌≡◌, ℕ, ◌+◌, ◌≤◌, ◌<◌, Bool, true, not, List, [], length, Option, None, IsTrue}
+use Rattle.std.specs.Prelude.{◌≡◌, ℕ, ◌+◌, ◌≤◌, ◌<◌, not, List, length, Option, None, IsTrue}
 use Rattle.std.specs.Prelude.{if◌then◌else◌}
 use Rattle.admit_core.specs.declared.ranking.CallOrder.{CallOrder}
 use Rattle.admit_core.specs.declared.records.Lapse.{Lapse}
@@ -9,21 +9,24 @@ use Rattle.admit_core.specs.declared.state.Freed.{Freed}
 use Rattle.admit_core.specs.declared.state.Stamp.{Stamp}
 use Rattle.admit_core.specs.Days.{IsPassEnd, Passes, closing, frees_nothing, lapsed_on, morning, unfit_on}
 use Rattle.admit_core.specs.State.{State}
+use Rattle.day_state.specs.Others.{SameOthers}
 use Rattle.desk_day.specs.AnswersOn.{IsUnfitOf}
 use Rattle.desk_day.specs.DayPasses.{IsAnswered, IsAnsweredBut, TellsOfPasses, last_opening, open_wishes}
 use Rattle.desk_day.specs.DayPlaces.{AreWishesOf}
 use Rattle.desk_day.specs.RunDay.{KeepsOpening, Moment, TellsNoneUnfit}
+use Rattle.desk_day.specs.Who.{ChangesOnly}
 use Rattle.desk_day.specs.declared.refusal.DayRefusal.{DayRefusal}
+use Rattle.desk_day.specs.declared.who.Who.{Who}
 
 -- the present state, and the opening of the last pass
 pub record RunningStates : Type 0 where
   pub present : State
   pub opening : State
 
--- both are of one dossier, and the same where that is known
-pub record IsRunning (is_alike : Bool) (s : RunningStates) : Type 0 where
+-- both are of one dossier, and no wishes but theirs have changed since the opening
+pub record IsRunning (moved : Who) (s : RunningStates) : Type 0 where
   pub dossier : s.opening.dossier ≡ s.present.dossier
-  pub alike : is_alike ≡ true → s.opening ≡ s.present
+  pub others : ChangesOnly moved s.opening s.present
 
 -- the opening after a pass: its own where it freed nothing, since it is the last one then, and
 -- elsewhere its closing, with which the next one opens
@@ -66,8 +69,8 @@ pub record IsBegun (terms : Option Terms) (day : ℕ) (old new : State)
 -- only those who have one of these wishes may have changed, and have to be answered for
 pub record TouchesOnly (touched : List ℕ) (old new : State) : Type 0 where
   pub within : AreWishesOf new.dossier touched
+  pub others : SameOthers touched old new
   pub answered : IsAnswered old → IsAnsweredBut touched new
-  pub alike : touched ≡ [] → new ≡ old
 
 -- why a day has not come about, and what its picker told and its last pass opened with by then
 pub record IsUndone (terms : Option Terms) (orders : List CallOrder) (ceilings : List ℕ) (day : ℕ)

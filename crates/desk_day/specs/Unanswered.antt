@@ -1,49 +1,29 @@
 -- Who may not have been answered for.
-use Rattle.std.specs.Prelude.{◌≡◌, ◌<◌, ◌+◌, ◌++◌, ℕ, Bool, false, List, length, nat_eq, vec_capacity, vec_len, ⊤}
+use Rattle.std.specs.Prelude.{◌≡◌, ◌++◌, ℕ, List, ⊤}
 use Rattle.admit_core.specs.AutoAnswer.{auto_all}
 use Rattle.admit_core.specs.DossierRows.{DossierRows}
 use Rattle.admit_core.specs.Proposals.{proposed}
 use Rattle.admit_core.specs.State.{State}
 use Rattle.admit_core.specs.declared.ranking.CallOrder.{CallOrder}
 use Rattle.admit_core.specs.declared.state.Stamp.{Stamp}
-use Rattle.auto_answer.specs.Laws.{SameOthers}
 use Rattle.desk_day.specs.DayPasses.{offered_along}
 use Rattle.desk_day.specs.DayPlaces.{AreWishesOf}
 use Rattle.desk_day.specs.Once.{AreOfOneEach, NamesSame}
-use Rattle.desk_day.specs.declared.unanswered.Unanswered.{Unanswered}
-use Rattle.desk_day.specs.declared.unanswered.Unanswered.TheVariants.{Anyone, CandidatesOf}
-
-abbrev pub is_nobody : Unanswered → Bool
-is_nobody Anyone = false
-is_nobody (CandidatesOf places) = nat_eq (length places.items) 0
-
--- they are candidates of the dossier
-abbrev pub AreOf : DossierRows → Unanswered → Type 0
-AreOf d Anyone = ⊤
-AreOf d (CandidatesOf places) = AreWishesOf d places.items
-
--- from one state to the other no wishes change but theirs
-abbrev pub ChangesOnly : Unanswered → State → State → Type 0
-ChangesOnly Anyone s t = ⊤
-ChangesOnly (CandidatesOf places) s t =
-    AreWishesOf s.dossier places.items × SameOthers places.items s t
+use Rattle.desk_day.specs.Who.{ChangesOnly}
+use Rattle.desk_day.specs.declared.who.Who.{Who}
+use Rattle.desk_day.specs.declared.who.Who.TheVariants.{Anyone, CandidatesOf}
 
 -- all others have been answered for: whenever automatic answers come, they change nothing of theirs
-abbrev pub AnswersOnly : Unanswered → State → Type 0
+abbrev pub AnswersOnly : Who → State → Type 0
 AnswersOnly these s = (stamp : Stamp) → ChangesOnly these s (auto_all s stamp)
 
 -- these are asked after offers: still anyone, or each candidate of the wishes or the offers once
-abbrev pub AreAsked : DossierRows → List ℕ → Unanswered → Unanswered → Type 0
+abbrev pub AreAsked : DossierRows → List ℕ → Who → Who → Type 0
 AreAsked d offers Anyone Anyone = ⊤
 AreAsked d offers Anyone (CandidatesOf asked) = ⊥
 AreAsked d offers (CandidatesOf places) Anyone = ⊥
 AreAsked d offers (CandidatesOf places) (CandidatesOf asked) =
     NamesSame d (places.items ++ offers) asked.items × AreOfOneEach d asked.items
-
--- there was too little room to add offers to their wishes
-abbrev pub LacksRoomFor : List ℕ → Unanswered → Type 0
-LacksRoomFor offers Anyone = ⊥
-LacksRoomFor offers (CandidatesOf places) = vec_capacity places < vec_len places + length offers
 
 -- wishes that are proposed in a state under some call orders and bars
 pub record AreProposed (s : State) (offers : List ℕ) : Type 0 where
@@ -53,7 +33,7 @@ pub record AreProposed (s : State) (offers : List ℕ) : Type 0 where
 
 -- the automatic answers after these offers change nobody but whom they ask: so it is from the
 -- state that the offers lead to, and from the state before
-pub record AsksAfter (s : State) (offers : List ℕ) (stamp : Stamp) (asked : Unanswered) : Type 0 where
+pub record AsksAfter (s : State) (offers : List ℕ) (stamp : Stamp) (asked : Who) : Type 0 where
   pub within : AreWishesOf s.dossier offers
   pub answers : ChangesOnly asked (offered_along offers stamp s) (auto_all (offered_along offers stamp s) stamp)
   pub changes : ChangesOnly asked s (auto_all (offered_along offers stamp s) stamp)

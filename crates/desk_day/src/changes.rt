@@ -1,6 +1,6 @@
 //! What the automatic answers after a pass changed.
 ghost use Rattle.std.specs.Prelude.{◌≡◌, ◌<◌, IfOk, ◌&&◌};
-ghost use Rattle.auto_answer.specs.Laws.{SameOthers};
+ghost use Rattle.day_state.specs.Others.{SameOthers};
 ghost use Rattle.desk_day.specs.Changes.{answered_changes, is_answered_change, wishes_beside};
 ghost use Rattle.desk_day.specs.DayPlaces.{AreWishesOf};
 

@@ -1,5 +1,5 @@
 //! A day.
-ghost use Rattle.std.specs.Prelude.{◌≡◌, length, IfOk, IfErr, None};
+ghost use Rattle.std.specs.Prelude.{◌≡◌, length, IfOk, IfErr, OnOk, None};
 ghost use Rattle.std.specs.Option.{option_copied};
 ghost use Rattle.admit_core.specs.Ranges.{IsDay as IsDayNumber};
 ghost use Rattle.admit_core.specs.Days.{lapsed_on, morning, unfit_on};
@@ -8,20 +8,21 @@ ghost use Rattle.desk_day.specs.AnswersOn.{IsUnfitOf};
 ghost use Rattle.desk_day.specs.KeptDays.{EndsDayKept, kept_day};
 ghost use Rattle.desk_day.specs.RunDay.{EndsDay, IsDayDone};
 ghost use Rattle.desk_day.specs.Running.{IsUndone, moment_on};
+ghost use Rattle.desk_day.specs.Who.{Moves};
 ghost use Rattle.round.specs.KeptFalls.{IsKeptOf, are_kept};
 
-use crate::desk::{Desk, keep_evening};
+use crate::desk::Desk;
 use crate::evening::record_day;
-use crate::idle::is_idle;
 use crate::plan::DayPlan;
-use crate::present::Begun;
 use crate::refusal::DayRefusal;
 use crate::running::Running;
+use crate::who::{Who, take_over};
 use admit_core::{DayRecord, Lapse, Terms};
 use bar_fixpoint::Picker;
 use linked_demand::Roster;
 use round::Falls;
 use std::alloc::Global;
+use std::mem;
 
 /// Runs a day, with its lapse where terms are given, along a roster of the desk's dossier, which
 /// many days may share. After a refusal the state is that of the evening before.
@@ -71,19 +72,16 @@ pub fn run_day_by(
         (record { desk = desk.new; told = told picker.new; choice = choice picker.new }) result }
 {
     let _ = desk.now().marks(); // one for each wish
-    keep_evening(&mut desk.evening, desk.running.now(), desk.is_still);
-    let is_settled = desk.running.is_settled();
-    let outcome = desk.running.play(alloc, roster, plan, picker);
-    desk.is_still = false;
+    take_over(&mut desk.evening, desk.running.now(), &desk.moved);
+    desk.moved = Who::nobody(alloc);
+    let outcome = desk
+        .running
+        .play(alloc, roster, plan, picker, &mut desk.moved);
     match outcome {
-        Ok(done) => {
-            let is_still = is_settled & is_idle(desk.evening.dossier(), &done);
-            desk.running.note_alike(is_still);
-            desk.is_still = is_still;
-            Ok(done)
-        }
+        Ok(done) => Ok(done),
         Err(refusal) => {
             desk.running.restore(&desk.evening);
+            desk.moved = Who::nobody(alloc);
             Err(refusal)
         }
     }
@@ -91,12 +89,14 @@ pub fn run_day_by(
 
 impl Running<'_> {
     /// Makes the lapse, the answers and the passes of a day. A refusal may come in their midst.
+    /// Those whom the day moves are added to `moved`.
     fn play(
         &mut self,
         alloc: Global,
         roster: &Roster<'_, '_>,
         plan: DayPlan<'_>,
         picker: &mut dyn Picker,
+        moved: &mut Who,
     ) -> Result<DayRecord, DayRefusal>
         requires roster { roster.now.dossier ≡ self.old.present.dossier }
         requires ceilings { length plan.ceilings.now ≡ length self.old.present.dossier.schools }
@@ -113,24 +113,26 @@ impl Running<'_> {
             (moment_on self.old self.old.present (told picker.old) (choice picker.old))
             (moment_on self.new self.old.present (told picker.new) (choice picker.new))) }
         ensures choice { choice picker.new ≡ choice picker.old }
+        ensures moved { OnOk result (Moves self.old.present self.new.present moved.old moved.new) }
         ensures dossier { self.new.present.dossier ≡ self.old.present.dossier }
     {
         let state = self.now();
         let _ = state.dossier().wishes.len(); // learns that the dossier is valid
         let _ = roster.orders(); // these are the dossier's
-        let lapsed = self.begin_day(alloc, plan.terms, plan.day)?;
-        let passes = self.make_passes(alloc, roster, plan, picker)?;
+        let lapsed = self.begin_day(alloc, plan.terms, plan.day, moved)?;
+        let passes = self.make_passes(alloc, roster, plan, picker, moved)?;
         let done = record_day(alloc, self.now(), plan.day, passes, lapsed)?;
         Ok(done)
     }
 
     /// Makes the lapse and the answers of a day, and gives the offers that lapsed. A refusal may
-    /// come in the midst of the answers.
+    /// come in the midst of the answers. Those whom the day touches are added to `moved`.
     fn begin_day(
         &mut self,
         alloc: Global,
         terms: Option<&Terms>,
         day: u32,
+        moved: &mut Who,
     ) -> Result<Vec<Lapse>, DayRefusal>
         requires before { AreTermsFor self.old.present.dossier (option_copied terms) }
         requires day { IsDayNumber day }
@@ -144,12 +146,15 @@ impl Running<'_> {
         ensures unfit { IfErr result (IsUnfitOf self.old.present.dossier day
             (unfit_on (option_copied terms.entry) day self.old.present)) }
         ensures opening { self.new.opening ≡ self.old.opening }
+        ensures moved { OnOk result (Moves self.old.present self.new.present moved.old moved.new) }
         ensures dossier { self.new.present.dossier ≡ self.old.present.dossier }
     {
-        let was_alike = self.is_alike;
-        self.is_alike = false;
-        let Begun { lapsed, is_alike } = self.present.begin_day(alloc, terms, day)?;
-        self.is_alike = was_alike & is_alike;
+        let mut since_opening = mem::replace(&mut self.moved, Who::Anyone);
+        let mut touched = Who::nobody(alloc);
+        let lapsed = self.present.touch_morning(alloc, terms, day, &mut touched)?;
+        since_opening.add(&touched);
+        moved.add(&touched);
+        self.moved = since_opening;
         Ok(lapsed)
     }
 }

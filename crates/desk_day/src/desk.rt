@@ -1,9 +1,10 @@
 //! The states that a day needs.
-ghost use Rattle.std.specs.Prelude.{◌≡◌, IfOk, true};
+ghost use Rattle.std.specs.Prelude.{◌≡◌, IfOk};
 ghost use Rattle.admit_core.specs.Days.{first_evening};
 ghost use Rattle.desk_day.specs.DeskStates.{DeskStates};
 
 use crate::running::Running;
+use crate::who::{Who, take_over};
 use admit_core::{Dossier, OutOfMemory};
 use day_state::DayState;
 use std::alloc::Global;
@@ -12,12 +13,12 @@ use std::marker::Model;
 /// The present state of a dossier's wishes, the state in which its last day began, and the opening
 /// of the last pass.
 ///
-/// Where `is_still`, the evening is the present state, as before the first day and after one on
-/// which nothing happened: then it need not be copied.
+/// `moved` are those whose wishes may have changed since the evening. So an evening is kept along
+/// their wishes, and nothing is copied after a day on which nothing happened.
 pub struct Desk<'d> {
     pub(crate) running: Running<'d>,
     pub(crate) evening: DayState<'d>,
-    pub(crate) is_still: bool,
+    pub(crate) moved: Who,
 }
 
 // Not derived: so a desk is dropped in one step where it is held, and not state by state.
@@ -26,7 +27,7 @@ impl Drop for Desk<'_> {
         let Desk {
             running: _,
             evening: _,
-            is_still: _,
+            moved: _,
         } = self;
     }
 }
@@ -42,7 +43,7 @@ impl<'d> Model for Desk<'d> {
       opening = s.running.opening;
     } };
 
-    ghost invariant = { λ s. IsKept s.is_still s.evening s.running.present };
+    ghost invariant = { λ s. IsKept s.moved s.evening s.running.present };
 }
 
 impl<'d> Desk<'d> {
@@ -57,7 +58,7 @@ impl<'d> Desk<'d> {
         Ok(Desk {
             running,
             evening,
-            is_still: true,
+            moved: Who::nobody(alloc),
         })
     }
 
@@ -82,13 +83,13 @@ impl<'d> Desk<'d> {
         self.running.opening()
     }
 
-    /// Makes the evening the present state, where it is not yet.
+    /// Makes the evening the present state.
     pub fn keep_evening(&mut self)
         ensures evening { self.new.evening ≡ self.old.present }
         ensures present { self.new.present ≡ self.old.present }
         ensures opening { self.new.opening ≡ self.old.opening }
     {
-        keep_evening(&mut self.evening, self.running.now(), self.is_still);
+        take_over(&mut self.evening, self.running.now(), &self.moved);
     }
 
     /// The present state alone; the room of the other two is given back.
@@ -98,19 +99,8 @@ impl<'d> Desk<'d> {
         let Desk {
             running,
             evening: _,
-            is_still: _,
+            moved: _,
         } = self;
         running.into_now()
-    }
-}
-
-/// Makes the evening the present state, where it is not yet.
-pub(crate) fn keep_evening<'d>(evening: &mut DayState<'d>, present: &DayState<'d>, is_still: bool)
-    requires same { evening.old.dossier ≡ present.now.dossier }
-    requires still { is_still ≡ true → evening.old ≡ present.now }
-    ensures { evening.new ≡ present.now }
-{
-    if !is_still {
-        evening.set_from(present);
     }
 }

@@ -11,7 +11,6 @@ mod changes;
 mod day;
 mod desk;
 mod evening;
-mod idle;
 mod lapses;
 mod morning;
 mod once;
@@ -22,7 +21,7 @@ mod refusal;
 mod refused;
 mod running;
 mod touched;
-mod unanswered;
+mod who;
 
 pub use ceilings::{ceilings_on, own_ceilings};
 pub use day::{run_day_along, run_day_by};

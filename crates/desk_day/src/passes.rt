@@ -1,5 +1,5 @@
 //! The passes of a day.
-ghost use Rattle.std.specs.Prelude.{◌≡◌, length, map, true, IfOk, OnErr};
+ghost use Rattle.std.specs.Prelude.{◌≡◌, length, map, true, IfOk, OnErr, OnOk};
 ghost use Rattle.admit_core.specs.AutoAnswer.{auto_all};
 ghost use Rattle.admit_core.specs.Boarding.{boarding};
 ghost use Rattle.admit_core.specs.Days.{frees_nothing};
@@ -8,13 +8,14 @@ ghost use Rattle.desk_day.specs.Changes.{answered_changes};
 ghost use Rattle.desk_day.specs.DayPasses.{TellsOfPasses, offered_along};
 ghost use Rattle.desk_day.specs.KeptDays.{ArePassesPicked, IsPassPicked, kept_end};
 ghost use Rattle.desk_day.specs.Running.{opening_after};
-ghost use Rattle.desk_day.specs.Unanswered.{AsksAfter, ChangesOnly};
+ghost use Rattle.desk_day.specs.Unanswered.{AsksAfter};
+ghost use Rattle.desk_day.specs.Who.{ChangesOnly, Moves};
 ghost use Rattle.round.specs.KeptFalls.{IsKeptOf, are_kept};
 
 use crate::changes::{answered_changes, changes_beside};
 use crate::plan::DayPlan;
 use crate::running::Running;
-use crate::unanswered::{Unanswered, answer_for};
+use crate::who::{Who, answer_for};
 use admit_core::{Change, Freed, OutOfMemory, PassEnd, Sequence, Stamp};
 use bar_fixpoint::Picker;
 use day_state::DayState;
@@ -23,7 +24,7 @@ use std::alloc::Global;
 
 impl Running<'_> {
     /// Makes passes from the present state on, up to the first whose automatic answers free
-    /// nothing.
+    /// nothing. Those whom they move are added to `moved`.
     ///
     /// A pass that is not the last refuses a live wish, and none comes back to life: so there are
     /// at most as many passes as wishes, and one more.
@@ -33,6 +34,7 @@ impl Running<'_> {
         roster: &Roster<'_, '_>,
         plan: DayPlan<'_>,
         picker: &mut dyn Picker,
+        moved: &mut Who,
     ) -> Result<Vec<PassEnd>, OutOfMemory>
         requires roster { roster.now.dossier ≡ self.old.present.dossier }
         requires ceilings { length plan.ceilings.now ≡ length self.old.present.dossier.schools }
@@ -45,6 +47,7 @@ impl Running<'_> {
             plan.entry.day self.old.present (choice picker.old) (told picker.old)
             (told picker.new)) }
         ensures choice { choice picker.new ≡ choice picker.old }
+        ensures moved { OnOk result (Moves self.old.present self.new.present moved.old moved.new) }
         ensures dossier { self.new.present.dossier ≡ self.old.present.dossier }
     {
         let state = self.now();
@@ -58,7 +61,7 @@ impl Running<'_> {
                 day: plan.day,
                 pass: number,
             };
-            let end = self.make_pass(alloc, roster, plan, stamp, picker)?;
+            let end = self.make_pass(alloc, roster, plan, stamp, picker, moved)?;
             let is_last = frees_nothing(end.freed);
             ends.push(end)?;
             if is_last {
@@ -69,7 +72,7 @@ impl Running<'_> {
     }
 
     /// Makes a pass and the automatic answers that follow it. Then the opening is that of the next
-    /// pass, where one follows.
+    /// pass, where one follows. Those whom it moves are added to `moved`.
     fn make_pass(
         &mut self,
         alloc: Global,
@@ -77,6 +80,7 @@ impl Running<'_> {
         plan: DayPlan<'_>,
         stamp: Stamp,
         picker: &mut dyn Picker,
+        moved: &mut Who,
     ) -> Result<PassEnd, OutOfMemory>
         requires opened { self.old.opening ≡ self.old.present }
         requires roster { roster.now.dossier ≡ self.old.present.dossier }
@@ -89,16 +93,19 @@ impl Running<'_> {
             (boarding self.old.present roster.now.orders plan.entry.ceilings.now)
             (choice picker.old) (told picker.old) (told picker.new)) }
         ensures choice { choice picker.new ≡ choice picker.old }
+        ensures moved { OnOk result (Moves self.old.present self.new.present moved.old moved.new) }
         ensures dossier { self.new.present.dossier ≡ self.old.present.dossier }
     {
         let _ = self.now().marks(); // one for each wish
-        self.is_alike = false;
+        self.moved = Who::Anyone;
         let (pass, asked) = self.present.make_pass(alloc, roster, plan, stamp, picker)?;
         let freed = self.present.answer(alloc, &asked, stamp);
         let closing = self.present.now();
         let autos = changes_after(alloc, &self.opening, closing, &asked)?;
         let offers = pass.offers.as_slice();
         follow(&mut self.opening, closing, freed, offers, &asked, stamp);
+        moved.add(&asked);
+        self.moved = asked;
         Ok(PassEnd {
             pass,
             autos: Sequence::from_vec(autos),
@@ -115,7 +122,7 @@ fn follow<'d>(
     closing: &DayState<'d>,
     freed: Freed,
     offers: &[u32],
-    asked: &Unanswered,
+    asked: &Who,
     stamp: Stamp,
 )
     requires closing { closing.now
@@ -127,8 +134,8 @@ fn follow<'d>(
         return;
     }
     match asked {
-        Unanswered::Anyone => opening.set_from(closing),
-        Unanswered::CandidatesOf(_) => {
+        Who::Anyone => opening.set_from(closing),
+        Who::CandidatesOf(_) => {
             opening.offer_all(offers, stamp);
             answer_for(opening, asked, stamp);
         }
@@ -148,16 +155,14 @@ fn changes_after(
     alloc: Global,
     opening: &DayState<'_>,
     closing: &DayState<'_>,
-    asked: &Unanswered,
+    asked: &Who,
 ) -> Result<Vec<Change>, OutOfMemory>
     requires same { closing.now.dossier ≡ opening.now.dossier }
     requires asked { ChangesOnly asked.now opening.now closing.now }
     ensures { IfOk result (λ v. v.items ≡ answered_changes opening.now closing.now) }
 {
     match asked {
-        Unanswered::Anyone => answered_changes(alloc, opening, closing),
-        Unanswered::CandidatesOf(places) => {
-            changes_beside(alloc, opening, closing, places.as_slice())
-        }
+        Who::Anyone => answered_changes(alloc, opening, closing),
+        Who::CandidatesOf(places) => changes_beside(alloc, opening, closing, places.as_slice()),
     }
 }

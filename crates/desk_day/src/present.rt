@@ -10,13 +10,14 @@ ghost use Rattle.bar_fixpoint.specs.Chosen.{TellsOfFalls};
 ghost use Rattle.desk_day.specs.AnswersOn.{IsUnfitOf};
 ghost use Rattle.desk_day.specs.DayPasses.{IsAnswered, offered_along};
 ghost use Rattle.desk_day.specs.Running.{IsBegun};
-ghost use Rattle.desk_day.specs.Unanswered.{AreProposed, AsksAfter, ChangesOnly};
+ghost use Rattle.desk_day.specs.Unanswered.{AreProposed, AsksAfter};
+ghost use Rattle.desk_day.specs.Who.{ChangesOnly, Moves};
 ghost use Rattle.round.specs.KeptFalls.{IsKeptOf, IsPassOffered, are_kept, kept_pass};
 
 use crate::morning::{make_morning, touch_morning};
 use crate::plan::DayPlan;
 use crate::refusal::DayRefusal;
-use crate::unanswered::{Unanswered, answer_for, left_by_morning};
+use crate::who::{Who, answer_for, left_by_morning};
 use admit_core::{Freed, Lapse, OutOfMemory, PassRecord, Stamp, Terms};
 use bar_fixpoint::Picker;
 use day_state::DayState;
@@ -33,7 +34,7 @@ use std::mem;
 /// refusal.
 pub struct Present<'d> {
     pub(crate) state: DayState<'d>,
-    pub(crate) unanswered: Unanswered,
+    pub(crate) unanswered: Who,
 }
 
 // Not derived: so it is dropped in one step where it is held, and not part by part.
@@ -73,7 +74,7 @@ impl<'d> Present<'d> {
     {
         Present {
             state,
-            unanswered: Unanswered::Anyone,
+            unanswered: Who::Anyone,
         }
     }
 
@@ -96,7 +97,7 @@ impl<'d> Present<'d> {
     }
 
     /// Whether all are known to have been answered for.
-    pub(crate) fn is_settled(&self) -> bool
+    fn is_settled(&self) -> bool
         ensures { result ≡ true → IsAnswered self.now }
     {
         let _ = self.state.marks(); // one for each wish
@@ -122,12 +123,40 @@ impl<'d> Present<'d> {
             (unfit_on (option_copied terms.entry) day self.old)) }
         ensures dossier { self.new.dossier ≡ self.old.dossier }
     {
-        let was_settled = self.is_settled();
-        self.unanswered = Unanswered::Anyone;
-        let (lapsed, touched) = touch_morning(alloc, &mut self.state, terms, day)?;
-        let is_alike = touched.as_slice().is_empty();
-        self.unanswered = left_by_morning(was_settled, touched);
+        let _ = self.state.marks(); // one for each wish
+        let mut touched = Who::nobody(alloc);
+        let lapsed = self.touch_morning(alloc, terms, day, &mut touched)?;
+        let _ = self.state.marks();
+        let is_alike = touched.is_nobody();
         Ok(Begun { lapsed, is_alike })
+    }
+
+    /// The same, but it gives the offers that lapsed, and adds those whom the day touches to
+    /// `moved`.
+    pub(crate) fn touch_morning(
+        &mut self,
+        alloc: Global,
+        terms: Option<&Terms>,
+        day: u32,
+        moved: &mut Who,
+    ) -> Result<Vec<Lapse>, DayRefusal>
+        requires before { AreTermsFor self.old.dossier (option_copied terms) }
+        requires day { IsDayNumber day }
+
+        ensures begun { IfOk result (λ lapsed. IsBegun (option_copied terms.entry) day self.old
+            self.new lapsed.items) }
+        ensures moved { OnOk result (Moves self.old self.new moved.old moved.new) }
+        ensures unfit { IfErr result (IsUnfitOf self.old.dossier day
+            (unfit_on (option_copied terms.entry) day self.old)) }
+        ensures dossier { self.new.dossier ≡ self.old.dossier }
+    {
+        let was_settled = self.is_settled();
+        self.unanswered = Who::Anyone;
+        let (lapsed, touched) = touch_morning(alloc, &mut self.state, terms, day)?;
+        let touched = Who::CandidatesOf(touched);
+        moved.add(&touched);
+        self.unanswered = left_by_morning(was_settled, touched);
+        Ok(lapsed)
     }
 
     /// Why a day does not come about for which there is no memory. Its lapse and its answers are
@@ -138,7 +167,7 @@ impl<'d> Present<'d> {
             (unfit_on (option_copied terms.entry) day self.old) result }
         ensures dossier { self.new.dossier ≡ self.old.dossier }
     {
-        self.unanswered = Unanswered::Anyone;
+        self.unanswered = Who::Anyone;
         match make_morning(&mut self.state, terms, day) {
             Ok(()) => DayRefusal::OutOfMemory,
             Err(refusal) => refusal,
@@ -150,7 +179,7 @@ impl<'d> Present<'d> {
         requires { evening.now.dossier ≡ self.old.dossier }
         ensures { self.new ≡ evening.now }
     {
-        self.unanswered = Unanswered::Anyone;
+        self.unanswered = Who::Anyone;
         self.state.set_from(evening);
     }
 
@@ -162,7 +191,7 @@ impl<'d> Present<'d> {
         plan: DayPlan<'_>,
         stamp: Stamp,
         picker: &mut dyn Picker,
-    ) -> Result<(PassRecord, Unanswered), OutOfMemory>
+    ) -> Result<(PassRecord, Who), OutOfMemory>
         requires roster { roster.now.dossier ≡ self.old.dossier }
         requires ceilings { length plan.ceilings.now ≡ length self.old.dossier.schools }
 
@@ -179,7 +208,7 @@ impl<'d> Present<'d> {
         ensures dossier { self.new.dossier ≡ self.old.dossier }
     {
         let _ = self.state.marks(); // one for each wish
-        let before = mem::replace(&mut self.unanswered, Unanswered::Anyone);
+        let before = mem::replace(&mut self.unanswered, Who::Anyone);
         let pass = pass_keeping(
             alloc,
             &mut self.state,
@@ -194,15 +223,15 @@ impl<'d> Present<'d> {
     }
 
     /// Answers for those who are asked, and so for all.
-    pub(crate) fn answer(&mut self, alloc: Global, asked: &Unanswered, stamp: Stamp) -> Freed
+    pub(crate) fn answer(&mut self, alloc: Global, asked: &Who, stamp: Stamp) -> Freed
         requires { ChangesOnly asked.now self.old (auto_all self.old stamp) }
         ensures state { self.new ≡ auto_all self.old stamp }
         ensures freed { result ≡ freed self.old self.new }
     {
         let _ = self.state.marks(); // one for each wish
-        self.unanswered = Unanswered::Anyone;
+        self.unanswered = Who::Anyone;
         let freed = answer_for(&mut self.state, asked, stamp);
-        self.unanswered = Unanswered::CandidatesOf(Vec::new(alloc));
+        self.unanswered = Who::nobody(alloc);
         freed
     }
 
@@ -221,7 +250,7 @@ impl<'d> Present<'d> {
         ensures kept { OnErr result (self.new ≡ self.old) }
     {
         let _ = self.state.marks(); // one for each wish
-        let before = mem::replace(&mut self.unanswered, Unanswered::Anyone);
+        let before = mem::replace(&mut self.unanswered, Who::Anyone);
         let asked = before.with_offered(&self.state, offers)?;
         self.state.offer_all(offers, stamp);
         Ok(self.answer(alloc, &asked, stamp))

@@ -5,9 +5,10 @@ ghost use Rattle.admit_core.specs.Days.{unfit_on};
 ghost use Rattle.admit_core.specs.Lapses.{AreTermsFor};
 ghost use Rattle.desk_day.specs.AnswersOn.{IsUnfitOf};
 
-use crate::desk::{Desk, keep_evening};
+use crate::desk::Desk;
 use crate::refusal::DayRefusal;
 use crate::running::Running;
+use crate::who::{Who, take_over};
 use admit_core::Terms;
 
 impl Running<'_> {
@@ -20,7 +21,7 @@ impl Running<'_> {
         ensures opening { self.new.opening ≡ self.old.opening }
         ensures dossier { self.new.present.dossier ≡ self.old.present.dossier }
     {
-        self.is_alike = false;
+        self.moved = Who::Anyone;
         self.present.refuse(terms, day)
     }
 }
@@ -36,10 +37,9 @@ impl Desk<'_> {
         ensures evening { self.new.evening ≡ self.old.present }
         ensures opening { self.new.opening ≡ self.old.opening }
     {
-        keep_evening(&mut self.evening, self.running.now(), self.is_still);
+        take_over(&mut self.evening, self.running.now(), &self.moved);
         let refusal = self.running.refuse(terms, day);
         self.running.restore(&self.evening);
-        self.is_still = false;
         refusal
     }
 }

@@ -1,10 +1,10 @@
 //! The states of a day that runs.
-ghost use Rattle.std.specs.Prelude.{◌≡◌, IfOk, true};
+ghost use Rattle.std.specs.Prelude.{◌≡◌, IfOk};
 ghost use Rattle.admit_core.specs.Days.{first_evening};
-ghost use Rattle.desk_day.specs.DayPasses.{IsAnswered};
 ghost use Rattle.desk_day.specs.Running.{RunningStates};
 
 use crate::present::Present;
+use crate::who::{Who, take_over};
 use admit_core::{Dossier, OutOfMemory};
 use day_state::DayState;
 use std::alloc::Global;
@@ -12,12 +12,12 @@ use std::marker::Model;
 
 /// The present state of a dossier's wishes, and the opening of the last pass.
 ///
-/// Where `is_alike`, the opening is the present state, and need not be copied from it. It is not
-/// said while a pass is made.
+/// `moved` are those whose wishes may have changed since the opening: those whom the answers after
+/// that pass asked, and whom the day touched that begins now. While a pass is made, it is anyone.
 pub(crate) struct Running<'d> {
     pub(crate) present: Present<'d>,
     pub(crate) opening: DayState<'d>,
-    pub(crate) is_alike: bool,
+    pub(crate) moved: Who,
 }
 
 // Not derived: so it is dropped in one step where it is held, and not state by state.
@@ -26,7 +26,7 @@ impl Drop for Running<'_> {
         let Running {
             present: _,
             opening: _,
-            is_alike: _,
+            moved: _,
         } = self;
     }
 }
@@ -38,7 +38,7 @@ impl<'d> Model for Running<'d> {
 
     ghost view = { λ s. record { present = s.present; opening = s.opening } };
 
-    ghost invariant = { λ s. IsRunning s.is_alike
+    ghost invariant = { λ s. IsRunning s.moved
         (record { present = s.present; opening = s.opening }) };
 }
 
@@ -53,7 +53,7 @@ impl<'d> Running<'d> {
         Ok(Running {
             present: Present::begin(present),
             opening,
-            is_alike: true,
+            moved: Who::nobody(alloc),
         })
     }
 
@@ -78,24 +78,9 @@ impl<'d> Running<'d> {
         let Running {
             present,
             opening: _,
-            is_alike: _,
+            moved: _,
         } = self;
         present.into_now()
-    }
-
-    /// Whether all are known to have been answered for.
-    pub(crate) fn is_settled(&self) -> bool
-        ensures { result ≡ true → IsAnswered self.now.present }
-    {
-        self.present.is_settled()
-    }
-
-    /// Notes whether the opening is the present state.
-    pub(crate) fn note_alike(&mut self, is_alike: bool)
-        requires { is_alike ≡ true → self.old.opening ≡ self.old.present }
-        ensures { self.new ≡ self.old }
-    {
-        self.is_alike = is_alike;
     }
 
     /// Brings the present state back to an evening.
@@ -104,7 +89,7 @@ impl<'d> Running<'d> {
         ensures present { self.new.present ≡ evening.now }
         ensures opening { self.new.opening ≡ self.old.opening }
     {
-        self.is_alike = false;
+        self.moved = Who::Anyone;
         self.present.restore(evening);
     }
 
@@ -113,8 +98,6 @@ impl<'d> Running<'d> {
         ensures present { self.new.present ≡ self.old.present }
         ensures opening { self.new.opening ≡ self.old.present }
     {
-        if !self.is_alike {
-            self.opening.set_from(self.present.now());
-        }
+        take_over(&mut self.opening, self.present.now(), &self.moved);
     }
 }

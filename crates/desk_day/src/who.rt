@@ -1,18 +1,21 @@
-//! Who may not have been answered for.
-ghost use Rattle.std.specs.Prelude.{◌≡◌, IfOk, OnErr, if◌then◌else◌};
+//! Who may not have been answered for, or may have changed.
+ghost use Rattle.std.specs.Prelude.{◌≡◌, IfOk, OnErr, if◌then◌else◌, true};
 ghost use Rattle.desk_day.specs.DayPlaces.{AreWishesOf};
-ghost use Rattle.desk_day.specs.Unanswered.{AreAsked, AreOf, ChangesOnly, LacksRoomFor, is_nobody};
+ghost use Rattle.desk_day.specs.Unanswered.{AreAsked};
+ghost use Rattle.desk_day.specs.Who.{AreOf, ChangesOnly, Joins, LacksRoomFor, is_nobody};
 ghost use Rattle.admit_core.specs.AutoAnswer.{auto_all, freed};
-ghost use Rattle.desk_day.specs.declared.unanswered.Unanswered.TheVariants as unanswered;
+ghost use Rattle.desk_day.specs.declared.who.Who.TheVariants as who;
 
 use crate::once::beside_offers;
 use admit_core::{Freed, Stamp};
 use auto_answer::{auto_all, auto_some};
 use day_state::DayState;
-use std::alloc::AllocError;
+use std::alloc::{AllocError, Global};
+use std::mem;
 
-/// Who may not have been answered for in a state: everybody else has been.
-pub(crate) enum Unanswered {
+/// Candidates of whom something may be: that they have not been answered for, or that their wishes
+/// have other marks than in another state. Of everybody else it is not.
+pub(crate) enum Who {
     /// Of nobody is it known.
     Anyone,
     /// The candidates of these wishes.
@@ -20,23 +23,30 @@ pub(crate) enum Unanswered {
 }
 
 // Not derived: so it is dropped in one step where it is held.
-impl Drop for Unanswered {
+impl Drop for Who {
     fn drop(self) {
         match self {
-            Unanswered::Anyone => (),
-            Unanswered::CandidatesOf(_) => (),
+            Who::Anyone => (),
+            Who::CandidatesOf(_) => (),
         }
     }
 }
 
-impl Unanswered {
+impl Who {
+    /// Nobody.
+    pub(crate) fn nobody(alloc: Global) -> Who
+        ensures { is_nobody result ≡ true }
+    {
+        Who::CandidatesOf(Vec::new(alloc))
+    }
+
     /// Whether it is nobody.
     pub(crate) fn is_nobody(&self) -> bool
         ensures { result ≡ is_nobody self.now }
     {
         match self {
-            Unanswered::Anyone => false,
-            Unanswered::CandidatesOf(places) => places.as_slice().is_empty(),
+            Who::Anyone => false,
+            Who::CandidatesOf(places) => places.as_slice().is_empty(),
         }
     }
 
@@ -46,41 +56,76 @@ impl Unanswered {
         self,
         state: &DayState<'_>,
         offers: &[u32],
-    ) -> Result<Unanswered, AllocError>
+    ) -> Result<Who, AllocError>
         requires own { AreOf state.now.dossier self }
         requires offers { AreWishesOf state.now.dossier offers.now }
         ensures asked { IfOk result (AreAsked state.now.dossier offers.now self) }
         ensures full { OnErr result (LacksRoomFor offers.now self) }
     {
         match self {
-            Unanswered::Anyone => Ok(Unanswered::Anyone),
-            Unanswered::CandidatesOf(places) => Ok(Unanswered::CandidatesOf(beside_offers(
+            Who::Anyone => Ok(Who::Anyone),
+            Who::CandidatesOf(places) => Ok(Who::CandidatesOf(beside_offers(
                 places, state, offers,
             )?)),
+        }
+    }
+
+    /// Adds others to them. Where there is no room for the list, it is anyone.
+    pub(crate) fn add(&mut self, others: &Who)
+        ensures { Joins self.old others.now self.new }
+    {
+        let these = mem::replace(self, Who::Anyone);
+        *self = these.with(others);
+    }
+
+    /// These and others.
+    fn with(self, others: &Who) -> Who
+        ensures { Joins self others.now result }
+    {
+        match self {
+            Who::Anyone => Who::Anyone,
+            Who::CandidatesOf(places) => match others {
+                Who::Anyone => Who::Anyone,
+                Who::CandidatesOf(more) => {
+                    let mut all = places;
+                    match all.extend_from_slice(more.as_slice()) {
+                        Ok(()) => Who::CandidatesOf(all),
+                        Err(_) => Who::Anyone,
+                    }
+                }
+            },
         }
     }
 }
 
 /// Who is left after a morning: whom it touched, where all had been answered for.
-pub(crate) fn left_by_morning(was_settled: bool, touched: Vec<u32>) -> Unanswered
-    ensures { result ≡ (if was_settled then unanswered.CandidatesOf touched
-        else unanswered.Anyone) }
+pub(crate) fn left_by_morning(was_settled: bool, touched: Who) -> Who
+    ensures { result ≡ (if was_settled then touched else who.Anyone) }
 {
-    if was_settled {
-        Unanswered::CandidatesOf(touched)
-    } else {
-        Unanswered::Anyone
-    }
+    if was_settled { touched } else { Who::Anyone }
 }
 
 /// Answers for those who are asked, and so for all.
-pub(crate) fn answer_for(state: &mut DayState<'_>, asked: &Unanswered, stamp: Stamp) -> Freed
+pub(crate) fn answer_for(state: &mut DayState<'_>, asked: &Who, stamp: Stamp) -> Freed
     requires { ChangesOnly asked.now state.old (auto_all state.old stamp) }
     ensures state { state.new ≡ auto_all state.old stamp }
     ensures freed { result ≡ freed state.old state.new }
 {
     match asked {
-        Unanswered::Anyone => auto_all(state, stamp),
-        Unanswered::CandidatesOf(places) => auto_some(state, places.as_slice(), stamp),
+        Who::Anyone => auto_all(state, stamp),
+        Who::CandidatesOf(places) => auto_some(state, places.as_slice(), stamp),
+    }
+}
+
+/// Makes a state another one of the same dossier, in which the wishes of these alone may have other
+/// marks.
+pub(crate) fn take_over<'d>(state: &mut DayState<'d>, other: &DayState<'d>, moved: &Who)
+    requires same { state.old.dossier ≡ other.now.dossier }
+    requires moved { ChangesOnly moved.now state.old other.now }
+    ensures { state.new ≡ other.now }
+{
+    match moved {
+        Who::Anyone => state.set_from(other),
+        Who::CandidatesOf(places) => state.take_over_beside(other, places.as_slice()),
     }
 }

@@ -6,7 +6,7 @@ use Rattle.admit_core.specs.declared.records.Lapse.{Lapse}
 use Rattle.admit_core.specs.declared.state.Mark.{Mark}
 use Rattle.admit_core.specs.DossierRows.{DossierRows}
 use Rattle.desk_day.proofs.DayPlaces.{lapsed_in}
-use Rattle.desk_day.proofs.Touching.{morning_alike, morning_answered}
+use Rattle.desk_day.proofs.Touching.{morning_answered, morning_others}
 use Rattle.desk_day.proofs.morning.touch_morning.Goals as goal
 
 pub list_touched-requires : goal.list_touched-requires
@@ -38,6 +38,6 @@ returns-clause-touched c =
       within = c.in_ok-touched.ensures.within;
       answered = morning_answered terms c.args.day s m c.as_slice.result.now c.in_ok-touched.touched.items long
           c.requires.before c.in_ok-make_morning.ensures.morning gone c.in_ok-touched.ensures.listed;
-      alike = morning_alike terms c.args.day s m c.as_slice.result.now c.in_ok-touched.touched.items long
+      others = morning_others terms c.args.day s m c.as_slice.result.now c.in_ok-touched.touched.items long
           c.requires.before c.in_ok-make_morning.ensures.morning gone c.in_ok-touched.ensures.listed;
     }

@@ -10,5 +10,5 @@ invariant_of-self c =
     let s = c.self.inside.state in
     let long : length s.marks ≡ length s.dossier.wishes =
     ap (λ (ms : List Mark). length ms) (sym c.marks.ensures.marks) ∙ c.marks.ensures.one_each in
-    only_none c.answer_for-freed.new.state c.new.result c.new.ensures.items
+    only_none c.answer_for-freed.new.state c.nobody.result c.nobody.ensures
     (subst IsAnswered (sym c.answer_for-freed.ensures.state) (λ again. answered_once s c.args.stamp long again))

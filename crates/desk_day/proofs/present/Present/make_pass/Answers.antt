@@ -4,8 +4,9 @@ use Rattle.admit_core.specs.DossierRows.{DossierRows}
 use Rattle.admit_core.specs.State.{State}
 use Rattle.admit_core.specs.declared.state.Mark.{Mark}
 use Rattle.desk_day.specs.DayPasses.{offered_along}
-use Rattle.desk_day.specs.Unanswered.{AreAsked, AreOf, AsksAfter}
-use Rattle.desk_day.specs.declared.unanswered.Unanswered.{Unanswered}
+use Rattle.desk_day.specs.Unanswered.{AreAsked, AsksAfter}
+use Rattle.desk_day.specs.Who.{AreOf}
+use Rattle.desk_day.specs.declared.who.Who.{Who}
 use Rattle.desk_day.proofs.KeptPasses.{offers_kept}
 use Rattle.desk_day.proofs.LaterPasses.{offered_there, offers_within}
 use Rattle.desk_day.proofs.ToldPasses.{told_seen, told_whole}
@@ -20,7 +21,7 @@ pub with_offered-requires-clause-own : goal.with_offered-requires-clause-own
 with_offered-requires-clause-own g c =
     let there = ap (λ (t : State). t.dossier) c.in_ok-pass.ensures.pass.1.offers in
     subst (λ (d : DossierRows). AreOf d c.replace-before.result) (sym there)
-    (subst (λ (these : Unanswered). AreOf c.self.inside.state.dossier these) (sym c.replace-before.ensures.value)
+    (subst (λ (these : Who). AreOf c.self.inside.state.dossier these) (sym c.replace-before.ensures.value)
     (are_of c.self.inside.unanswered c.self.inside.state c.self.invariant))
 
 pub with_offered-requires-clause-offers : goal.with_offered-requires-clause-offers
@@ -58,7 +59,7 @@ returns-clause-asked g c =
     ap (λ (ms : List Mark). length ms) (sym c.marks.ensures.marks) ∙ c.marks.ensures.one_each in
     let named = subst (λ (ks : List ℕ). AreAsked c.pass_keeping.new.state.dossier ks c.replace-before.result asked)
     c.as_slice.ensures c.in_ok-asked.ensures.asked in
-    let asks = subst (λ (these : Unanswered). AreAsked s.dossier offers these asked) c.replace-before.ensures.value
+    let asks = subst (λ (these : Who). AreAsked s.dossier offers these asked) c.replace-before.ensures.value
     (subst (λ (d : DossierRows). AreAsked d offers c.replace-before.result asked) there named) in
     subst (λ (t : State). AsksAfter t offers c.args.stamp asked) c.self.view_is
     (asks_after c.self.inside.unanswered asked s c.args.roster.now.orders bars offers c.args.stamp long

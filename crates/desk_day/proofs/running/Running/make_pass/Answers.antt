@@ -9,7 +9,9 @@ use Rattle.desk_day.specs.Changes.{answered_changes}
 use Rattle.desk_day.specs.DayPasses.{offered_along}
 use Rattle.desk_day.specs.KeptDays.{IsPassPicked}
 use Rattle.desk_day.specs.Running.{RunningStates, opening_after}
-use Rattle.desk_day.specs.Unanswered.{AsksAfter, ChangesOnly}
+use Rattle.desk_day.specs.Unanswered.{AsksAfter}
+use Rattle.desk_day.specs.Who.{ChangesOnly, Moves}
+use Rattle.desk_day.proofs.Moved.{moves_by, running_after}
 use Rattle.desk_day.proofs.OnePass.{closed, pass_ended, fewer_open, closed_long}
 use Rattle.desk_day.proofs.ToldPasses.{told_seen, told_whole}
 use Rattle.desk_day.proofs.WhoIsAsked.{along_closed}
@@ -121,3 +123,31 @@ returns-in_err-autos-clause-told_by_then g c =
     let seen = ap (λ (r : RunningStates). r.present) c.self.view_is in
     let is = c.in_ok-pass.ensures.pass.1.by in
     on_err _ (told_seen _ _ seen _ _ _ _ _ (told_whole _ _ _ _ _ _ _ is.is_pass is.told_of is.chosen))
+
+pub returns-clause-moved : goal.returns-clause-moved
+returns-clause-moved g c =
+    let s = c.self.inside.present in
+    let close = c.answer-freed.new.self in
+    let asked = c.in_ok-pass.asked in
+    let closes = c.answer-freed.ensures.state
+    ∙ ap (λ (t : State). auto_all t c.args.stamp) c.in_ok-pass.ensures.offered in
+    let same = along_closed s close c.in_ok-pass.pass.offers c.args.stamp closes in
+    let changes = subst (λ (t : State). ChangesOnly asked s t) (sym closes) c.in_ok-pass.ensures.asked.changes in
+    subst (λ (r : RunningStates). Moves r.present close c.args.moved.now c.add.new.self) c.self.view_is
+    (moves_by s close asked c.args.moved.now c.add.new.self same changes c.add.ensures)
+
+pub invariant_of-self-2 : goal.invariant_of-self-2
+invariant_of-self-2 g c =
+    let s = c.self.inside.present in
+    let close = c.answer-freed.new.self in
+    let asked = c.in_ok-pass.asked in
+    let all = c.answer-freed.result in
+    let opened : c.self.inside.opening ≡ s =
+    subst (λ (r : RunningStates). r.opening ≡ r.present) (sym c.self.view_is) c.requires.opened in
+    let closes = c.answer-freed.ensures.state
+    ∙ ap (λ (t : State). auto_all t c.args.stamp) c.in_ok-pass.ensures.offered in
+    let same = along_closed s close c.in_ok-pass.pass.offers c.args.stamp closes in
+    let changes = subst (λ (t : State). ChangesOnly asked s t) (sym closes) c.in_ok-pass.ensures.asked.changes in
+    running_after all s close c.follow.new.opening asked
+    (c.follow.ensures ∙ ap (λ (t : State). opening_after all t c.now-closing.result.now) opened
+    ∙ ap (λ (t : State). opening_after all s t) c.now-closing.ensures) same changes

@@ -7,6 +7,8 @@ use Rattle.admit_core.specs.State.{State}
 use Rattle.round.specs.KeptFalls.{IsKeptOf, are_kept}
 use Rattle.desk_day.specs.KeptDays.{kept_end}
 use Rattle.desk_day.proofs.KeptPasses.{PickedSoFar, picked_all, picked_fewer, picked_more, picked_none, picked_opening}
+use Rattle.desk_day.specs.Who.{Moves}
+use Rattle.desk_day.proofs.Moved.{moves_then}
 use Rattle.desk_day.proofs.OnePass.{open_at_most}
 use Rattle.desk_day.proofs.ToldPasses.{told_behind_pass, told_in_pass}
 use Rattle.desk_day.proofs.running.Running.make_passes.Goals as goal
@@ -29,6 +31,8 @@ passes-init g c =
           (picked_none _ orders ceilings c.args.plan.day s choice told c.new-ends.result.items
           c.new-ends.ensures.items long (open_at_most s long));
       opening = c.open.ensures.opening ∙ sym c.open.ensures.present;
+      moved = subst (λ (t : State). Moves s t c.args.moved.now c.args.moved.now) (sym c.open.ensures.present)
+          (λ start same only. only);
       choice = refl;
     }
 
@@ -45,6 +49,9 @@ passes-preserved g c =
           c.passes.invariant.choice c.in_ok-push.ensures.items none c.make_pass.ensures.dossier;
       opening = picked_opening _ c.passes.invariant.so_far c.in_ok-end.ensures.made
           c.passes.invariant.choice c.in_ok-push.ensures.items none;
+      moved = moves_then c.args.self.now.present c.passes.self.present c.make_pass.new.self.present c.args.moved.now
+          c.passes.moved c.make_pass.new.moved c.passes.invariant.so_far.1.so_far.dossier c.passes.invariant.moved
+          c.in_ok-end.ensures.moved;
       choice = c.make_pass.ensures.choice ∙ c.passes.invariant.choice;
     }
 
@@ -64,6 +71,12 @@ returns-then-is_last-clause-made g c =
 
 pub returns-then-is_last-clause-choice : goal.returns-then-is_last-clause-choice
 returns-then-is_last-clause-choice g c = c.make_pass.ensures.choice ∙ c.passes.invariant.choice
+
+pub returns-then-is_last-clause-moved : goal.returns-then-is_last-clause-moved
+returns-then-is_last-clause-moved g c =
+    moves_then c.args.self.now.present c.passes.self.present c.make_pass.new.self.present c.args.moved.now
+    c.passes.moved c.make_pass.new.moved c.passes.invariant.so_far.1.so_far.dossier c.passes.invariant.moved
+    c.in_ok-end.ensures.moved
 
 pub returns-then-is_last-clause-dossier : goal.returns-then-is_last-clause-dossier
 returns-then-is_last-clause-dossier g c = c.make_pass.ensures.dossier ∙ c.passes.invariant.so_far.1.so_far.dossier

@@ -12,6 +12,7 @@ use Rattle.desk_day.specs.RunDay.{recorded}
 use Rattle.desk_day.proofs.DayEnds.{not_begun, ran_out}
 use Rattle.desk_day.proofs.DayLaws.{laws_kept}
 use Rattle.desk_day.proofs.DayPlaces.{day_in}
+use Rattle.desk_day.proofs.Moved.{moves_then}
 use Rattle.desk_day.proofs.Stamps.{stamps_kept}
 use Rattle.desk_day.proofs.ToldPasses.{told_more, told_there, told_to_the_end}
 use Rattle.desk_day.proofs.running.Running.play.Goals as goal
@@ -60,6 +61,12 @@ returns-in_err-done-clause-undone g c =
 
 pub returns-in_err-done-clause-dossier : goal.returns-in_err-done-clause-dossier
 returns-in_err-done-clause-dossier g c = c.make_passes.ensures.dossier ∙ c.begin_day.ensures.dossier
+
+pub returns-clause-moved : goal.returns-clause-moved
+returns-clause-moved g c =
+    moves_then c.args.self.now.present c.begin_day.new.self.present c.make_passes.new.self.present c.args.moved.now
+    c.begin_day.new.moved c.make_passes.new.moved c.begin_day.ensures.dossier c.in_ok-lapsed.ensures.moved
+    c.in_ok-passes.ensures.moved
 
 pub returns-clause-dossier : goal.returns-clause-dossier
 returns-clause-dossier g c = c.make_passes.ensures.dossier ∙ c.begin_day.ensures.dossier
