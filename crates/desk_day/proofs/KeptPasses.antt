@@ -61,7 +61,8 @@ module _ (keeps : Bool) {orders : List CallOrder} {ceilings : List ℕ} {day num
     (so_far : IsKeptOf (map (kept_end keeps))
     (PickedSoFar orders ceilings day number start now choice told told_now) kept)
     (picked : IsKeptOf (kept_end keeps)
-    (IsPassPicked orders ceilings (stamp_of day number) now choice_now told_now told_next after) end)
+    (IsPassPicked orders ceilings (stamp_of day number) now
+    (record { before = told_now; after = told_next; choice = choice_now }) after) end)
     (same : choice_now ≡ choice) (pushed : more ≡ kept ++ end ∷ []) where
   abbrev passes : List PassEnd
   passes = so_far.0
@@ -110,7 +111,8 @@ module _ (keeps : Bool) {orders : List CallOrder} {ceilings : List ℕ} {day num
 
   -- that freed nothing: it is the last one
   pub picked_all : frees_nothing end.freed ≡ true
-      → IsKeptOf (map (kept_end keeps)) (ArePassesPicked orders ceilings day start choice told told_next after) more
+      → IsKeptOf (map (kept_end keeps)) (ArePassesPicked orders ceilings day start
+      (record { before = told; after = told_next; choice = choice }) after) more
   picked_all last =
       let all = so_far_end orders ceilings day number start now after.present passes (passes ++ pass ∷ []) pass
       so_far.1.so_far picked.1.made.ended (frees ∙ last) picked.1.made.present refl in (

@@ -140,7 +140,8 @@ module _ (keeps : Bool) {orders : List CallOrder} {ceilings : List ℕ} {day num
 
   pub told_behind_pass : {end : PassEnd} {after : RunningStates}
       → IsKeptOf (kept_end keeps)
-      (IsPassPicked orders ceilings (stamp_of day number) now choice_now told_now told_after after) end
+      (IsPassPicked orders ceilings (stamp_of day number) now
+      (record { before = told_now; after = told_after; choice = choice_now }) after) end
       → TellsOfPasses orders ceilings day start choice told told_after
   told_behind_pass picked =
       told_in_pass

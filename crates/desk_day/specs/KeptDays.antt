@@ -13,6 +13,7 @@ use Rattle.round.specs.KeptFalls.{IsKeptOf, kept_pass}
 use Rattle.desk_day.specs.DayPasses.{AreChosenPasses, schools_of_passes}
 use Rattle.desk_day.specs.RunDay.{EndsDay, Moment}
 use Rattle.desk_day.specs.Running.{ArePassesMade, IsPassMade, RunningStates}
+use Rattle.desk_day.specs.Telling.{Telling}
 use Rattle.desk_day.specs.declared.refusal.DayRefusal.{DayRefusal}
 
 -- a pass with all its falls where they are kept, and with none elsewhere
@@ -38,19 +39,18 @@ kept_result keeps (Err refusal) = Err refusal
 
 -- a pass that has been made, whose schools a picker chose and told of
 pub record IsPassPicked (orders : List CallOrder) (ceilings : List ℕ) (stamp : Stamp) (s : State)
-    (choice : List ℕ → List ℕ → ℕ) (told told_after : List ℕ) (after : RunningStates)
-    (end : PassEnd) : Type 0 where
+    (telling : Telling) (after : RunningStates) (end : PassEnd) : Type 0 where
   pub made : IsPassMade orders ceilings stamp s end after
-  pub told_of : told_after ≡ told ++ schools_of end.pass.falls
-  pub chosen : AreChosen (boarding s orders ceilings) choice told ceilings end.pass.falls
+  pub told_of : telling.after ≡ telling.before ++ schools_of end.pass.falls
+  pub chosen : AreChosen (boarding s orders ceilings) telling.choice telling.before ceilings
+      end.pass.falls
 
 -- the passes of a day from its morning on, whose schools a picker chose and told of
 pub record ArePassesPicked (orders : List CallOrder) (ceilings : List ℕ) (day : ℕ) (morning : State)
-    (choice : List ℕ → List ℕ → ℕ) (told told_after : List ℕ) (after : RunningStates)
-    (ends : List PassEnd) : Type 0 where
+    (telling : Telling) (after : RunningStates) (ends : List PassEnd) : Type 0 where
   pub made : ArePassesMade orders ceilings day morning ends after
-  pub told_of : told_after ≡ told ++ schools_of_passes ends
-  pub chosen : AreChosenPasses orders ceilings day 1 morning choice told ends
+  pub told_of : telling.after ≡ telling.before ++ schools_of_passes ends
+  pub chosen : AreChosenPasses orders ceilings day 1 morning telling.choice telling.before ends
 
 -- how a day ends on a desk of which the falls are kept or left out
 abbrev pub EndsDayKept : Bool → Option Terms → List CallOrder → List ℕ → ℕ → Moment → Moment

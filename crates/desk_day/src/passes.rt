@@ -41,8 +41,11 @@ impl Running<'_> {
 
         ensures made { IfOk result (λ ends. IsKeptOf (map (kept_end (are_kept plan.entry.falls)))
             (ArePassesPicked roster.now.orders plan.entry.ceilings.now plan.entry.day
-            self.old.present (choice picker.old) (told picker.old) (told picker.new) self.new)
-            ends.items) }
+            self.old.present (record {
+              before = told picker.old;
+              after = told picker.new;
+              choice = choice picker.old;
+            }) self.new) ends.items) }
         ensures told_by_then { OnErr result (TellsOfPasses roster.now.orders plan.entry.ceilings.now
             plan.entry.day self.old.present (choice picker.old) (told picker.old)
             (told picker.new)) }
@@ -88,7 +91,11 @@ impl Running<'_> {
 
         ensures made { IfOk result (IsKeptOf (kept_end (are_kept plan.entry.falls))
             (IsPassPicked roster.now.orders plan.entry.ceilings.now stamp self.old.present
-            (choice picker.old) (told picker.old) (told picker.new) self.new)) }
+            (record {
+              before = told picker.old;
+              after = told picker.new;
+              choice = choice picker.old;
+            }) self.new)) }
         ensures told_by_then { OnErr result (TellsOfFalls
             (boarding self.old.present roster.now.orders plan.entry.ceilings.now)
             (choice picker.old) (told picker.old) (told picker.new)) }

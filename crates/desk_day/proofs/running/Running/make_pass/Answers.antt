@@ -93,9 +93,11 @@ returns-clause-made g c =
       pass_end,
       subst
           (λ (r : RunningStates). IsPassPicked orders c.args.plan.ceilings.now stamp r.present
-          (first.choice c.args.picker.now.1) (first.told c.args.picker.now.1)
-          ((goal.Picker-dyn g (c.args.picker.now.0, c.make_pass.new.picker)).told c.make_pass.new.picker)
-          after pass_end) c.self.view_is
+          (record {
+            before = first.told c.args.picker.now.1;
+            after = (goal.Picker-dyn g (c.args.picker.now.0, c.make_pass.new.picker)).told c.make_pass.new.picker;
+            choice = first.choice c.args.picker.now.1;
+          }) after pass_end) c.self.view_is
           (record {
             made = record {
               ended = pass_ended s off close c.self.inside.opening orders c.args.plan.ceilings.now stamp
