@@ -10,6 +10,7 @@ ghost use Rattle.desk_day.specs.declared.refusal.DayRefusal.TheVariants as refus
 
 use crate::answers_on::answer;
 use crate::lapses::lapses_by;
+use crate::once::keep_once;
 use crate::refusal::DayRefusal;
 use crate::touched::list_touched;
 use admit_core::{Lapse, Terms};
@@ -48,8 +49,8 @@ pub fn make_morning(
     answer(state, day)
 }
 
-/// The same, with the offers that lapsed, and wishes of all whom the lapse and the answers may have
-/// changed. Whether the answers fit is found without memory: one that does not is never told as
+/// The same, with the offers that lapsed, and one wish of each whom the lapse and the answers may
+/// have changed: so whoever goes along them looks at each candidate once. Whether the answers fit is found without memory: one that does not is never told as
 /// want of it.
 pub(crate) fn touch_morning(
     alloc: Global,
@@ -71,6 +72,7 @@ pub(crate) fn touch_morning(
     let lapsed = lapses_by(alloc, state, terms, day);
     make_morning(state, terms, day)?;
     let lapsed = lapsed?;
-    let touched = list_touched(alloc, state, lapsed.as_slice(), day)?;
+    let mut touched = list_touched(alloc, state, lapsed.as_slice(), day)?;
+    keep_once(&mut touched, state);
     Ok((lapsed, touched))
 }

@@ -31,7 +31,7 @@ fn lead_to_firsts(places: &mut Vec<u32>, state: &DayState<'_>)
 
 /// Leaves one wish of each candidate who has some of these, so that whoever goes along them looks
 /// at each candidate once.
-fn keep_once(places: &mut Vec<u32>, state: &DayState<'_>)
+pub(crate) fn keep_once(places: &mut Vec<u32>, state: &DayState<'_>)
     requires { AreWishesOf state.now.dossier places.old.items }
     ensures names { NamesSame state.now.dossier places.old.items places.new.items }
     ensures once { AreOfOneEach state.now.dossier places.new.items }

@@ -5,7 +5,10 @@ use Rattle.std.specs.Option.{option_copied}
 use Rattle.admit_core.specs.declared.records.Lapse.{Lapse}
 use Rattle.admit_core.specs.declared.state.Mark.{Mark}
 use Rattle.admit_core.specs.DossierRows.{DossierRows}
+use Rattle.admit_core.specs.AutoAnswer.{auto_all}
+use Rattle.desk_day.specs.Once.{NamesSame}
 use Rattle.desk_day.proofs.DayPlaces.{lapsed_in}
+use Rattle.desk_day.proofs.OnceEach.{others_stay}
 use Rattle.desk_day.proofs.Touching.{morning_answered, morning_others}
 use Rattle.desk_day.proofs.morning.touch_morning.Goals as goal
 
@@ -31,13 +34,19 @@ returns-clause-touched c =
     let s = c.args.state.now in
     let terms = option_copied c.args.terms in
     let m = c.make_morning.new.state in
+    let same : m.dossier ≡ s.dossier = c.make_morning.ensures.dossier in
     let long : length s.marks ≡ length s.dossier.wishes =
     ap (λ (ms : List Mark). length ms) (sym c.marks.ensures.marks) ∙ c.marks.ensures.one_each in
     let gone = c.as_slice.ensures.value ∙ c.in_ok-lapsed.ensures in
+    let all = c.in_ok-touched.touched.items in
+    let once = c.keep_once.new.places.items in
+    let names = c.keep_once.ensures.names in
+    let others = morning_others terms c.args.day s m c.as_slice.result.now all long c.requires.before
+    c.in_ok-make_morning.ensures.morning gone c.in_ok-touched.ensures.listed in
+    let answered = morning_answered terms c.args.day s m c.as_slice.result.now all long c.requires.before
+    c.in_ok-make_morning.ensures.morning gone c.in_ok-touched.ensures.listed in
     record {
-      within = c.in_ok-touched.ensures.within;
-      answered = morning_answered terms c.args.day s m c.as_slice.result.now c.in_ok-touched.touched.items long
-          c.requires.before c.in_ok-make_morning.ensures.morning gone c.in_ok-touched.ensures.listed;
-      others = morning_others terms c.args.day s m c.as_slice.result.now c.in_ok-touched.touched.items long
-          c.requires.before c.in_ok-make_morning.ensures.morning gone c.in_ok-touched.ensures.listed;
+      within = names.within;
+      others = others_stay s m all once (subst (λ (d : DossierRows). NamesSame d all once) same names) others;
+      answered = λ was stamp. others_stay m (auto_all m stamp) all once names (answered was stamp);
     }
