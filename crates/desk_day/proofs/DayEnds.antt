@@ -50,22 +50,22 @@ not_begun terms orders ceilings day before after (Err e) refusal is unfit openin
     })
 
 -- a day on a desk from the day that ran on its states
-module _ (terms : Option Terms) (orders : List CallOrder) (ceilings : List ℕ) (day : ℕ) (desk : DeskStates)
-    (was new : RunningStates) (evening now : State) (told told_after : List ℕ)
-    (choice choice_after : List ℕ → List ℕ → ℕ)
+module _ {terms : Option Terms} {orders : List CallOrder} {ceilings : List ℕ} {day : ℕ} {desk : DeskStates}
+    {was new : RunningStates} {evening now : State} {told told_after : List ℕ}
+    {choice choice_after : List ℕ → List ℕ → ℕ}
     (is : record { present = was.present; evening = evening; opening = was.opening } ≡ desk)
     (now_is : now ≡ was.present)
     (kept : choice_after ≡ choice) where
-  abbrev Ends : DeskStates → RunningStates → Result DayRecord DayRefusal → Type 0
-  Ends before after r = EndsDay terms orders ceilings day (record { desk = before; told = told; choice = choice })
-      (moment_on after now told_after choice_after) r
-
   pub ends_done : (done : DayRecord)
       → IsDayDone terms orders ceilings day (moment_on was was.present told choice) done
       (moment_on new was.present told_after choice_after)
-      → new.present.dossier ≡ was.present.dossier → Ends desk new (Ok done)
+      → new.present.dossier ≡ was.present.dossier
+      → EndsDay terms orders ceilings day (record { desk = desk; told = told; choice = choice })
+      (moment_on new now told_after choice_after) (Ok done)
   ends_done done came same =
-      subst (λ (d : DeskStates). Ends d new (Ok done)) is (record {
+      subst (λ (d : DeskStates). EndsDay terms orders ceilings day
+      (record { desk = d; told = told; choice = choice }) (moment_on new now told_after choice_after) (Ok done)) is
+      (record {
         done = record {
           rule = record {
             number = came.rule.number;
@@ -86,19 +86,23 @@ module _ (terms : Option Terms) (orders : List CallOrder) (ceilings : List ℕ) 
         choice = kept;
       })
 
-  pub ends_undone : (refusal : DayRefusal) (noted : RunningStates) → noted.present ≡ was.present
+  pub ends_undone : {noted : RunningStates} (refusal : DayRefusal) → noted.present ≡ was.present
       → noted.opening ≡ new.opening
       → IsUndone terms orders ceilings day (moment_on was was.present told choice)
       (moment_on new was.present told_after choice_after) refusal
-      → Ends desk noted (Err refusal)
-  ends_undone refusal noted restored opened undone = subst (λ (d : DeskStates). Ends d noted (Err refusal)) is (record {
-    done = tt;
-    unfit = undone.unfit;
-    restored = restored;
-    evening = now_is;
-    dossier = ap (λ (s : State). s.dossier) restored;
-    unopened = subst (λ (o : State). KeepsOpening was.opening o refusal) (sym opened) undone.unopened;
-    untold = undone.untold;
-    asked = undone.asked;
-    choice = kept;
-  })
+      → EndsDay terms orders ceilings day (record { desk = desk; told = told; choice = choice })
+      (moment_on noted now told_after choice_after) (Err refusal)
+  ends_undone {noted} refusal restored opened undone =
+      subst (λ (d : DeskStates). EndsDay terms orders ceilings day
+      (record { desk = d; told = told; choice = choice }) (moment_on noted now told_after choice_after) (Err refusal)) is
+      (record {
+        done = tt;
+        unfit = undone.unfit;
+        restored = restored;
+        evening = now_is;
+        dossier = ap (λ (s : State). s.dossier) restored;
+        unopened = subst (λ (o : State). KeepsOpening was.opening o refusal) (sym opened) undone.unopened;
+        untold = undone.untold;
+        asked = undone.asked;
+        choice = kept;
+      })

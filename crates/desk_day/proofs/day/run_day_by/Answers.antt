@@ -54,7 +54,7 @@ invariant_of-desk-in-Err g c =
 pub returns-in-Ok : goal.returns-in-Ok
 returns-in-Ok g c = (
   Ok c.in-Ok.ensures.done.0,
-  ends_done _ _ _ _ _ _ _ _ _ _ _ _ _ c.desk.view_is
+  ends_done c.desk.view_is
       (c.take_over.ensures ∙ c.now-2.ensures) c.play-outcome.ensures.choice
       c.in-Ok.ensures.done.0 c.in-Ok.ensures.done.1 c.play-outcome.ensures.dossier,
   ap Ok c.in-Ok.ensures.done.2,
@@ -64,7 +64,7 @@ pub returns-in-Err : goal.returns-in-Err
 returns-in-Err g c =
     let kept = c.take_over.ensures ∙ c.now-2.ensures in (
       Err c.in-Err.refusal,
-      ends_undone _ _ _ _ _ _ _ _ _ _ _ _ _ c.desk.view_is kept c.play-outcome.ensures.choice c.in-Err.refusal
-          c.restore.new.self (c.restore.ensures.present ∙ kept) c.restore.ensures.opening c.in-Err.ensures.undone,
+      ends_undone c.desk.view_is kept c.play-outcome.ensures.choice c.in-Err.refusal
+          (c.restore.ensures.present ∙ kept) c.restore.ensures.opening c.in-Err.ensures.undone,
       refl,
     )
