@@ -63,9 +63,8 @@ module _ {terms : Option Terms} {orders : List CallOrder} {ceilings : List ℕ} 
       → EndsDay terms orders ceilings day (record { desk = desk; told = told; choice = choice })
       (moment_on new now told_after choice_after) (Ok done)
   ends_done done came same =
-      subst (λ (d : DeskStates). EndsDay terms orders ceilings day
-      (record { desk = d; told = told; choice = choice }) (moment_on new now told_after choice_after) (Ok done)) is
-      (record {
+      subst (λ (d : DeskStates). EndsDay terms orders ceilings day (record { desk = d; told = told; choice = choice })
+      (moment_on new now told_after choice_after) (Ok done)) is (record {
         done = record {
           rule = record {
             number = came.rule.number;
@@ -93,9 +92,8 @@ module _ {terms : Option Terms} {orders : List CallOrder} {ceilings : List ℕ} 
       → EndsDay terms orders ceilings day (record { desk = desk; told = told; choice = choice })
       (moment_on noted now told_after choice_after) (Err refusal)
   ends_undone {noted} refusal restored opened undone =
-      subst (λ (d : DeskStates). EndsDay terms orders ceilings day
-      (record { desk = d; told = told; choice = choice }) (moment_on noted now told_after choice_after) (Err refusal)) is
-      (record {
+      subst (λ (d : DeskStates). EndsDay terms orders ceilings day (record { desk = d; told = told; choice = choice })
+      (moment_on noted now told_after choice_after) (Err refusal)) is (record {
         done = tt;
         unfit = undone.unfit;
         restored = restored;

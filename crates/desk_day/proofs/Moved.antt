@@ -45,14 +45,14 @@ moved_on (CandidatesOf places) Anyone all r s t same same_too joins first next =
     subst (λ (w : Who). ChangesOnly w r t) (sym joins) tt
 moved_on (CandidatesOf places) (CandidatesOf more) Anyone r s t same same_too joins first next = tt
 moved_on (CandidatesOf places) (CandidatesOf more) (CandidatesOf all) r s t same same_too joins first next =
-    let within : AreWishesOf r.dossier more.items = subst (λ (d : DossierRows). AreWishesOf d more.items) same next.0 in (
+    let within : AreWishesOf r.dossier more.items =
+    subst (λ (d : DossierRows). AreWishesOf d more.items) same next.0 in (
       rw joins (All-append (λ (k : ℕ). k < length r.dossier.wishes) places.items more.items first.0 within),
       λ c none.
           let parts = in_neither (candidate_of r.dossier) c places.items more.items (rw joins at none) in
           let before = first.1 c parts.0 in
           let after = next.1 c (subst (λ (d : DossierRows). is_among c (map (candidate_of d) more.items) ≡ false)
-          (sym same)
-          parts.1) in
+          (sym same) parts.1) in
           record {
             dossier = same_too ∙ same;
             each = λ place lt own. before.each place lt own
