@@ -64,8 +64,9 @@ impl Run {
     fn longer(self, rows: &[WishRow], place: usize) -> Option<Run>
         requires from { self.from ≤ place }
         requires within { place < length rows.now }
-        ensures { IfSome result (λ next.
+        ensures goes_on { IfSome result (λ next.
             IsRunUpTo rows.now self place → IsRunUpTo rows.now next (place + 1)) }
+        ensures short { IfSome result (λ next. place < next.from + 32) }
     {
         let row = wish_at(rows, place);
         let next = self.with(row.candidate, place)?;

@@ -2,8 +2,8 @@ use Rattle.std.proofs.Common.{◌∙◌, sym}
 use Rattle.dossier_check.proofs.Runs.{joined, goes_on, row_there}
 use Rattle.dossier_check.proofs.apart.Run.longer.Goals as goal
 
-pub returns-then-is_apart : goal.returns-then-is_apart
-returns-then-is_apart c before =
+pub returns-then-is_apart-clause-goes_on : goal.returns-then-is_apart-clause-goes_on
+returns-then-is_apart-clause-goes_on c before =
     let rows = c.args.rows.now in
     let row = c.wish_at-row.result in
     let place = c.args.place in
