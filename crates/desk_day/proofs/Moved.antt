@@ -1,7 +1,6 @@
 -- Whose wishes have changed from one state to another.
 use Rattle.std.proofs.Common.{ℕ, ◌<◌, ◌≡◌, Bool, true, false, length, map, refl, sym, ◌∙◌, subst}
 use Rattle.std.specs.Prelude.{if◌then◌else◌}
-use Rattle.std.proofs.lemmas.Bool.{false≢true}
 use Rattle.std.proofs.lemmas.List.Elements.{All-append, All-nil}
 use Rattle.admit_core.specs.DossierRows.{DossierRows, candidate_of}
 use Rattle.admit_core.specs.Lists.{is_among}
@@ -13,7 +12,7 @@ use Rattle.desk_day.specs.Running.{IsRunning, opening_after}
 use Rattle.desk_day.specs.Who.{AreOf, ChangesOnly, Joins, Moves, is_nobody}
 use Rattle.desk_day.specs.declared.who.Who.{Who}
 use Rattle.desk_day.specs.declared.who.Who.TheVariants.{Anyone, CandidatesOf}
-use Rattle.desk_day.proofs.LaterPasses.{in_neither, no_items, nobody_differs}
+use Rattle.desk_day.proofs.LaterPasses.{in_neither, no_items}
 
 -- whoever they are, from a state to itself no wishes change
 pub stays : (these : Who) (s : State) → AreOf s.dossier these → ChangesOnly these s s
@@ -27,14 +26,6 @@ of_moved (CandidatesOf places) s t moved = moved.0
 pub nobody_of : (these : Who) (d : DossierRows) → is_nobody these ≡ true → AreOf d these
 nobody_of Anyone d none = tt
 nobody_of (CandidatesOf places) d none = rw (no_items places.items none) (All-nil (λ (k : ℕ). k < length d.wishes))
-
--- where it is nobody, the two states are one
-pub nobody_moved : (these : Who) (s t : State) → length s.marks ≡ length s.dossier.wishes
-    → length t.marks ≡ length t.dossier.wishes → t.dossier ≡ s.dossier → is_nobody these ≡ true
-    → ChangesOnly these s t → t ≡ s
-nobody_moved Anyone s t long long_too same none moved = absurd (false≢true none)
-nobody_moved (CandidatesOf places) s t long long_too same none moved =
-    nobody_differs s t places.items long long_too same (no_items places.items none) moved.1
 
 -- two steps, one after the other
 moved_on : (these others all : Who) (r s t : State) → s.dossier ≡ r.dossier → t.dossier ≡ s.dossier

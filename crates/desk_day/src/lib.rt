@@ -29,5 +29,5 @@ pub use desk::Desk;
 pub use morning::make_morning;
 pub use passes::frees_nothing;
 pub use plan::DayPlan;
-pub use present::{Begun, Present};
+pub use present::Present;
 pub use refusal::DayRefusal;

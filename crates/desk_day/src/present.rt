@@ -58,15 +58,6 @@ impl<'d> Model for Present<'d> {
     ghost invariant = { λ s. AnswersOnly s.unanswered s.state };
 }
 
-/// What the lapse and the answers of a day did.
-#[derive(Drop)]
-pub struct Begun {
-    /// The offers that lapsed.
-    pub lapsed: Vec<Lapse>,
-    /// Whether they are known to have changed nothing.
-    pub is_alike: bool,
-}
-
 impl<'d> Present<'d> {
     /// This state, in which nobody is known to have been answered for.
     pub fn begin(state: DayState<'d>) -> Present<'d>
@@ -104,35 +95,29 @@ impl<'d> Present<'d> {
         self.unanswered.is_nobody()
     }
 
-    /// Makes the lapse, where terms are given, and the answers of a day. A refusal may come in the
-    /// midst of the answers. Whether they fit is found without memory: one that does not is never
-    /// told as want of it.
+    /// Makes the lapse, where terms are given, and the answers of a day, and gives the offers that
+    /// lapsed. A refusal may come in the midst of the answers. Whether they fit is found without
+    /// memory: one that does not is never told as want of it.
     pub fn begin_day(
         &mut self,
         alloc: Global,
         terms: Option<&Terms>,
         day: u32,
-    ) -> Result<Begun, DayRefusal>
+    ) -> Result<Vec<Lapse>, DayRefusal>
         requires before { AreTermsFor self.old.dossier (option_copied terms) }
         requires day { IsDayNumber day }
 
-        ensures begun { IfOk result (λ begun. IsBegun (option_copied terms.entry) day self.old
-            self.new begun.lapsed.items) }
-        ensures alike { IfOk result (λ begun. begun.is_alike ≡ true → self.new ≡ self.old) }
+        ensures begun { IfOk result (λ lapsed. IsBegun (option_copied terms.entry) day self.old
+            self.new lapsed.items) }
         ensures unfit { IfErr result (IsUnfitOf self.old.dossier day
             (unfit_on (option_copied terms.entry) day self.old)) }
         ensures dossier { self.new.dossier ≡ self.old.dossier }
     {
-        let _ = self.state.marks(); // one for each wish
         let mut touched = Who::nobody(alloc);
-        let lapsed = self.touch_morning(alloc, terms, day, &mut touched)?;
-        let _ = self.state.marks();
-        let is_alike = touched.is_nobody();
-        Ok(Begun { lapsed, is_alike })
+        self.touch_morning(alloc, terms, day, &mut touched)
     }
 
-    /// The same, but it gives the offers that lapsed, and adds those whom the day touches to
-    /// `moved`.
+    /// The same, and adds those whom the day touches to `moved`.
     pub(crate) fn touch_morning(
         &mut self,
         alloc: Global,
