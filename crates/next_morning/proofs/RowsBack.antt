@@ -1,11 +1,9 @@
 -- The rows of a dossier are those of the tables that it stands for.
-use Rattle.std.proofs.Common.{ℕ, ◌<◌, ◌≡◌, true, List, [], ◌∷◌, get_or, length, map, nat_eq, Option, None, Some}
-use Rattle.std.proofs.Common.{option_map, refl, sym, ◌∙◌, ap, arith}
+use Rattle.std.proofs.Common.{ℕ, ◌≡◌, true, List, [], ◌∷◌, get_or, map, nat_eq, Option, None, Some}
+use Rattle.std.proofs.Common.{option_map, refl, sym, ◌∙◌, ap}
 use Rattle.std.specs.List.{AllByRecursion}
 use Rattle.std.specs.Option.{option_map_or}
-use Rattle.std.proofs.lemmas.List.{get_or-map, length-map}
 use Rattle.std.proofs.lemmas.List.Elements.{recursion_from_All}
-use Rattle.std.proofs.lemmas.Option.{slice_get-get_or}
 use Rattle.admit_core.specs.declared.dossier.AnswerKind.{AnswerKind}
 use Rattle.admit_core.specs.declared.dossier.AnswerKind.TheVariants.{Accept, Refuse, Withdraw, Quit}
 use Rattle.admit_core.specs.declared.dossier.Programme.{Programme}
@@ -23,13 +21,11 @@ use Rattle.admit_core.specs.Relations.{first_fault, is_target, programme_ids, sc
 use Rattle.admit_core.specs.Standing.{answer_of_row, ceiling_of_row, dossier_of, place_of, programme_of_row}
 use Rattle.admit_core.specs.Standing.{school_of_row, target_of, wish_of_row}
 use Rattle.admit_core.specs.State.{State}
-use Rattle.dossier_check.proofs.Firsts.{one_passes}
 use Rattle.dossier_check.proofs.NoFault.{HasNoFault, no_fault}
 use Rattle.dossier_check.proofs.Places.{nat_eq_sound, passes_there}
 use Rattle.dossier_check.proofs.RowFacts.{ceiling_schools_known, programmes_known, schools_known, targets_known}
 use Rattle.intake.specs.declared.terms.DatedTerms.{DatedTerms}
 use Rattle.next_morning.specs.Morning.{morning_tables}
-use Rattle.next_morning.proofs.Faultless.{no_wish}
 use Rattle.next_morning.specs.RowsBack.{answer_row, ceiling_row, daily_rows, id_at, rows_back, school_row, target_row}
 use Rattle.next_morning.specs.RowsBack.{wish_row}
 
@@ -39,39 +35,36 @@ back : {R X : Type 0} (P : R → Type 0) (made : R → X) (row : X → R) → ((
 back P made row each [] all = refl
 back P made row each (r ∷ rows) all = λ i. each r all.0 i ∷ back P made row each rows all.1 i
 
+-- the ids of what is made of rows are those of the rows
+own_ids : {R X : Type 0} (own : R → ℕ) (id : X → ℕ) (made : R → X) → ((r : R) → id (made r) ≡ own r)
+    → (rows : List R) → map id (map made rows) ≡ map own rows
+own_ids own id made same [] = refl
+own_ids own id made same (r ∷ rows) = λ i. same r i ∷ own_ids own id made same rows i
+
 -- the place of an id that is there has the id
-id_back : {R X : Type 0} (own : R → ℕ) (id : X → ℕ) (made : R → X) (d : R) → ((r : R) → id (made r) ≡ own r)
+id_back : {R X : Type 0} (own : R → ℕ) (id : X → ℕ) (made : R → X) → ((r : R) → id (made r) ≡ own r)
     → (n : ℕ) (rows : List R) → is_among n (map own rows) ≡ true
     → id_at id (map made rows) (place_of (map own rows) n) ≡ n
-id_back {X = X} own id made d same n rows among =
-    let k : ℕ = place_of (map own rows) n in
-    let within : k < length (map own rows) = one_passes (nat_eq n) (map own rows) among in
-    let there : k < length rows = omega (arith, within, length-map rows own) in
-    let is : nat_eq n (get_or (map own rows) k 0) ≡ true = passes_there (nat_eq n) (map own rows) 0 among in
-    ap (λ (x : Option X). option_map_or id x 0)
-    (slice_get-get_or (map made rows) k (made d) (omega (arith, there, length-map rows made))
-    ∙ ap (λ (x : X). Some x) (get_or-map made rows k d (made d) there))
-    ∙ same (get_or rows k d) ∙ sym (get_or-map own rows k d 0 there)
-    ∙ sym (nat_eq_sound n (get_or (map own rows) k 0) is)
+id_back own id made same n rows among =
+    ap (λ (ids : List ℕ). get_or ids (place_of (map own rows) n) 0) (own_ids own id made same rows)
+    ∙ sym (nat_eq_sound n _ (passes_there (nat_eq n) (map own rows) 0 among))
 
 module _ (t : Tables) where
   programme_back : (n : ℕ) → is_among n (programme_ids t) ≡ true
       → id_at (λ (p : Programme). p.id) (map (programme_of_row t) t.programmes) (place_of (programme_ids t) n) ≡ n
   programme_back n among =
-      id_back (λ (p : ProgrammeRow). p.id) (λ (p : Programme). p.id) (programme_of_row t)
-      (record { id = 0; group = 0; seats = 0; limit = 0 }) (λ r. refl) n t.programmes among
+      id_back (λ (p : ProgrammeRow). p.id) (λ (p : Programme). p.id) (programme_of_row t) (λ r. refl)
+      n t.programmes among
 
   school_back : (n : ℕ) → is_among n (school_ids t) ≡ true
       → id_at (λ (h : School). h.id) (map school_of_row t.schools) (place_of (school_ids t) n) ≡ n
   school_back n among =
-      id_back (λ (h : SchoolRow). h.id) (λ (h : School). h.id) school_of_row
-      (record { id = 0; beds = 0; ceiling = 0 }) (λ r. refl) n t.schools among
+      id_back (λ (h : SchoolRow). h.id) (λ (h : School). h.id) school_of_row (λ r. refl) n t.schools among
 
   wish_back : (n : ℕ) → is_among n (wish_ids t) ≡ true
       → id_at (λ (w : Wish). w.id) (map (wish_of_row t) t.wishes) (place_of (wish_ids t) n) ≡ n
   wish_back n among =
-      id_back (λ (w : WishRow). w.id) (λ (w : Wish). w.id) (wish_of_row t) no_wish
-      (λ r. refl) n t.wishes among
+      id_back (λ (w : WishRow). w.id) (λ (w : Wish). w.id) (wish_of_row t) (λ r. refl) n t.wishes among
 
   asked_back : (school : Option ℕ) → option_map_or (λ h. is_among h (school_ids t)) school true ≡ true
       → option_map (id_at (λ (h : School). h.id) (map school_of_row t.schools))
@@ -80,7 +73,7 @@ module _ (t : Tables) where
   asked_back (Some h) known = ap (λ (n : ℕ). Some n) (school_back h known)
 
   target_back : (kind : AnswerKind) (target : ℕ) → is_target t kind target ≡ true
-      → target_row (map (wish_of_row t) t.wishes) kind (target_of t kind target) ≡ target
+      → target_row (dossier_of t) kind (target_of t kind target) ≡ target
   target_back Quit target known = refl
   target_back Accept target known = wish_back target known
   target_back Refuse target known = wish_back target known
@@ -91,7 +84,7 @@ module _ (t : Tables) where
       × (option_map_or (λ h. is_among h (school_ids t)) w.school true ≡ true)
 
   wish_again : (w : WishRow) → IsKnown w
-      → wish_row (map (programme_of_row t) t.programmes) (map school_of_row t.schools) (wish_of_row t w) ≡ w
+      → wish_row (dossier_of t) (wish_of_row t w) ≡ w
   wish_again w known =
       λ i. record w { programme = programme_back w.programme known.0 i; school = asked_back w.school known.1 i }
 
@@ -100,18 +93,17 @@ module _ (t : Tables) where
     schools = back (λ (r : SchoolRow). Unit {0}) school_of_row school_row (λ r u. refl) t.schools
         (recursion_from_All (λ (r : SchoolRow). Unit {0}) t.schools (λ k d lt. tt))
 
-    wishes : map (wish_row (map (programme_of_row t) t.programmes) (map school_of_row t.schools))
-        (map (wish_of_row t) t.wishes) ≡ t.wishes
+    wishes : map (wish_row (dossier_of t)) (map (wish_of_row t) t.wishes) ≡ t.wishes
     wishes = back IsKnown (wish_of_row t) _ wish_again t.wishes
         (recursion_from_All IsKnown t.wishes (λ k d lt. (programmes_known t fine k d lt, schools_known t fine k d lt)))
 
-    ceilings : map (ceiling_row (map school_of_row t.schools)) (map (ceiling_of_row t) t.ceilings) ≡ t.ceilings
+    ceilings : map (ceiling_row (dossier_of t)) (map (ceiling_of_row t) t.ceilings) ≡ t.ceilings
     ceilings =
         let P : CeilingRow → Type 0 = λ c. is_among c.school (school_ids t) ≡ true in
         back P (ceiling_of_row t) _ (λ c known i. record c { school = school_back c.school known i }) t.ceilings
         (recursion_from_All P t.ceilings (ceiling_schools_known t fine))
 
-    answers : map (answer_row (map (wish_of_row t) t.wishes)) (map (answer_of_row t) t.answers) ≡ t.answers
+    answers : map (answer_row (dossier_of t)) (map (answer_of_row t) t.answers) ≡ t.answers
     answers =
         let P : AnswerRow → Type 0 = λ x. is_target t x.kind x.target ≡ true in
         back P (answer_of_row t) _ (λ x known i. record x { target = target_back x.kind x.target known i }) t.answers
