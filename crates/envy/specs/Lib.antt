@@ -1,4 +1,5 @@
 pub mod AutomaticDays
 pub mod Blocks
 pub mod Known
+pub mod Noted
 pub mod Text

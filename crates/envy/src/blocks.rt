@@ -1,19 +1,15 @@
 //! The wishes that block a state.
-ghost use Rattle.std.specs.Prelude.{◌≡◌, ◌<◌, [], All, IfOk, IfSome, length};
+ghost use Rattle.std.specs.Prelude.{◌≡◌, ◌<◌, [], All, IfOk, length};
 ghost use Rattle.std.specs.List.{filter_map};
-ghost use Rattle.admit_core.specs.Blocking.{has_better, is_missed, lacks_school, wants_more};
 ghost use Rattle.admit_core.specs.CallOrder.{AreCallOrders};
-ghost use Rattle.day_state.specs.Kept.{mark_in, wish_in};
 ghost use Rattle.envy.specs.AutomaticDays.{IsFirstEvening, IsLaterEvening};
-ghost use Rattle.envy.specs.Blocks.{block_at, blocks_of, envies_of, envy_in, found_at};
-ghost use Rattle.envy.specs.Known.{AreBest, AreLast, envied_by, has_reason, is_below};
+ghost use Rattle.envy.specs.Blocks.{blocks_of, envies_of, envy_in};
 
-use crate::known::{best_wishes, first_own, last_live, wish_count};
 use crate::laws::laws_of_automatic_days;
-use admit_core::{CallOrders, Mark, OutOfMemory, Status, Wish};
-use day_state::{DayState, seats_left};
+use crate::noted::Noted;
+use admit_core::{CallOrders, OutOfMemory};
+use day_state::DayState;
 use linked_demand::Roster;
-use proposals::{mark_at, programme_count, wish_at};
 use std::alloc::Global;
 
 /// A wish that blocks: the seats left of its programme, and the last candidate behind its own who
@@ -32,153 +28,14 @@ pub struct Envy {
     pub envied: u32,
 }
 
-/// Whether its candidate did not give a wish up themself, and it is not live.
-fn is_missed(mark: Mark) -> bool
-    ensures { result ≡ is_missed mark.status }
+/// The blocks of a state, by place.
+fn listed_blocks(alloc: Global, noted: &Noted<'_, '_, '_>) -> Result<Vec<Block>, OutOfMemory>
+    ensures { IfOk result (λ blocks.
+        blocks.items ≡ blocks_of noted.now.state noted.now.orders) }
 {
-    matches!(
-        mark.status,
-        Status::Waiting | Status::AutoRefused | Status::AutoWithdrawn
-    )
-}
-
-/// Whether a wish is without boarding.
-fn lacks_school(wish: Wish) -> bool
-    ensures { result ≡ lacks_school wish.school }
-{
-    wish.school.is_none()
-}
-
-/// Whether a number that may be missing is below another.
-fn is_below(number: Option<u32>, other: u32) -> bool
-    ensures { result ≡ is_below number other }
-{
-    match number {
-        None => false,
-        Some(number) => number < other,
-    }
-}
-
-/// Whether the candidate of the wish at a place holds one that they prefer; `best` has the best
-/// live wish of each candidate.
-fn has_better(state: &DayState<'_>, best: &[Option<u32>], place: u32) -> bool
-    requires place { place < length state.now.dossier.wishes }
-    requires best { AreBest state.now best.now }
-    ensures { result ≡ has_better state.now (wish_in state.now.dossier.wishes place) }
-{
-    let held = best[first_own(state, place) as usize];
-    is_below(held, wish_at(state, place).preference)
-}
-
-/// Whether the candidate of the wish at a place has nothing that is as good.
-fn wants_more(state: &DayState<'_>, best: &[Option<u32>], place: u32) -> bool
-    requires place { place < length state.now.dossier.wishes }
-    requires best { AreBest state.now best.now }
-    ensures { result ≡ wants_more state.now
-        (wish_in state.now.dossier.wishes place) (mark_in state.now.marks place) }
-{
-    let _ = state.marks(); // one for each wish
-    let wish = wish_at(state, place);
-    lacks_school(wish)
-        && wish.preference > 0
-        && is_missed(mark_at(state, place))
-        && !state.is_live_in_its_programme(place)
-        && !has_better(state, best, place)
-}
-
-/// The candidate of the last live wish of a programme, where they stand behind that of a wish.
-fn envied_by(
-    state: &DayState<'_>,
-    roster: &Roster<'_, '_>,
-    last: Option<u32>,
-    wish: u32,
-) -> Option<u32>
-    requires same { roster.now.dossier ≡ state.now.dossier }
-    requires last { IfSome last (λ k. k < length state.now.dossier.wishes) }
-    requires wish { wish < length state.now.dossier.wishes }
-    ensures { result ≡ envied_by state.now.dossier roster.now.orders last wish }
-{
-    match last {
-        Some(last) if roster.place_in_line(wish) < roster.place_in_line(last) => {
-            Some(wish_at(state, last).candidate)
-        }
-        _ => None,
-    }
-}
-
-/// What is told of the wish at a place, where it is known which wish is the last live one of each
-/// programme.
-fn block_at(
-    state: &DayState<'_>,
-    roster: &Roster<'_, '_>,
-    lasts: &[Option<u32>],
-    wish: u32,
-) -> Block
-    requires same { roster.now.dossier ≡ state.now.dossier }
-    requires lasts { AreLast state.now roster.now.orders lasts.now }
-    requires wish { wish < length state.now.dossier.wishes }
-    ensures { result ≡ block_at state.now roster.now.orders wish }
-{
-    let dossier = state.dossier();
-    let _ = &dossier.wishes; // learns that the dossier is valid
-    let _ = state.marks(); // one for each wish
-    let _ = programme_count(state); // each wish is for one of them
-    let _ = roster.orders(); // those of the dossier
-    let programme = wish_at(state, wish).programme;
-    let envied = envied_by(state, roster, lasts[programme as usize], wish);
-    Block {
-        wish,
-        left: seats_left(state, programme),
-        envied,
-    }
-}
-
-/// Whether a seat is left, or somebody is envied.
-fn has_reason(block: Block) -> bool
-    ensures { result ≡ has_reason block }
-{
-    block.left > 0 || block.envied.is_some()
-}
-
-/// What is told of the wish at a place, where it blocks.
-fn found_at(
-    state: &DayState<'_>,
-    roster: &Roster<'_, '_>,
-    lasts: &[Option<u32>],
-    best: &[Option<u32>],
-    place: u32,
-) -> Option<Block>
-    requires same { roster.now.dossier ≡ state.now.dossier }
-    requires lasts { AreLast state.now roster.now.orders lasts.now }
-    requires best { AreBest state.now best.now }
-    requires place { place < length state.now.dossier.wishes }
-    ensures { result ≡ found_at state.now roster.now.orders place }
-{
-    if !wants_more(state, best, place) {
-        return None;
-    }
-    let block = block_at(state, roster, lasts, place);
-    if has_reason(block) { Some(block) } else { None }
-}
-
-/// The blocks of a state, by place, where it is known which wish is the last live one of each
-/// programme, and which is the best one of each candidate.
-fn listed_blocks(
-    alloc: Global,
-    state: &DayState<'_>,
-    roster: &Roster<'_, '_>,
-    lasts: &[Option<u32>],
-    best: &[Option<u32>],
-) -> Result<Vec<Block>, OutOfMemory>
-    requires same { roster.now.dossier ≡ state.now.dossier }
-    requires lasts { AreLast state.now roster.now.orders lasts.now }
-    requires best { AreBest state.now best.now }
-    ensures { IfOk result (λ blocks. blocks.items ≡ blocks_of state.now roster.now.orders) }
-{
-    let _ = state.marks(); // one for each wish
     let mut blocks = Vec::new(alloc);
-    for place in 0..wish_count(state) {
-        if let Some(block) = found_at(state, roster, lasts, best, place) {
+    for place in 0..noted.wish_count() {
+        if let Some(block) = noted.found_at(place) {
             blocks.push(block)?;
         }
     }
@@ -191,10 +48,10 @@ fn listed_blocks(
 ///
 /// It costs about the wishes: what each candidate holds, and who is the last live one of each
 /// programme, is noted once.
-pub fn blocking_pairs_along(
+pub fn blocking_pairs_along<'a, 'd>(
     alloc: Global,
-    state: &DayState<'_>,
-    roster: &Roster<'_, '_>,
+    state: &'a DayState<'d>,
+    roster: &'a Roster<'_, 'd>,
 ) -> Result<Vec<Block>, OutOfMemory>
     requires { roster.now.dossier ≡ state.now.dossier }
     ensures blocks { IfOk result (λ blocks.
@@ -210,9 +67,8 @@ pub fn blocking_pairs_along(
     let _ = &dossier.wishes; // learns that the dossier is valid
     let _ = roster.orders(); // those of the dossier
     laws_of_automatic_days();
-    let lasts = last_live(alloc, state, roster)?;
-    let best = best_wishes(alloc, state)?;
-    listed_blocks(alloc, state, roster, &lasts, &best)
+    let noted = Noted::of(alloc, state, roster)?;
+    listed_blocks(alloc, &noted)
 }
 
 /// The same, along a roster that is made for it: a walk along the call order of each group. Where

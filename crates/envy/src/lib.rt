@@ -7,6 +7,7 @@
 mod blocks;
 mod known;
 mod laws;
+mod noted;
 mod text;
 
 pub use blocks::{Block, Envy, blocking_pairs, blocking_pairs_along, envy_list};

@@ -12,10 +12,10 @@ use linked_demand::Roster;
 use std::alloc::Global;
 
 /// The lines of the wishes that block an evening.
-fn blocked_text(
+fn blocked_text<'a, 'd>(
     alloc: Global,
-    evening: &DayState<'_>,
-    roster: &Roster<'_, '_>,
+    evening: &'a DayState<'d>,
+    roster: &'a Roster<'_, 'd>,
 ) -> Result<Vec<u8>, OutOfMemory>
     requires { roster.now.dossier ≡ evening.now.dossier }
     ensures { IfOk result (λ text. text.items ≡ blocked_text evening.now roster.now.orders) }

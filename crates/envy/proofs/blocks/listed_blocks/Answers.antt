@@ -5,8 +5,8 @@ use Rattle.envy.proofs.blocks.listed_blocks.Goals.{in-Some+in_ok-push, in_defaul
 
 pub loop-place-preserved : goal.loop-place-preserved
 loop-place-preserved c =
-    let s = c.args.state.now in
-    let os = c.args.roster.now.orders in
+    let s = c.args.noted.now.state in
+    let os = c.args.noted.now.orders in
     let k = c.loop-place.place in
     let now = c.loop-place.blocks.items in
     elim c.match-found_at.branch [
@@ -21,7 +21,7 @@ loop-place-preserved c =
 
 pub returns : goal.returns
 returns c =
-    listed_all c.args.state.now c.args.roster.now.orders c.loop-place.blocks.items
-    c.loop-place.place (rw c.marks.ensures.marks at c.marks.ensures.one_each)
-    (omega (arith, c.loop-place-test.false, c.loop-place.auto.place-end, c.wish_count-place-end.ensures))
+    listed_all c.args.noted.now.state c.args.noted.now.orders c.loop-place.blocks.items
+    c.loop-place.place (c.wish_count-place-end.ensures.one_each ∙ c.wish_count-place-end.ensures.count)
+    (omega (arith, c.loop-place-test.false, c.loop-place.auto.place-end, c.wish_count-place-end.ensures.count))
     c.loop-place.invariant
