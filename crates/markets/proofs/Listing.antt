@@ -52,7 +52,8 @@ pub put_more : {A : Type 0} (item : ℕ → A) (xs : List ℕ) (k : ℕ) (old ro
     → ArePutIn (λ p. is_among p (take (k + 1) xs)) item old (set rows (get_or xs k 0) after)
 put_more {A} item xs k old rows before after is_list lt read pushed are =
     let g : ℕ = get_or xs k 0 in
-    let g_lt : g < length rows = omega (arith, list_below (length old) xs g is_list (among_itself xs k lt), are.as_many) in
+    let g_lt : g < length rows =
+    omega (arith, list_below (length old) xs g is_list (among_itself xs k lt), are.as_many) in
     let front : List ℕ = take k xs in
     let absent : is_among g front ≡ false = not_before (length old) xs k is_list lt in
     let grown : (p : ℕ) → is_among p (take (k + 1) xs) ≡ (is_among p front || (nat_eq p g || false)) =

@@ -84,15 +84,6 @@ impl<'a> MarketRound<'a> {
     }
 }
 
-/// The lesser of two numbers.
-fn least(bar: u32, upto: u32) -> u32
-    ensures low { result ≤ bar }
-    ensures within { result ≤ upto }
-    ensures past { (h : ℕ) → result < h → h ≤ upto → bar < h }
-{
-    if bar < upto { bar } else { upto }
-}
-
 /// The number of candidates of each programme.
 fn ceilings(alloc: Global, market: &Market) -> Result<Vec<u32>, OutOfMemory>
     ensures { IfOk result (λ v. v.items ≡ map length market.now.orders) }
@@ -191,7 +182,7 @@ impl Falling for MarketRound<'_> {
             ((market_system self.now.market).ranks self.now.bars.items i))) }
         ensures always { upto ≡ 0 → IsOk result }
     {
-        let end = least(self.bars[i as usize], upto);
+        let end = self.bars[i as usize].min(upto);
         names_within(alloc, self.market.market(), &self.seating.places, i, end)
     }
 
