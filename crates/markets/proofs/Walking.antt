@@ -1,6 +1,6 @@
 -- Those who list a programme, in the order in which they are called.
 use Rattle.std.proofs.Common.{ℕ, zero, suc, ◌+◌, ◌≤◌, ◌<◌, ◌≡◌, Bool, true, false, List, [], ◌∷◌, map, length}
-use Rattle.std.proofs.Common.{None, take, get_or, inl, inr, refl, sym, ◌∙◌, ap, arith, nat_eq, filter}
+use Rattle.std.proofs.Common.{All, None, take, get_or, inl, inr, refl, sym, ◌∙◌, ap, arith, nat_eq, filter, subst}
 use Rattle.std.specs.Prelude.{is_some}
 use Rattle.std.specs.List.{range_with_len, AllByRecursion, IsDistinct}
 use Rattle.std.specs.List.Sorted.{IsNonDecreasing, IsPermutation, IsStrictlyIncreasing}
@@ -8,11 +8,11 @@ use Rattle.std.proofs.Math.ListN.{set}
 use Rattle.std.proofs.lemmas.Bool.{cases_Bool, cases_eq, and_parts, and_from, eqb-true, false≢true, or_cases}
 use Rattle.std.proofs.lemmas.Bool.Decides.{Decides-eqb}
 use Rattle.std.proofs.lemmas.List.{get_or-map, length-map, length-set, get_or-set_same, get_or-set_other, same_lists}
-use Rattle.std.proofs.lemmas.List.{take_more}
+use Rattle.std.proofs.lemmas.List.{get_or_default, take_more}
 use Rattle.std.proofs.lemmas.List.Folds.{list_any-append}
 use Rattle.std.proofs.lemmas.List.FromFn.{length-map-range_with_len, get_or-map-range_with_len}
 use Rattle.std.proofs.lemmas.List.Kept.{IsStrictlyIncreasing-filter, AllPairs-from_increasing}
-use Rattle.std.proofs.lemmas.List.Sorted.{list_any-IsPermutation}
+use Rattle.std.proofs.lemmas.List.Sorted.{All-permutation, list_any-IsPermutation}
 use Rattle.std.proofs.lemmas.Map.Keys.{IsDistinct-IsPermutation, IsStrictlyIncreasing-from_distinct}
 use Rattle.std.proofs.lemmas.Map.Made.{IsDistinct-from_AllPairs}
 use Rattle.admit_core.specs.Lists.{is_among}
@@ -119,6 +119,21 @@ module _ (numbers places listers : List ℕ) (noted : AreNoted numbers places)
   at : (x : ℕ) → is_among x listers ≡ true
       → (get_or places x 0 < length numbers) × (get_or numbers (get_or places x 0) 0 ≡ x)
   at x t = noted x (are.within x t) (are.there x t)
+
+  -- each has a place, at which a number stands
+  pub have_places : All (λ x. x < length places) listers
+  have_places = λ k d lt. subst (λ (x : ℕ). x < length places) (get_or_default listers k 0 d lt)
+      (are.within (get_or listers k 0) (among_itself listers k lt))
+
+  pub are_places : (found : List ℕ) → IsPermutation (map (λ x. get_or places x 0) listers) found
+      → All (λ i. i < length numbers) found
+  are_places found moved =
+      let key : ℕ → ℕ = λ x. get_or places x 0 in
+      All-permutation (λ (i : ℕ). i < length numbers) (map key listers) found moved
+      (λ k d lt.
+      let k_in : k < length listers = omega (arith, lt, length-map listers key) in
+      subst (λ (i : ℕ). i < length numbers) (sym (get_or-map key listers k 0 d k_in))
+      (at (get_or listers k 0) (among_itself listers k k_in)).0)
 
   -- those at the places that pass
   abbrev passes : ℕ → Bool

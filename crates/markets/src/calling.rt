@@ -1,5 +1,5 @@
 //! Who lists a programme, in the order in which its group calls them.
-ghost use Rattle.std.specs.Prelude.{◌≡◌, ◌<◌, ◌≤◌, [], length, filter, map, nat_eq, slice_index, IfOk, None, OnOk, Some};
+ghost use Rattle.std.specs.Prelude.{◌≡◌, ◌<◌, ◌≤◌, [], All, length, filter, map, nat_eq, slice_index, IfOk, None, OnOk, Some};
 ghost use Rattle.std.specs.List.{position_or_len, range_with_len};
 ghost use Rattle.std.specs.List.Sorted.{IsNonDecreasingBy, IsPermutation};
 ghost use Rattle.admit_core.specs.DossierRows.{group_of};
@@ -69,42 +69,28 @@ fn note_places(numbers: &[u32], places: &mut Vec<usize>)
     }
 }
 
-/// The number at a place of a list; 0 past its end.
-fn number_at(numbers: &[u32], place: usize) -> u32
-    ensures { result ≡ slice_index numbers.now place }
-{
-    numbers.get(place).copied().unwrap_or(0)
-}
-
-/// The place of a number; 0 for one that has none.
-fn place_of(places: &[usize], number: u32) -> usize
-    ensures { result ≡ slice_index places.now number }
-{
-    places.get(number as usize).copied().unwrap_or(0)
-}
-
 /// The places of numbers.
 fn places_of(alloc: Global, places: &[usize], numbers: &[u32]) -> Result<Vec<usize>, OutOfMemory>
+    requires { All (λ number. number < length places.now) numbers.now }
     ensures { IfOk result (λ v. v.items ≡ map (slice_index places.now) numbers.now) }
 {
-    Ok(
-        numbers
-            .iter()
-            .map(|number| place_of(places, *number))
-            .collect(alloc)?,
-    )
+    let mut found = Vec::with_capacity(alloc, numbers.len())?;
+    for number in numbers {
+        found.push(places[*number as usize])?;
+    }
+    Ok(found)
 }
 
 /// The numbers at places.
 fn numbers_at(alloc: Global, numbers: &[u32], places: &[usize]) -> Result<Vec<u32>, OutOfMemory>
+    requires { All (λ place. place < length numbers.now) places.now }
     ensures { IfOk result (λ v. v.items ≡ map (slice_index numbers.now) places.now) }
 {
-    Ok(
-        places
-            .iter()
-            .map(|place| number_at(numbers, *place))
-            .collect(alloc)?,
-    )
+    let mut found = Vec::with_capacity(alloc, places.len())?;
+    for place in places {
+        found.push(numbers[*place])?;
+    }
+    Ok(found)
 }
 
 /// Those who list a programme, in the order in which they stand in a list of numbers.
