@@ -16,7 +16,7 @@ use Rattle.certificate.specs.declared.line.Line.TheVariants.{Day, Pass, Fall, En
 use Rattle.certificate.specs.declared.refusal.ChainRefusal.{ChainRefusal}
 use Rattle.certificate.specs.Counted.{IsCounted}
 use Rattle.certificate.specs.Grammar.{parts, small, number, in_front, numbers, only, is_word, fall_at, line_of}
-use Rattle.certificate.specs.Grammar.{line_with, misplaced, day_after, pass_after, Said, nothing, end_at, said_with}
+use Rattle.certificate.specs.Grammar.{line_with, misplaced, days_after, passes_after, Said, nothing, end_at, said_with}
 use Rattle.certificate.specs.Grammar.{said_from, is_end, read, chain_of}
 use Rattle.certificate.specs.Open.{Answers}
 
@@ -140,8 +140,8 @@ fall_counts false day pass row fall (Ok said) counts =
 
 line_counts : (line : Option Line) (day pass row : ℕ) (others : List (List ℕ))
     (said : Result Said ChainFault) → day ≤ 366 → pass ≤ 4294967295 → IsSmall line
-    → (day_after day line ≤ 366 → pass_after pass line ≤ 4294967295
-    → CountsFrom (day_after day line) (pass_after pass line) said)
+    → (days_after day line ≤ 366 → passes_after pass line ≤ 4294967295
+    → CountsFrom (days_after day line) (passes_after pass line) said)
     → CountsFrom day pass (cond (is_end line) (end_at row others) (said_with row line (misplaced day pass line) said))
 line_counts None day pass row others said few small_pass fits counts = tt
 line_counts (Some (Day n)) day pass row others said few small_pass fits counts =
@@ -162,9 +162,9 @@ lines_count day pass row (last ∷ []) few small_pass = tt
 lines_count day pass row (text ∷ next ∷ others) few small_pass =
     let line = line_of row (parts 32 text) in
     line_counts line day pass row (next ∷ others)
-    (said_from (day_after day line) (pass_after pass line) (row + 1) (next ∷ others)) few
+    (said_from (days_after day line) (passes_after pass line) (row + 1) (next ∷ others)) few
     small_pass (all_small row (parts 32 text))
-    (λ few_after small_after. lines_count (day_after day line) (pass_after pass line) (row + 1)
+    (λ few_after small_after. lines_count (days_after day line) (passes_after pass line) (row + 1)
     (next ∷ others) few_after small_after)
 
 chain_counts : (said : Result Said ChainFault) → CountsFrom 0 0 said → IfOk (chain_of said) IsCounted

@@ -11,9 +11,9 @@ use Rattle.certificate.specs.declared.line.Kind.TheVariants as kinds
 use Rattle.certificate.specs.declared.line.Line.{Line}
 use Rattle.certificate.specs.declared.line.Line.TheVariants.{Day, Pass, Fall}
 use Rattle.certificate.specs.Faults.{fault_in}
-use Rattle.certificate.specs.Grammar.{chain_of, day_by, end_at, fall_at, fault_at, in_front}
+use Rattle.certificate.specs.Grammar.{chain_of, days_by, end_at, fall_at, fault_at, in_front}
 use Rattle.certificate.specs.Grammar.{is_end_kind, is_word, kind_of, line_of, misplaced_at, number}
-use Rattle.certificate.specs.Grammar.{numbers, only, parts, pass_by, Said, said_from, said_with, unended_at}
+use Rattle.certificate.specs.Grammar.{numbers, only, parts, passes_by, Said, said_from, said_with, unended_at}
 use Rattle.certificate.specs.Kinds.{fall_kind, kind_with}
 use Rattle.certificate.proofs.Saying.{said_by}
 
@@ -131,12 +131,12 @@ module _ (day pass row : ℕ) (text after : List ℕ) (all : List (List ℕ)) (w
     by_kind : (l : Line) → line_of row (parts 32 text) ≡ Some l → kind_of l ≡ kind
         → whole ≡ fault_in (cond (is_end_kind kind) (end_at row (parts 10 after))
         (said_with row (Some l) (misplaced_at day pass kind)
-        (said_from (day_by day kind) (pass_by pass kind) (row + 1) (parts 10 after))))
+        (said_from (days_by day kind) (passes_by pass kind) (row + 1) (parts 10 after))))
     by_kind l known same =
         e ∙ ap fault_in (said_by day pass row text after all (Some l) first (sym known))
         ∙ ap (λ k. fault_in (cond (is_end_kind k) (end_at row (parts 10 after))
         (said_with row (Some l) (misplaced_at day pass k)
-        (said_from (day_by day k) (pass_by pass k) (row + 1) (parts 10 after))))) same
+        (said_from (days_by day k) (passes_by pass k) (row + 1) (parts 10 after))))) same
 
     pub fault_at_end : is_end_kind kind ≡ true → whole ≡ fault_in (end_at row (parts 10 after))
     fault_at_end ends =
@@ -144,20 +144,20 @@ module _ (day pass row : ℕ) (text after : List ℕ) (all : List (List ℕ)) (w
         by_kind l known same
         ∙ ap (λ b. fault_in (cond b (end_at row (parts 10 after))
         (said_with row (Some l) (misplaced_at day pass kind)
-        (said_from (day_by day kind) (pass_by pass kind) (row + 1) (parts 10 after))))) ends
+        (said_from (days_by day kind) (passes_by pass kind) (row + 1) (parts 10 after))))) ends
 
     by_place : is_end_kind kind ≡ false → (why : Option ChainReason) → why ≡ misplaced_at day pass kind
         → (l : Line) × (whole ≡ fault_in (said_with row (Some l) why
-        (said_from (day_by day kind) (pass_by pass kind) (row + 1) (parts 10 after))))
+        (said_from (days_by day kind) (passes_by pass kind) (row + 1) (parts 10 after))))
     by_place ends why placed =
         let (l, known, same) = line_known (line_of row (parts 32 text)) kind is in (
           l,
           by_kind l known same
               ∙ ap (λ b. fault_in (cond b (end_at row (parts 10 after))
               (said_with row (Some l) (misplaced_at day pass kind)
-              (said_from (day_by day kind) (pass_by pass kind) (row + 1) (parts 10 after))))) ends
+              (said_from (days_by day kind) (passes_by pass kind) (row + 1) (parts 10 after))))) ends
               ∙ ap (λ w. fault_in (said_with row (Some l) w
-              (said_from (day_by day kind) (pass_by pass kind) (row + 1) (parts 10 after)))) (sym placed),
+              (said_from (days_by day kind) (passes_by pass kind) (row + 1) (parts 10 after)))) (sym placed),
         )
 
     pub fault_misplaced : (reason : ChainReason) → is_end_kind kind ≡ false
@@ -165,10 +165,10 @@ module _ (day pass row : ℕ) (text after : List ℕ) (all : List (List ℕ)) (w
     fault_misplaced reason ends placed = (by_place ends (Some reason) placed).1
 
     pub fault_further : is_end_kind kind ≡ false → None ≡ misplaced_at day pass kind
-        → whole ≡ fault_in (said_from (day_by day kind) (pass_by pass kind) (row + 1) (parts 10 after))
+        → whole ≡ fault_in (said_from (days_by day kind) (passes_by pass kind) (row + 1) (parts 10 after))
     fault_further ends placed =
         let (l, so) = by_place ends None placed in
-        so ∙ fault_behind row l (said_from (day_by day kind) (pass_by pass kind) (row + 1) (parts 10 after))
+        so ∙ fault_behind row l (said_from (days_by day kind) (passes_by pass kind) (row + 1) (parts 10 after))
 
 -- the text ends before an `end` line
 pub fault_unended : (day pass row : ℕ) (rest : List ℕ) (all : List (List ℕ)) (whole : Option ChainFault)

@@ -25,8 +25,8 @@ use Rattle.report.specs.Words as Words
 use Rattle.certificate.specs.declared.line.Line.{Line}
 use Rattle.certificate.specs.declared.line.Line.TheVariants.{Day, Pass, Fall as FallOf}
 use Rattle.certificate.specs.ChainText.{chain_text, day_lines, pass_lines, passes_lines}
-use Rattle.certificate.specs.Grammar.{chain_of, day_after, end_at, is_end, line_of, line_with, misplaced, nothing}
-use Rattle.certificate.specs.Grammar.{pass_after, parts, read, Said, said_from, said_with}
+use Rattle.certificate.specs.Grammar.{chain_of, days_after, end_at, is_end, line_of, line_with, misplaced, nothing}
+use Rattle.certificate.specs.Grammar.{passes_after, parts, read, Said, said_from, said_with}
 use Rattle.certificate.specs.Written.{AreNumbered, CanBeTold, DayCanBeTold, PassCanBeTold, chain_of_days, days_from}
 use Rattle.certificate.specs.Written.{fall_at, falls_from, passes_from, row_after, row_after_pass}
 use Rattle.certificate.proofs.Saying.{said_by}
@@ -39,7 +39,7 @@ read_line : (day pass row : ℕ) (w : List ℕ) (ws : List (List ℕ)) (line : L
     → said_from day pass row (parts 10 (Words.line (w ∷ ws) ++ rest))
     ≡ cond (is_end (Some line)) (end_at row (parts 10 rest))
     (said_with row (Some line) (misplaced day pass (Some line)) (said_from
-    (day_after day (Some line)) (pass_after pass (Some line)) (row + 1) (parts 10 rest)))
+    (days_after day (Some line)) (passes_after pass (Some line)) (row + 1) (parts 10 rest)))
 read_line day pass row w ws line rest are is =
     said_by day pass row (body_of w ws) rest (parts 10 (Words.line (w ∷ ws) ++ rest)) (Some line)
     (line_cut w ws rest are)

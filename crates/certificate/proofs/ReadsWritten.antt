@@ -9,8 +9,8 @@ use Rattle.admit_core.specs.declared.chain.ChainFault.{ChainFault}
 use Rattle.admit_core.specs.declared.chain.DayChain.{DayChain}
 use Rattle.admit_core.specs.declared.chain.FallLine.{FallLine}
 use Rattle.admit_core.specs.declared.chain.PassChain.{PassChain}
-use Rattle.certificate.specs.Grammar.{Said, chain_of, day_after, end_at, is_end, line_of, misplaced, nothing, parts}
-use Rattle.certificate.specs.Grammar.{pass_after, said_from, said_with, with_line}
+use Rattle.certificate.specs.Grammar.{Said, chain_of, days_after, end_at, is_end, line_of, misplaced, nothing, parts}
+use Rattle.certificate.specs.Grammar.{passes_after, said_from, said_with, with_line}
 use Rattle.certificate.specs.declared.line.Line.{Line}
 use Rattle.certificate.specs.declared.line.Line.TheVariants.{Day, End, Fall, Pass}
 use Rattle.certificate.specs.TextGrammar.{FollowFrom, ReadsWhatIsWritten, StandFrom, WriteLines, day_lines, pass_lines}
@@ -141,13 +141,13 @@ at_end row ((byte ∷ bytes) ∷ texts) said e = absurd (cc)
 -- what a line and those after it say
 step : (text : List ℕ) (others : List (List ℕ)) (day pass row : ℕ) (said : Said) (line : Option Line)
     → line_of row (parts 32 text) ≡ line
-    → ((later : Said) → day_after day line ≤ 366
-    → said_from (day_after day line) (pass_after pass line) (row + 1) others ≡ Ok later
-    → SaidSo (day_after day line) (pass_after pass line) (row + 1) others later)
+    → ((later : Said) → days_after day line ≤ 366
+    → said_from (days_after day line) (passes_after pass line) (row + 1) others ≡ Ok later
+    → SaidSo (days_after day line) (passes_after pass line) (row + 1) others later)
     → day ≤ 366
     → (if is_end line then end_at row others
     else said_with row line (misplaced day pass line)
-    (said_from (day_after day line) (pass_after pass line) (row + 1) others)) ≡ Ok said
+    (said_from (days_after day line) (passes_after pass line) (row + 1) others)) ≡ Ok said
     → SaidSo day pass row (text ∷ others) said
 step text others day pass row said None is later le e = absurd (cc)
 step text others day pass row said (Some End) is later le e =
@@ -197,14 +197,14 @@ said_so (last ∷ []) day pass row said le e = absurd (cc)
 said_so (text ∷ next ∷ others) day pass row said le e =
     step text (next ∷ others) day pass row said (line_of row (parts 32 text)) refl
     (λ later le_later is.
-    said_so (next ∷ others) (day_after day (line_of row (parts 32 text)))
-    (pass_after pass (line_of row (parts 32 text))) (row + 1) later le_later is) le e
+    said_so (next ∷ others) (days_after day (line_of row (parts 32 text)))
+    (passes_after pass (line_of row (parts 32 text))) (row + 1) later le_later is) le e
 
 -- ---- what is written is read
 said_step : (day pass row : ℕ) (text next : List ℕ) (others : List (List ℕ)) (line : Line) (later : Said)
     → line_of row (parts 32 text) ≡ Some line → is_end (Some line) ≡ false
     → misplaced day pass (Some line) ≡ None
-    → said_from (day_after day (Some line)) (pass_after pass (Some line)) (row + 1) (next ∷ others) ≡ Ok later
+    → said_from (days_after day (Some line)) (passes_after pass (Some line)) (row + 1) (next ∷ others) ≡ Ok later
     → said_from day pass row (text ∷ next ∷ others) ≡ Ok (with_line row line later)
 unfolding said_from
 said_step day pass row text next others line later is goes_on placed rest = rw (is, goes_on, placed, rest) refl
@@ -212,7 +212,7 @@ said_step day pass row text next others line later is goes_on placed rest = rw (
 more : (day pass row : ℕ) (text : List ℕ) (front : List (List ℕ)) (line : Line) (later : Said)
     → line_of row (parts 32 text) ≡ Some line → is_end (Some line) ≡ false
     → misplaced day pass (Some line) ≡ None
-    → said_from (day_after day (Some line)) (pass_after pass (Some line)) (row + 1) (front ++ [] ∷ []) ≡ Ok later
+    → said_from (days_after day (Some line)) (passes_after pass (Some line)) (row + 1) (front ++ [] ∷ []) ≡ Ok later
     → said_from day pass row (text ∷ (front ++ [] ∷ [])) ≡ Ok (with_line row line later)
 more day pass row text [] line later is goes_on placed rest =
     said_step day pass row text [] [] line later is goes_on placed rest

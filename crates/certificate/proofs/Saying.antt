@@ -13,7 +13,7 @@ use Rattle.admit_core.specs.declared.chain.ChainReason.{ChainReason}
 use Rattle.admit_core.specs.declared.chain.ChainReason.TheVariants.{NotLine, WrongNumber, AfterEnd}
 use Rattle.certificate.specs.declared.line.Line.{Line}
 use Rattle.certificate.specs.declared.line.Line.TheVariants.{Day, Pass, Fall, End}
-use Rattle.certificate.specs.Grammar.{parts, numbers, line_of, line_with, misplaced, day_after, pass_after, Said}
+use Rattle.certificate.specs.Grammar.{parts, numbers, line_of, line_with, misplaced, days_after, passes_after, Said}
 use Rattle.certificate.specs.Grammar.{nothing, with_line, fault_at, end_at, unended_at, said_with, said_from, is_end}
 use Rattle.certificate.specs.Grammar.{chain_of}
 use Rattle.certificate.specs.Open.{Open, passes_until, days_until, opened, passes_with, days_with, chain_with}
@@ -34,7 +34,7 @@ said_first : (day pass row : ℕ) (text : List ℕ) (others : List (List ℕ)) �
     → said_from day pass row (text ∷ others)
     ≡ cond (is_end (line_of row (parts 32 text))) (end_at row others)
     (said_with row (line_of row (parts 32 text)) (misplaced day pass (line_of row (parts 32 text)))
-    (said_from (day_after day (line_of row (parts 32 text))) (pass_after pass (line_of row (parts 32 text)))
+    (said_from (days_after day (line_of row (parts 32 text))) (passes_after pass (line_of row (parts 32 text)))
     (row + 1) others))
 unfolding said_from
 said_first day pass row text [] h = absurd (omega arith)
@@ -45,12 +45,12 @@ pub said_by : (day pass row : ℕ) (text after : List ℕ) (all : List (List ℕ
     → all ≡ text ∷ parts 10 after → line ≡ line_of row (parts 32 text)
     → said_from day pass row all
     ≡ cond (is_end line) (end_at row (parts 10 after)) (said_with row line (misplaced day pass line)
-    (said_from (day_after day line) (pass_after pass line) (row + 1) (parts 10 after)))
+    (said_from (days_after day line) (passes_after pass line) (row + 1) (parts 10 after)))
 said_by day pass row text after all line first is =
     ap (said_from day pass row) first ∙ said_first day pass row text (parts 10 after) (some_parts 10 after)
     ∙ ap (λ (l : Option Line).
     cond (is_end l) (end_at row (parts 10 after)) (said_with row l (misplaced day pass l)
-    (said_from (day_after day l) (pass_after pass l) (row + 1) (parts 10 after)))) (sym is)
+    (said_from (days_after day l) (passes_after pass l) (row + 1) (parts 10 after)))) (sym is)
 
 pub not_line : (o : Open) (row : ℕ) (text after : List ℕ) (all : List (List ℕ))
     (whole : Result Chain ChainFault) → all ≡ text ∷ parts 10 after → None ≡ line_of row (parts 32 text)
@@ -67,7 +67,7 @@ has_ended o row text after all line whole first is ends e =
     e ∙ ap (chain_with o) (said_by o.day o.pass row text after all (Some line) first is
     ∙ ap (λ b. cond b (end_at row (parts 10 after))
     (said_with row (Some line) (misplaced o.day o.pass (Some line))
-    (said_from (day_after o.day (Some line)) (pass_after o.pass (Some line)) (row + 1)
+    (said_from (days_after o.day (Some line)) (passes_after o.pass (Some line)) (row + 1)
     (parts 10 after)))) ends)
 
 goes_by : (o : Open) (row : ℕ) (text after : List ℕ) (all : List (List ℕ)) (line : Line)
@@ -75,10 +75,10 @@ goes_by : (o : Open) (row : ℕ) (text after : List ℕ) (all : List (List ℕ))
     → Some line ≡ line_of row (parts 32 text)
     → is_end (Some line) ≡ false → why ≡ misplaced o.day o.pass (Some line)
     → whole ≡ chain_with o (said_from o.day o.pass row all)
-    → whole ≡ chain_with o (said_with row (Some line) why (said_from (day_after o.day (Some line))
-    (pass_after o.pass (Some line)) (row + 1) (parts 10 after)))
+    → whole ≡ chain_with o (said_with row (Some line) why (said_from (days_after o.day (Some line))
+    (passes_after o.pass (Some line)) (row + 1) (parts 10 after)))
 goes_by o row text after all line why whole first is ends placed e =
-    let rest = said_from (day_after o.day (Some line)) (pass_after o.pass (Some line)) (row + 1) (parts 10 after) in
+    let rest = said_from (days_after o.day (Some line)) (passes_after o.pass (Some line)) (row + 1) (parts 10 after) in
     e ∙ ap (chain_with o) (said_by o.day o.pass row text after all (Some line) first is
     ∙ ap (λ b. cond b (end_at row (parts 10 after))
     (said_with row (Some line) (misplaced o.day o.pass (Some line)) rest)) ends
@@ -175,8 +175,8 @@ said_opened o row line (Ok said) ends placed =
     ap (λ (ds : List DayChain). Ok (record { days = ds })) (line_opened o row line said ends placed)
 
 numbers_opened : (o : Open) (row : ℕ) (line : Line) → is_end (Some line) ≡ false
-    → (day_after o.day (Some line) ≡ (opened row line o).day)
-    × (pass_after o.pass (Some line) ≡ (opened row line o).pass)
+    → (days_after o.day (Some line) ≡ (opened row line o).day)
+    × (passes_after o.pass (Some line) ≡ (opened row line o).pass)
 numbers_opened o row (Day n) ends = (refl, refl)
 numbers_opened o row (Pass k) ends = (refl, refl)
 numbers_opened o row (Fall fall) ends = (refl, refl)
@@ -192,7 +192,8 @@ goes_on o new row text after all line whole first is ends placed opens e =
     let same = numbers_opened o row line ends in
     goes_by o row text after all line None whole first is ends placed e
     ∙ said_opened o row line _ ends placed
-    ∙ ap (λ d. chain_with (opened row line o) (said_from d (pass_after o.pass (Some line)) (row + 1) (parts 10 after)))
+    ∙ ap (λ d.
+    chain_with (opened row line o) (said_from d (passes_after o.pass (Some line)) (row + 1) (parts 10 after)))
     same.0
     ∙ ap (λ p. chain_with (opened row line o) (said_from (opened row line o).day p (row + 1) (parts 10 after))) same.1
     ∙ ap (λ (x : Open). chain_with x (said_from x.day x.pass (row + 1) (parts 10 after))) (sym opens)

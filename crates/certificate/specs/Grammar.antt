@@ -74,37 +74,37 @@ kind_of (Pass k) = kinds.Pass k
 kind_of (Fall f) = kinds.Fall
 kind_of End = kinds.End
 
--- why a line may not stand after day lines up to this number and pass lines of the last day up to
--- that; 0 is none yet
+-- why a line may not stand after so many day lines, and so many pass lines of the last day
 abbrev pub misplaced_at : ℕ → ℕ → Kind → Option ChainReason
-misplaced_at day pass (kinds.Day n) =
-    if nat_eq n (day + 1) && nat_le n 366 then None else Some WrongNumber
-misplaced_at day pass (kinds.Pass k) = if nat_eq day 0 then Some NotLine
-    else if nat_eq k (pass + 1) then None else Some WrongNumber
-misplaced_at day pass kinds.Fall = if nat_eq pass 0 then Some NotLine else None
-misplaced_at day pass kinds.End = None
+misplaced_at days passes (kinds.Day n) =
+    if nat_eq n (days + 1) && nat_le n 366 then None else Some WrongNumber
+misplaced_at days passes (kinds.Pass k) = if nat_eq days 0 then Some NotLine
+    else if nat_eq k (passes + 1) then None else Some WrongNumber
+misplaced_at days passes kinds.Fall = if nat_eq passes 0 then Some NotLine else None
+misplaced_at days passes kinds.End = None
 
 abbrev pub misplaced : ℕ → ℕ → Option Line → Option ChainReason
-misplaced day pass None = Some NotLine
-misplaced day pass (Some line) = misplaced_at day pass (kind_of line)
+misplaced days passes None = Some NotLine
+misplaced days passes (Some line) = misplaced_at days passes (kind_of line)
 
--- the numbers of the last day and pass lines after a line
-abbrev pub day_by : ℕ → Kind → ℕ
-day_by day (kinds.Day n) = n
-day_by day _ = day
+-- how many day lines there are with a line, and how many pass lines of the last day: each that may
+-- stand tells its own number
+abbrev pub days_by : ℕ → Kind → ℕ
+days_by days (kinds.Day n) = n
+days_by days _ = days
 
-abbrev pub pass_by : ℕ → Kind → ℕ
-pass_by pass (kinds.Day n) = 0
-pass_by pass (kinds.Pass k) = k
-pass_by pass _ = pass
+abbrev pub passes_by : ℕ → Kind → ℕ
+passes_by passes (kinds.Day n) = 0
+passes_by passes (kinds.Pass k) = k
+passes_by passes _ = passes
 
-abbrev pub day_after : ℕ → Option Line → ℕ
-day_after day None = day
-day_after day (Some line) = day_by day (kind_of line)
+abbrev pub days_after : ℕ → Option Line → ℕ
+days_after days None = days
+days_after days (Some line) = days_by days (kind_of line)
 
-abbrev pub pass_after : ℕ → Option Line → ℕ
-pass_after pass None = pass
-pass_after pass (Some line) = pass_by pass (kind_of line)
+abbrev pub passes_after : ℕ → Option Line → ℕ
+passes_after passes None = passes
+passes_after passes (Some line) = passes_by passes (kind_of line)
 
 -- what lines say: further falls of the pass that is open before them, with the row that ends it;
 -- further passes of the day that is open, with the row that ends it; and further days
@@ -163,16 +163,16 @@ abbrev pub is_end : Option Line → Bool
 is_end None = false
 is_end (Some line) = is_end_kind (kind_of line)
 
--- what the lines from a row on say, each ended by a line feed, after day and pass lines of these
--- numbers; or the first fault
+-- what the lines from a row on say, each ended by a line feed, after so many day lines and so many
+-- pass lines of the last day; or the first fault
 unfoldable pub said_from : ℕ → ℕ → ℕ → List (List ℕ) → Result Said ChainFault
-said_from day pass row [] = Err (fault_at row NoEnd)
-said_from day pass row (last ∷ []) = Err (fault_at row (unended_at last))
-said_from day pass row (text ∷ next ∷ others) =
+said_from days passes row [] = Err (fault_at row NoEnd)
+said_from days passes row (last ∷ []) = Err (fault_at row (unended_at last))
+said_from days passes row (text ∷ next ∷ others) =
     let line = line_of row (parts 32 text) in
     if is_end line then end_at row (next ∷ others)
-    else said_with row line (misplaced day pass line)
-    (said_from (day_after day line) (pass_after pass line) (row + 1) (next ∷ others))
+    else said_with row line (misplaced days passes line)
+    (said_from (days_after days line) (passes_after passes line) (row + 1) (next ∷ others))
 
 -- the chain that a text writes, or its first fault
 abbrev pub chain_of : Result Said ChainFault → Result Chain ChainFault

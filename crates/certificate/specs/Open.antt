@@ -11,7 +11,8 @@ use Rattle.certificate.specs.declared.line.Line.TheVariants.{Day, Pass, Fall, En
 use Rattle.certificate.specs.declared.refusal.ChainRefusal.{ChainRefusal}
 use Rattle.certificate.specs.declared.refusal.ChainRefusal.TheVariants as refused
 
--- the days and passes that have ended, and the numbers of those that are open; 0 where none is
+-- the days and the passes of the last one that have ended, and how many of each have begun; the row
+-- and the falls of the pass that is open
 pub record Open : Type 0 where
   pub days : List DayChain
   pub day : ℕ

@@ -1,44 +1,32 @@
 //! The first fault of a text that is no chain. It is found without memory.
-ghost use Rattle.std.specs.Prelude.{◌≡◌, ℕ, ◌+◌, ◌<◌, ◌^◌, length, option_and_then, option_map};
+ghost use Rattle.std.specs.Prelude.{◌≡◌, ℕ, ◌+◌, ◌<◌, ◌^◌, length, nat_eq, option_and_then, option_map};
 ghost use Rattle.certificate.specs.Faults.{fault_in};
-ghost use Rattle.certificate.specs.Grammar.{day_by, end_at, fault_at, kind_of, line_of, misplaced_at, numbers, only, parts, pass_by, read, unended_at};
+ghost use Rattle.certificate.specs.Grammar.{days_by, end_at, fault_at, kind_of, line_of, misplaced_at, numbers, only, parts, passes_by, read, unended_at};
 ghost use Rattle.certificate.specs.Kinds.{fall_kind, kind_with};
 
 use crate::cut::cut;
 use crate::line::{Kind, is_word, number_of};
 use admit_core::{ChainFault, ChainReason, MAX_DAY};
 
-/// Why a line may not come after day lines up to a number and pass lines of the last day up to
-/// another; 0 is none yet.
-pub(crate) fn misplaced(kind: Kind, day: u32, pass: u32) -> Option<ChainReason>
-    ensures { result ≡ misplaced_at day pass kind }
+/// Whether a number is the next one after so many.
+fn is_next(number: u32, count: u32) -> bool
+    ensures { result ≡ nat_eq number (count + 1) }
+{
+    u64::from(number) == u64::from(count) + 1
+}
+
+/// Why a line may not come after so many day lines, and so many pass lines of the last day.
+pub(crate) fn misplaced(kind: Kind, days: u32, passes: u32) -> Option<ChainReason>
+    ensures { result ≡ misplaced_at days passes kind }
 {
     match kind {
-        Kind::Day(number) => {
-            let follows = day < MAX_DAY && number == day + 1;
-            if follows {
-                None
-            } else {
-                Some(ChainReason::WrongNumber)
-            }
+        Kind::Pass(_) if days == 0 => Some(ChainReason::NotLine),
+        Kind::Fall if passes == 0 => Some(ChainReason::NotLine),
+        Kind::Day(number) if number > MAX_DAY || !is_next(number, days) => {
+            Some(ChainReason::WrongNumber)
         }
-        Kind::Pass(number) => {
-            if day == 0 {
-                Some(ChainReason::NotLine)
-            } else if u64::from(number) == u64::from(pass) + 1 {
-                None
-            } else {
-                Some(ChainReason::WrongNumber)
-            }
-        }
-        Kind::Fall => {
-            if pass == 0 {
-                Some(ChainReason::NotLine)
-            } else {
-                None
-            }
-        }
-        Kind::End => None,
+        Kind::Pass(number) if !is_next(number, passes) => Some(ChainReason::WrongNumber),
+        _ => None,
     }
 }
 
@@ -116,24 +104,24 @@ fn kind_at(text: &[u8]) -> Option<Kind>
     }
 }
 
-/// The number of the last day line after a line.
-fn day_by(day: u32, kind: Kind) -> u32
-    ensures { result ≡ day_by day kind }
+/// How many day lines there are with a line, which tells its number.
+fn days_by(days: u32, kind: Kind) -> u32
+    ensures { result ≡ days_by days kind }
 {
     match kind {
         Kind::Day(number) => number,
-        _ => day,
+        _ => days,
     }
 }
 
-/// The number of the last pass line of that day after a line.
-fn pass_by(pass: u32, kind: Kind) -> u32
-    ensures { result ≡ pass_by pass kind }
+/// How many pass lines of the last day there are with a line, which tells its number.
+fn passes_by(passes: u32, kind: Kind) -> u32
+    ensures { result ≡ passes_by passes kind }
 {
     match kind {
         Kind::Day(_) => 0,
         Kind::Pass(number) => number,
-        _ => pass,
+        _ => passes,
     }
 }
 
@@ -155,7 +143,7 @@ fn end_fault(row: u64, after: &[u8]) -> Option<ChainFault>
 pub(crate) fn first_fault(bytes: &[u8]) -> Option<ChainFault>
     ensures { result ≡ fault_in (read bytes.now) }
 {
-    let (mut day, mut pass, mut row) = (0, 0, 1);
+    let (mut days, mut passes, mut row) = (0, 0, 1);
     let mut rest = bytes;
     'lines: while let Some((text, after)) = cut(rest, b'\n') {
         let Some(kind) = kind_at(text) else {
@@ -165,11 +153,11 @@ pub(crate) fn first_fault(bytes: &[u8]) -> Option<ChainFault>
         if kind.is_end() {
             return end_fault(row, after);
         }
-        if let Some(reason) = misplaced(kind, day, pass) {
+        if let Some(reason) = misplaced(kind, days, passes) {
             return Some(ChainFault { row, reason });
         }
-        day = day_by(day, kind);
-        pass = pass_by(pass, kind);
+        days = days_by(days, kind);
+        passes = passes_by(passes, kind);
         rest = after;
         row += 1;
     }

@@ -10,8 +10,9 @@ use std::alloc::Global;
 use std::marker::Model;
 use std::mem;
 
-/// The days that have been read, of which the last may go on: the numbers of the last day line and
-/// of the last pass line in it, each 0 where there is none, and the falls of that pass.
+/// The days that have ended, and the passes of the last day that have: `day` is how many days have
+/// begun, and `pass` how many passes of the last one. With these are the row and the falls of the
+/// pass that is open.
 pub(crate) struct Reading {
     days: Vec<DayChain>,
     day: u32,

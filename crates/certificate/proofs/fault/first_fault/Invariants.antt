@@ -5,7 +5,7 @@ use Rattle.certificate.proofs.fault.first_fault.Given as goal
 
 abbrev pub invariant-lines : goal.invariant-lines
 invariant-lines l = record {
-  whole : fault_in (read l.fn.bytes) ≡ fault_in (said_from l.day l.pass l.row (parts 10 l.rest));
+  whole : fault_in (read l.fn.bytes) ≡ fault_in (said_from l.days l.passes l.row (parts 10 l.rest));
   rows : l.row + length l.rest ≤ length l.fn.bytes + 1;
 }
 
