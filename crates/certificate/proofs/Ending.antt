@@ -1,12 +1,15 @@
 -- The evening of a valid day.
-use Rattle.std.proofs.Common.{◌≡◌, ℕ, ◌+◌, List, [], ◌∷◌, None, sym, subst, ◌∙◌}
+use Rattle.std.proofs.Common.{◌≡◌, ℕ, ◌+◌, List, [], ◌∷◌, None, Option, Result, Ok, Err, sym, subst, ◌∙◌}
+use Rattle.std.specs.Prelude.{OnOk}
+use Rattle.admit_core.specs.declared.chain.CheckReason.{CheckReason}
 use Rattle.admit_core.specs.declared.chain.DayChain.{DayChain}
 use Rattle.admit_core.specs.declared.chain.PassChain.{PassChain}
 use Rattle.admit_core.specs.declared.ranking.CallOrder.{CallOrder}
 use Rattle.admit_core.specs.State.{State}
 use Rattle.admit_core.specs.Chains.{ArePassChains, IsDayChain, closing_by, day_fault}
 use Rattle.admit_core.specs.ChainLaws.{ChainsTellTheDay, NoFaultWhereValid}
-use Rattle.certificate.specs.Checked.{state_after}
+use Rattle.certificate.specs.declared.stop.CheckStop.{CheckStop}
+use Rattle.certificate.specs.Checked.{Finds, state_after}
 use Rattle.certificate.specs.ProvedDays.{IsProvedDay}
 
 pub evening_is : (orders : List CallOrder) (ceilings : List ℕ) (day k : ℕ) (s : State)
@@ -39,3 +42,9 @@ pub is_proved : NoFaultWhereValid → ChainsTellTheDay
 is_proved law tells orders ceilings day morning chain evening none is =
     let valid = is_valid law orders ceilings day morning chain evening none is in
     record { valid = valid; greatest = tells orders ceilings day morning chain evening valid }
+
+-- a check that goes through found no fault
+pub where_it_goes_through : {X P Q : Type 0} (result : Result X CheckStop) (fault : Option (ℕ × CheckReason))
+    → OnOk result P → Finds result fault → (fault ≡ None → P → Q) → OnOk result Q
+where_it_goes_through (Ok x) fault is none gives = gives none is
+where_it_goes_through (Err e) fault is none gives = tt

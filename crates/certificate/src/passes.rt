@@ -1,6 +1,5 @@
 //! The passes of a day, tested one after another.
-ghost use Rattle.std.specs.Prelude.{◌≡◌, ◌≢◌, ◌≤◌, ◌<◌, ◌^◌, [], Err, IfErr, IfNone, IfOk, OnOk, drop, length, option_map};
-ghost use Rattle.admit_core.specs.declared.chain.CheckReason.TheVariants.{PassExtra};
+ghost use Rattle.std.specs.Prelude.{◌≡◌, ◌≢◌, ◌≤◌, ◌<◌, ◌^◌, [], Err, IfErr, IfOk, OnOk, drop, length};
 ghost use Rattle.admit_core.specs.Chains.{bars_by, closing_by, day_fault, extra_pass, pass_fault};
 ghost use Rattle.admit_core.specs.Days.{freed_after, frees_nothing};
 ghost use Rattle.certificate.specs.Checked.{Finds};
@@ -46,10 +45,7 @@ pub fn check_day_on(
         let stamp = Stamp { day, pass: number };
         let freed = check_pass(alloc, grounds, present, ceilings, stamp, pass)?;
         if frees_nothing(freed) {
-            return match extra_row(passes, place + 1) {
-                None => Ok(()),
-                Some(row) => Err(rejected_at(row, CheckReason::PassExtra)),
-            };
+            return no_pass_from(passes, place + 1);
         }
     }
     Err(rejected_at(chain.next_row, CheckReason::PassMissing))
@@ -80,15 +76,15 @@ fn check_pass(
     Ok(present.offer(alloc, offers.as_slice(), stamp)?)
 }
 
-/// The row of the pass at a place, where there is one: none may follow a pass that frees nothing.
-fn extra_row(passes: &[PassChain], from: usize) -> Option<u64>
+/// Tests that no pass stands at a place or behind it: none may follow one that frees nothing.
+fn no_pass_from(passes: &[PassChain], from: usize) -> Result<(), CheckStop>
     requires { from ≤ length passes.now }
-    ensures extra { extra_pass (drop from passes.now)
-        ≡ option_map (λ row. (row, PassExtra)) result }
-    ensures last { IfNone result (drop from passes.now ≡ []) }
+    ensures extra { Finds result (extra_pass (drop from passes.now)) }
+    ensures last { OnOk result (drop from passes.now ≡ []) }
+    ensures memory { result ≢ Err stops.OutOfMemory }
 {
     if from == passes.len() {
-        return None;
+        return Ok(());
     }
-    Some(passes[from].row)
+    Err(rejected_at(passes[from].row, CheckReason::PassExtra))
 }
