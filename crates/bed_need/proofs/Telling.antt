@@ -1,10 +1,14 @@
 -- What a picker told.
-use Rattle.std.proofs.Common.{◌≡◌, ◌∙◌, ℕ, List, Result, Ok, Err, inl, inr, refl, subst}
+use Rattle.std.proofs.Common.{◌≡◌, ◌∙◌, ℕ, List, Result, Ok, Err, ap, inl, inr, refl, subst}
 use Rattle.std.specs.Result.{IsErrAnd}
+use Rattle.admit_core.specs.declared.ranking.CallOrder.{CallOrder}
 use Rattle.admit_core.specs.Falls.{FallingSystem}
+use Rattle.admit_core.specs.State.{State}
 use Rattle.bar_fixpoint.proofs.RunLaws.{none_told}
 use Rattle.bar_fixpoint.specs.Chosen.{IsRunBy, TellsOfFalls}
+use Rattle.linked_demand.specs.Rosters.{Setting}
 use Rattle.round.proofs.EarlyEnds.{told_of_all}
+use Rattle.bed_need.specs.Questions.{Questions}
 use Rattle.bed_need.specs.Telling.{IsAsked, IsAskedTwice, TellsOfRun}
 
 -- of falls that nobody keeps, of a system that has another name
@@ -111,3 +115,10 @@ pub twice_named : {T E : Type 0} (one other then next : FallingSystem) (result :
 twice_named one other then next result chooses chooses_now before now first second is =
     subst (λ (sys : FallingSystem). IsAskedTwice sys next result chooses chooses_now before now) first
     (subst (λ (sys : FallingSystem). IsAskedTwice one sys result chooses chooses_now before now) second is)
+
+-- questions along a roster that is made for them are of the same state and call orders
+pub asked_along : (s : State) (orders : List CallOrder) (q : Questions) (roster : Setting)
+    → q ≡ record { state = s; orders = roster.orders }
+    → roster ≡ record { dossier = s.dossier; orders = orders } → q ≡ record { state = s; orders = orders }
+asked_along s orders q roster is same =
+    is ∙ ap (λ (r : Setting). let p : Questions = record { state = s; orders = r.orders } in p) same

@@ -16,10 +16,8 @@ abbrev pub with_more_beds : State → List CallOrder → List ℕ → ℕ → �
 with_more_beds s orders ceilings school more =
     with_n_beds s orders ceilings school (beds_of s.dossier school + more)
 
--- the greatest bars under the low ceilings, and those with more beds in a school under the high
--- ones
-pub record IsGrowth (s : State) (orders : List CallOrder) (low high : List ℕ) (school more : ℕ)
-    (bars grown : List ℕ) : Type 0 where
-  pub before : IsGreatest (boarding s orders low) bars
-  pub after : IsGreatest (with_more_beds s orders high school more) grown
-  pub rises : IsAtMost bars grown
+-- the greatest bars of the schools as they are, and as they are to be: no bar falls
+pub record IsGrowth (present grown : FallingSystem) (bars more_bars : List ℕ) : Type 0 where
+  pub before : IsGreatest present bars
+  pub after : IsGreatest grown more_bars
+  pub rises : IsAtMost bars more_bars

@@ -47,8 +47,10 @@ impl BedQuestions<'_, '_> {
         requires school { given.school < length self.now.state.dossier.schools }
         requires beds { beds_of self.now.state.dossier given.school + given.beds ≤ 2000000000 }
 
-        ensures growth { IfOk result (λ growth. IsGrowth self.now.state self.now.orders low.now
-            high.now given.school given.beds growth.before.items growth.after.items) }
+        ensures growth { IfOk result (λ growth.
+            IsGrowth (boarding self.now.state self.now.orders low.now)
+            (with_more_beds self.now.state self.now.orders high.now given.school given.beds)
+            growth.before.items growth.after.items) }
         ensures asked { IsAskedTwice (boarding self.now.state self.now.orders low.now)
             (with_more_beds self.now.state self.now.orders high.now given.school given.beds)
             result (choice picker.old) (choice picker.new) (told picker.old) (told picker.new) }
@@ -78,8 +80,8 @@ pub fn grown_bars(
     requires school { given.school < length state.now.dossier.schools }
     requires beds { beds_of state.now.dossier given.school + given.beds ≤ 2000000000 }
 
-    ensures growth { IfOk result (λ growth.
-        IsGrowth state.now orders.now.orders low.now high.now given.school given.beds
+    ensures growth { IfOk result (λ growth. IsGrowth (boarding state.now orders.now.orders low.now)
+        (with_more_beds state.now orders.now.orders high.now given.school given.beds)
         growth.before.items growth.after.items) }
     ensures asked { IsAskedTwice (boarding state.now orders.now.orders low.now)
         (with_more_beds state.now orders.now.orders high.now given.school given.beds)

@@ -10,7 +10,7 @@ use Rattle.admit_core.specs.LeastBeds.{IsLeastBeds}
 use Rattle.admit_core.specs.State.{State}
 use Rattle.admit_core.specs.declared.ranking.CallOrder.{CallOrder}
 use Rattle.admit_core.specs.declared.records.DayRecord.{DayRecord}
-use Rattle.bed_need.specs.Figures.{AreFigures, Figures, TellsOfFigures, lacks}
+use Rattle.bed_need.specs.Figures.{AreFigures, Figures, TellsOfFigures, lacks, question}
 use Rattle.bed_need.specs.Growing.{IsGrowth, with_more_beds, with_n_beds}
 use Rattle.bed_need.specs.Questions.{Questions}
 use Rattle.bed_need.specs.Telling.{TellsOfBoth, TellsOfFallsOfBoth, TellsOfRun}
@@ -30,7 +30,7 @@ use Rattle.modes.specs.Beds.{TellsFigures}
 module _ (s : State) (d : DossierRows) (orders : List CallOrder) (ceilings : List ℕ) (place need more : ℕ)
     (before after : List ℕ) (choice choice' : List ℕ → List ℕ → ℕ) (told between told' : List ℕ)
     (same : s.dossier ≡ d) (lack : more ≡ need - beds_of d place) (least : IsLeastBeds s orders ceilings place need)
-    (growth : IsGrowth s orders ceilings ceilings place more before after)
+    (growth : IsGrowth (boarding s orders ceilings) (with_more_beds s orders ceilings place more) before after)
     (told_least : TellsOfRun (with_n_beds s orders ceilings place 2000000000) choice told between)
     (chooses : choice' ≡ choice)
     (told_growth : TellsOfBoth (boarding s orders ceilings)
@@ -43,15 +43,15 @@ module _ (s : State) (d : DossierRows) (orders : List CallOrder) (ceilings : Lis
 
   figured : (text : List ℕ) → text ≡ beds_text d place need before after
       → (figures : Figures) × IsTextOf d s orders ceilings place figures text
-      × TellsOfFigures s orders ceilings place figures.need choice told told'
+      × TellsOfFigures (question s orders ceilings place) figures.need choice told told'
   unfolding found
   figured text is = (
     found,
     record {
       are_figures = record {
         need = least;
-        growth = subst (λ (n : ℕ). IsGrowth s orders ceilings ceilings place n before
-            after) lacks_so growth;
+        growth = subst (λ (n : ℕ). IsGrowth (boarding s orders ceilings) (with_more_beds s orders ceilings place n)
+            before after) lacks_so growth;
       };
       is_text = is;
     },
@@ -68,7 +68,7 @@ module _ (s : State) (d : DossierRows) (orders : List CallOrder) (ceilings : Lis
   pub all_figured : {T E : Type 0} (bytes : T → List ℕ) (r : Result T E)
       → IfOk r (λ text. bytes text ≡ beds_text d place need before after)
       → IfOk r (λ text. (figures : Figures) × IsTextOf d s orders ceilings place figures (bytes text)
-      × TellsOfFigures s orders ceilings place figures.need choice told told')
+      × TellsOfFigures (question s orders ceilings place) figures.need choice told told')
   all_figured bytes (Ok text) is = figured (bytes text) is
   all_figured bytes (Err e) is = tt
 
@@ -76,13 +76,13 @@ module _ (s : State) (d : DossierRows) (orders : List CallOrder) (ceilings : Lis
 pub figured_there : {T E : Type 0} (d : DossierRows) (ceilings : List ℕ) (place : ℕ) (choice : List ℕ → List ℕ → ℕ)
     (told after : List ℕ) (bytes : T → List ℕ) (r : Result T E) (one other : Questions) → one ≡ other
     → IfOk r (λ text. (figures : Figures) × IsTextOf d one.state one.orders ceilings place figures (bytes text)
-    × TellsOfFigures one.state one.orders ceilings place figures.need choice told after)
+    × TellsOfFigures (question one.state one.orders ceilings place) figures.need choice told after)
     → IfOk r (λ text. (figures : Figures) × IsTextOf d other.state other.orders ceilings place figures (bytes text)
-    × TellsOfFigures other.state other.orders ceilings place figures.need choice told after)
+    × TellsOfFigures (question other.state other.orders ceilings place) figures.need choice told after)
 figured_there d ceilings place choice told after bytes r one other same =
     subst (λ (q : Questions). IfOk r (λ text. (figures : Figures)
     × IsTextOf d q.state q.orders ceilings place figures (bytes text)
-    × TellsOfFigures q.state q.orders ceilings place figures.need choice told after)) same
+    × TellsOfFigures (question q.state q.orders ceilings place) figures.need choice told after)) same
 
 -- what the picker told where memory ran out
 module _ (s : State) (orders : List CallOrder) (ceilings : List ℕ) (place need more : ℕ)
@@ -125,7 +125,8 @@ breaks_there ceilings place choice told after r one other same =
 
 -- what a picker had told is a prefix of what it tells as figures are found
 figures_more : (s : State) (orders : List CallOrder) (ceilings : List ℕ) (place need : ℕ)
-    (choice : List ℕ → List ℕ → ℕ) (told after : List ℕ) → TellsOfFigures s orders ceilings place need choice told after
+    (choice : List ℕ → List ℕ → ℕ) (told after : List ℕ)
+    → TellsOfFigures (question s orders ceilings place) need choice told after
     → TellsMore told after
 figures_more s orders ceilings place need choice told after tells =
     let grown = tells.grown in
@@ -212,15 +213,15 @@ module _ (left : AfterDays) (school place : ℕ) (day : DayRecord)
       (ceil : ceilings ≡ last.ceilings) where
     abbrev Figured : List ℕ → Type 0
     Figured text = (figures : Figures) × IsTextOf left.dossier opening called ceilings place figures text
-        × TellsOfFigures opening called ceilings place figures.need choice told told'
+        × TellsOfFigures (question opening called ceilings place) figures.need choice told told'
 
     in_last : (text : List ℕ) → Figured text
         → (figures : Figures) × IsTextOf left.dossier last.opening left.orders last.ceilings place figures text
-        × TellsOfFigures last.opening left.orders last.ceilings place figures.need choice told told'
+        × TellsOfFigures (question last.opening left.orders last.ceilings place) figures.need choice told told'
     in_last text figured =
         let P : State → List CallOrder → List ℕ → Type 0 =
         λ o os cs. (figures : Figures) × IsTextOf left.dossier o os cs place figures text
-        × TellsOfFigures o os cs place figures.need choice told told' in
+        × TellsOfFigures (question o os cs place) figures.need choice told told' in
         subst (λ (o : State). P o left.orders last.ceilings) opens
         (subst (λ (os : List CallOrder). P opening os last.ceilings) calls
         (subst (λ (cs : List ℕ). P opening called cs) ceil figured))
@@ -246,7 +247,7 @@ module _ (left : AfterDays) (school place : ℕ) (day : DayRecord)
             figures = found.0;
             is_asked = asked_so;
             are_figures = found.1.are_figures;
-            tells = subst (λ (l : List ℕ). TellsOfFigures last.opening left.orders last.ceilings place
+            tells = subst (λ (l : List ℕ). TellsOfFigures (question last.opening left.orders last.ceilings place)
                 found.0.need choice told l) more.1 found.2;
           },
           more.1,

@@ -8,7 +8,7 @@ use Rattle.admit_core.specs.State.{State}
 use Rattle.admit_core.specs.declared.ranking.CallOrder.{CallOrder}
 use Rattle.admit_core.specs.declared.records.DayRecord.{DayRecord}
 use Rattle.bar_fixpoint.specs.Chosen.{TellsOfFalls}
-use Rattle.bed_need.specs.Figures.{AreFigures, Figures, TellsOfFigures, lacks}
+use Rattle.bed_need.specs.Figures.{AreFigures, Figures, TellsOfFigures, lacks, question}
 use Rattle.bed_need.specs.Growing.{with_more_beds, with_n_beds}
 use Rattle.bed_need.specs.Telling.{TellsOfFallsOfBoth, TellsOfRun}
 use Rattle.bed_need.specs.Text.{beds_text}
@@ -76,8 +76,8 @@ pub record PicksForFigures (left : AfterDays) (school : ℕ) (choice : List ℕ 
   pub figures : Figures
   pub is_asked : IsAsked left school place pass
   pub are_figures : AreFigures pass.opening pass.orders pass.ceilings place figures
-  pub tells : TellsOfFigures pass.opening pass.orders pass.ceilings place figures.need choice
-      told (told ++ picks)
+  pub tells : TellsOfFigures (question pass.opening pass.orders pass.ceilings place) figures.need
+      choice told (told ++ picks)
 
 -- a picker told of the run by which the need of the school at a place is found, and then of falls
 -- of the two runs by which the bars are

@@ -2,7 +2,7 @@
 ghost use Rattle.std.specs.Prelude.{◌≡◌, ◌<◌, ◌≤◌, ◌+◌, ◌-◌, IfOk, IsTrue, OnErr, length};
 ghost use Rattle.admit_core.specs.DossierRows.{beds_of};
 ghost use Rattle.admit_core.specs.Lists.{is_among};
-ghost use Rattle.bed_need.specs.Figures.{Figures, TellsOfFigures};
+ghost use Rattle.bed_need.specs.Figures.{Figures, TellsOfFigures, question};
 ghost use Rattle.modes.specs.LentPicker.{TellsPicks};
 ghost use Rattle.modes.specs.Beds.{BreaksFigures, BreaksFiguring, IsOnlyText, IsTextOf, PicksForFigures, TellsFigures, after_days};
 ghost use Rattle.modes.specs.Endings.{IsDoneSaying};
@@ -47,8 +47,8 @@ fn figures_of(
     ensures text { IfOk result (λ text. (figures : Figures)
         × IsTextOf dossier.now questions.now.state questions.now.orders ceilings.now place figures
         text.items
-        × TellsOfFigures questions.now.state questions.now.orders ceilings.now place figures.need
-        (choice picker.old) (told picker.old) (told picker.new)) }
+        × TellsOfFigures (question questions.now.state questions.now.orders ceilings.now place)
+        figures.need (choice picker.old) (told picker.old) (told picker.new)) }
     ensures breaks { OnErr result (BreaksFiguring questions.now.state questions.now.orders
         ceilings.now place (choice picker.old) (told picker.old) (told picker.new)) }
     ensures choice { choice picker.new ≡ choice picker.old }
@@ -80,8 +80,8 @@ fn figures_text<'a, 'd>(
 
     ensures text { IfOk result (λ text. (figures : Figures)
         × IsTextOf dossier.now opening.now roster.now.orders ceilings.now place figures text.items
-        × TellsOfFigures opening.now roster.now.orders ceilings.now place figures.need
-        (choice picker.old) (told picker.old) (told picker.new)) }
+        × TellsOfFigures (question opening.now roster.now.orders ceilings.now place)
+        figures.need (choice picker.old) (told picker.old) (told picker.new)) }
     ensures breaks { OnErr result (BreaksFiguring opening.now roster.now.orders ceilings.now place
         (choice picker.old) (told picker.old) (told picker.new)) }
     ensures choice { choice picker.new ≡ choice picker.old }
