@@ -7,8 +7,8 @@ use crate::campaigns::{campaign_of, grown_bars_of, least_beds_of, with_beds_of};
 use crate::tables::{call_orders_of, dossier_of};
 use crate::views::{push_wishes, school_id};
 use admit_core::{
-    CallOrders, DayRecord, Dossier, InFault, OutOfMemory, PassEnd, PassRecord, Refusal, Sequence,
-    Stamp, Terms,
+    CallOrders, DayRecord, Dossier, InFault, Lapse, OutOfMemory, PassEnd, PassRecord, Refusal,
+    Sequence, Stamp, Terms,
 };
 use auto_answer::auto_one;
 use bar_fixpoint::FirstPicker;
@@ -57,13 +57,19 @@ fn push_end(text: &mut String, dossier: &Dossier, end: &PassEnd) -> Result<(), O
     Ok(())
 }
 
+/// Adds a line for each offer that lapses.
+fn push_lapses(text: &mut String, dossier: &Dossier, lapses: &[Lapse]) -> Result<(), OutOfMemory> {
+    for lapse in lapses {
+        write!(text, "lapse of day {}", lapse.offered)?;
+        push_wishes(text, dossier, &[lapse.wish])?;
+    }
+    Ok(())
+}
+
 /// The lines of a day.
 fn day_text(alloc: Global, dossier: &Dossier, day: &DayRecord) -> Result<String, OutOfMemory> {
     let mut text = String::new(alloc);
-    for lapse in day.lapsed.as_slice() {
-        write!(text, "lapse of day {}", lapse.offered)?;
-        push_wishes(&mut text, dossier, &[lapse.wish])?;
-    }
+    push_lapses(&mut text, dossier, day.lapsed.as_slice())?;
     for end in day.passes.as_slice() {
         push_end(&mut text, dossier, end)?;
     }
