@@ -4,6 +4,7 @@
 use crate::expected::Expected;
 use crate::outside::{CALM, Outside, Ran, play_anew};
 use crate::told::Told;
+use admit_core::Slot;
 use case_file::{Slots, slot_named};
 use replay_cli::Exit;
 use std::alloc::{AllocError, Global};
@@ -84,6 +85,22 @@ fn is_unread(
     )
 }
 
+/// Whether each read of a slot ends the run where it fails, after so many reads of slots before it.
+fn each_read_of_slot_fails(
+    alloc: Global,
+    words: &str,
+    slots: &Slots,
+    before: u64,
+    name: &str,
+) -> Result<bool, AllocError> {
+    for number in 1..READS_OF_A_SLOT + 1 {
+        if !is_unread(alloc, words, slots, before.saturating_add(number), name)? {
+            return Ok(false);
+        }
+    }
+    Ok(true)
+}
+
 /// Whether each read of these slots, which the run reads in this order, ends the run where it
 /// fails, and no read comes after them.
 pub(crate) fn each_read_fails(
@@ -95,12 +112,10 @@ pub(crate) fn each_read_fails(
 ) -> Result<bool, AllocError> {
     let mut read: u64 = 0;
     for name in names.split_whitespace() {
-        for _ in 0..READS_OF_A_SLOT {
-            read = read.saturating_add(1);
-            if !is_unread(alloc, words, slots, read, name)? {
-                return Ok(false);
-            }
+        if !each_read_of_slot_fails(alloc, words, slots, read, name)? {
+            return Ok(false);
         }
+        read = read.saturating_add(READS_OF_A_SLOT);
     }
     let outside = Outside {
         failing_read: Some(read.saturating_add(1)),
@@ -129,6 +144,25 @@ fn is_answered(ran: &Ran) -> bool {
     }
 }
 
+/// Whether the run is answered so wherever a slot is cut off. If so, the slot is left whole.
+fn each_cut_of_slot_is_answered(
+    alloc: Global,
+    words: &str,
+    slots: &mut Slots,
+    slot: Slot,
+) -> Result<bool, AllocError> {
+    let whole = Vec::from_slice(alloc, slots.bytes(slot))?;
+    for end in 0..whole.len() {
+        slots.put(alloc, slot, &whole[..end])?;
+        let ran = play_anew(alloc, words, slots, CALM)?;
+        if !is_answered(&ran) {
+            return Ok(false);
+        }
+    }
+    slots.put(alloc, slot, &whole)?;
+    Ok(true)
+}
+
 /// Whether the run is answered so wherever one of these slots is cut off.
 pub(crate) fn each_cut_is_answered(
     alloc: Global,
@@ -140,15 +174,9 @@ pub(crate) fn each_cut_is_answered(
         let Some(slot) = slot_named(name) else {
             return Ok(false);
         };
-        let whole = Vec::from_slice(alloc, slots.bytes(slot))?;
-        for end in 0..whole.len() {
-            slots.put(alloc, slot, &whole[..end])?;
-            let ran = play_anew(alloc, words, slots, CALM)?;
-            if !is_answered(&ran) {
-                return Ok(false);
-            }
+        if !each_cut_of_slot_is_answered(alloc, words, slots, slot)? {
+            return Ok(false);
         }
-        slots.put(alloc, slot, &whole)?;
     }
     Ok(true)
 }
