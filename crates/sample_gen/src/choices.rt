@@ -5,6 +5,15 @@ ghost use Rattle.sample_gen.specs.Choices.{school_of, chosen, choice_at, own_cho
 use admit_core::OutOfMemory;
 use std::alloc::Global;
 
+/// The most programmes that a candidate chooses.
+pub(crate) const CHOICES: u32 = 3;
+
+/// There is one programme, and one more for each so many candidates.
+const CANDIDATES_A_PROGRAMME: u32 = 500;
+
+/// How many programmes share a boarding school.
+const PROGRAMMES_A_SCHOOL: u32 = 2;
+
 /// A programme that a candidate chooses, with its boarding school.
 #[derive(Clone, Copy)]
 pub(crate) struct Choice {
@@ -19,7 +28,7 @@ pub(crate) struct Choice {
 pub(crate) fn programmes_of(candidates: u32) -> u32
     ensures { result ≡ programmes_of candidates }
 {
-    1 + candidates / 500
+    1 + candidates / CANDIDATES_A_PROGRAMME
 }
 
 /// The boarding school of a programme; of the last programme, the number of schools.
@@ -27,7 +36,7 @@ pub(crate) fn school_of(programme: u32) -> u32
     requires { 1 ≤ programme }
     ensures { result ≡ school_of programme }
 {
-    1 + (programme - 1) / 2
+    1 + (programme - 1) / PROGRAMMES_A_SCHOOL
 }
 
 /// The programme that a candidate chooses.
@@ -67,7 +76,7 @@ fn add_choices(
     ensures { OnOk result (choices.new.items ≡ choices.old.items ++ own_choices
         programmes candidate) }
 {
-    for place in 0..programmes.min(3) {
+    for place in 0..programmes.min(CHOICES) {
         choices.push(choice_at(programmes, candidate, place))?;
     }
     Ok(())

@@ -3,12 +3,30 @@ ghost use Rattle.std.specs.Prelude.{◌≡◌};
 ghost use Rattle.sample_gen.specs.Choices.{IsSmall};
 ghost use Rattle.sample_gen.specs.Samples.{group_row, programme_row, school_row, rank_in, rank_row, board_row, preference_of, wish_row};
 
-use crate::choices::Choice;
+use crate::choices::{CHOICES, Choice};
 use admit_core::{BoardRow, GroupRow, ProgrammeRow, RankRow, SchoolRow, WishRow};
 
 /// The number of ranks that are given out: a power of two, so that an odd multiplier gives no rank
 /// to two candidates.
 const RANKS: u64 = 1 << 30;
+
+/// A group's multiplier of ranks is above this by an even number, and so odd.
+const GROUP_RANKS: u32 = 1_000_001;
+
+/// The same of a school's.
+const SCHOOL_RANKS: u32 = 2_000_001;
+
+/// The seats of each programme.
+const SEATS: u32 = 200;
+
+/// The beds of each school.
+const BEDS: u32 = 40;
+
+/// The ids that are kept for the wishes of a choice: without its school, and with it.
+const WISHES_A_CHOICE: u32 = 2;
+
+/// The ids that are kept for the wishes of a candidate.
+const WISHES_A_CANDIDATE: u32 = WISHES_A_CHOICE * CHOICES;
 
 pub(crate) fn group_row(id: u32) -> GroupRow
     ensures { result ≡ group_row id }
@@ -26,7 +44,7 @@ pub(crate) fn programme_row(id: u32) -> ProgrammeRow
     ProgrammeRow {
         id,
         group: id,
-        seats: 200,
+        seats: SEATS,
         limit: 0,
     }
 }
@@ -36,7 +54,7 @@ pub(crate) fn school_row(id: u32) -> SchoolRow
 {
     SchoolRow {
         id,
-        beds: 40,
+        beds: BEDS,
         ceiling: RANKS as u32,
     }
 }
@@ -55,7 +73,7 @@ pub(crate) fn rank_row(choice: Choice) -> RankRow
     RankRow {
         group: choice.programme,
         candidate: choice.candidate,
-        rank: rank_in(1_000_001 + 2 * choice.programme, choice.candidate),
+        rank: rank_in(GROUP_RANKS + 2 * choice.programme, choice.candidate),
         scholar: choice.candidate % 5 == 0,
         resident: (choice.candidate + choice.programme) % 3 == 0,
     }
@@ -68,7 +86,7 @@ pub(crate) fn board_row(choice: Choice) -> BoardRow
     BoardRow {
         school: choice.school,
         candidate: choice.candidate,
-        rank: rank_in(2_000_001 + 2 * choice.school, choice.candidate),
+        rank: rank_in(SCHOOL_RANKS + 2 * choice.school, choice.candidate),
     }
 }
 
@@ -91,7 +109,7 @@ pub(crate) fn wish_row(choice: Choice, school: Option<u32>) -> WishRow
 {
     let number = if school.is_some() { 2 } else { 1 };
     WishRow {
-        id: 6 * (choice.candidate - 1) + 2 * choice.place + number,
+        id: WISHES_A_CANDIDATE * (choice.candidate - 1) + WISHES_A_CHOICE * choice.place + number,
         candidate: choice.candidate,
         programme: choice.programme,
         school,
