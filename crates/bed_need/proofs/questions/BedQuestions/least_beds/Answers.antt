@@ -3,10 +3,10 @@ use Rattle.admit_core.specs.Boarding.{boarding}
 use Rattle.admit_core.specs.Falls.{FallingSystem, IsGreatest}
 use Rattle.admit_core.specs.Proposals.{demanded_ranks}
 use Rattle.admit_core.specs.State.{State, bed_holders}
-use Rattle.admit_core.specs.Validity.{IsValid}
 use Rattle.linked_demand.specs.Lent.{own_beds}
 use Rattle.linked_demand.specs.Rounds.{bar_each}
 use Rattle.bed_need.specs.Needing.{need_of}
+use Rattle.bed_need.proofs.Counted.{are_counted}
 use Rattle.bed_need.proofs.Least.{few, few_need, needs_least}
 use Rattle.bed_need.proofs.LentBeds.{put_lent}
 use Rattle.bed_need.proofs.Telling.{asked_found, asked_in_vain, asked_named, asked_nobody}
@@ -24,17 +24,12 @@ returns-clause-need g c =
     let h = c.args.school in
     let round = c.in_ok-round.round in
     let bars = bar_each round.ceilings round.bars in
-    let valid : IsValid s.dossier =
-    subst IsValid (c.dossier.view_is ∙ c.dossier-dossier.ensures ∙ ap (λ (t : State). t.dossier) c.state-state.ensures)
-    c.dossier.invariant in
-    let coming : c.in_ok-coming.coming ≡ length (demanded_ranks s orders bars h) =
-    c.in_ok-coming.ensures ∙ ap (λ (sys : FallingSystem). length (sys.ranks bars h)) c.in_ok-round.ensures.system in
-    let live : c.live_in_school.result ≡ length (bed_holders s h) =
-    c.live_in_school.ensures ∙ ap (λ (t : State). length (bed_holders t h)) c.state-state.ensures in
+    let counted = are_counted s _ _ _ _ bars h _ _ c.state-state.ensures (c.dossier.view_is ∙ c.dossier-dossier.ensures)
+    c.dossier.invariant c.in_ok-round.ensures.system c.in_ok-coming.ensures c.live_in_school.ensures in
     let is : c.need_of.result ≡ need_of (length (bed_holders s h))
     (length (bed_holders s h) + length (demanded_ranks s orders bars h)) =
-    c.need_of.ensures ∙ rw (live, coming) refl in
-    needs_least s orders c.args.ceilings.now h valid c.requires.school c.requires.ceilings bars
+    c.need_of.ensures ∙ rw (counted.live, counted.coming) refl in
+    needs_least s orders c.args.ceilings.now h counted.valid c.requires.school c.requires.ceilings bars
     (subst (λ (sys : FallingSystem). IsGreatest sys bars) same c.in_ok-round.ensures.bars) c.need_of.result is
 
 pub returns-clause-few : goal.returns-clause-few
@@ -44,17 +39,12 @@ returns-clause-few g c =
     let h = c.args.school in
     let round = c.in_ok-round.round in
     let bars = bar_each round.ceilings round.bars in
-    let valid : IsValid s.dossier =
-    subst IsValid (c.dossier.view_is ∙ c.dossier-dossier.ensures ∙ ap (λ (t : State). t.dossier) c.state-state.ensures)
-    c.dossier.invariant in
-    let coming : c.in_ok-coming.coming ≡ length (demanded_ranks s orders bars h) =
-    c.in_ok-coming.ensures ∙ ap (λ (sys : FallingSystem). length (sys.ranks bars h)) c.in_ok-round.ensures.system in
-    let live : c.live_in_school.result ≡ length (bed_holders s h) =
-    c.live_in_school.ensures ∙ ap (λ (t : State). length (bed_holders t h)) c.state-state.ensures in
+    let counted = are_counted s _ _ _ _ bars h _ _ c.state-state.ensures (c.dossier.view_is ∙ c.dossier-dossier.ensures)
+    c.dossier.invariant c.in_ok-round.ensures.system c.in_ok-coming.ensures c.live_in_school.ensures in
     let is : c.need_of.result ≡ need_of (length (bed_holders s h))
     (length (bed_holders s h) + length (demanded_ranks s orders bars h)) =
-    c.need_of.ensures ∙ rw (live, coming) refl in
-    few_need s orders c.args.ceilings.now h valid c.requires.school c.requires.ceilings bars c.need_of.result is
+    c.need_of.ensures ∙ rw (counted.live, counted.coming) refl in
+    few_need s orders c.args.ceilings.now h counted.valid c.requires.school c.requires.ceilings bars c.need_of.result is
 
 pub need_of-requires : goal.need_of-requires
 need_of-requires g c =
@@ -63,15 +53,10 @@ need_of-requires g c =
     let h = c.args.school in
     let round = c.in_ok-round.round in
     let bars = bar_each round.ceilings round.bars in
-    let valid : IsValid s.dossier =
-    subst IsValid (c.dossier.view_is ∙ c.dossier-dossier.ensures ∙ ap (λ (t : State). t.dossier) c.state-state.ensures)
-    c.dossier.invariant in
-    let coming : c.in_ok-coming.coming ≡ length (demanded_ranks s orders bars h) =
-    c.in_ok-coming.ensures ∙ ap (λ (sys : FallingSystem). length (sys.ranks bars h)) c.in_ok-round.ensures.system in
-    let live : c.live_in_school.result ≡ length (bed_holders s h) =
-    c.live_in_school.ensures ∙ ap (λ (t : State). length (bed_holders t h)) c.state-state.ensures in
-    let enough = few s orders c.args.ceilings.now h valid c.requires.school c.requires.ceilings bars in
-    omega (arith, live, coming, enough)
+    let counted = are_counted s _ _ _ _ bars h _ _ c.state-state.ensures (c.dossier.view_is ∙ c.dossier-dossier.ensures)
+    c.dossier.invariant c.in_ok-round.ensures.system c.in_ok-coming.ensures c.live_in_school.ensures in
+    let enough = few s orders c.args.ceilings.now h counted.valid c.requires.school c.requires.ceilings bars in
+    omega (arith, counted.live, counted.coming, enough)
 
 pub overflow_cast-coming : goal.overflow_cast-coming
 overflow_cast-coming g c =
@@ -80,13 +65,10 @@ overflow_cast-coming g c =
     let h = c.args.school in
     let round = c.in_ok-round.round in
     let bars = bar_each round.ceilings round.bars in
-    let valid : IsValid s.dossier =
-    subst IsValid (c.dossier.view_is ∙ c.dossier-dossier.ensures ∙ ap (λ (t : State). t.dossier) c.state-state.ensures)
-    c.dossier.invariant in
-    let coming : c.in_ok-coming.coming ≡ length (demanded_ranks s orders bars h) =
-    c.in_ok-coming.ensures ∙ ap (λ (sys : FallingSystem). length (sys.ranks bars h)) c.in_ok-round.ensures.system in
-    let enough = few s orders c.args.ceilings.now h valid c.requires.school c.requires.ceilings bars in
-    omega (arith, coming, enough)
+    let counted = are_counted s _ _ _ _ bars h _ _ c.state-state.ensures (c.dossier.view_is ∙ c.dossier-dossier.ensures)
+    c.dossier.invariant c.in_ok-round.ensures.system c.in_ok-coming.ensures c.live_in_school.ensures in
+    let enough = few s orders c.args.ceilings.now h counted.valid c.requires.school c.requires.ceilings bars in
+    omega (arith, counted.coming, enough)
 
 pub returns-clause-asked : goal.returns-clause-asked
 returns-clause-asked g c =
