@@ -66,12 +66,18 @@ fn drawn_seats(number: u64, programme: u64) -> u32 {
     SEATS.get(place).copied().unwrap_or(1)
 }
 
-/// The market of a number: four candidates, and three programmes of up to two seats.
-pub(crate) fn rows_of(alloc: Global, number: u64) -> Result<Rows, OutOfMemory> {
+/// The lists of a market's candidates.
+fn drawn_lists(alloc: Global, number: u64) -> Result<Vec<&'static [u32]>, OutOfMemory> {
     let mut lists = Vec::new(alloc);
     for candidate in 0..4 {
         lists.push(row(LISTS, drawn(number, candidate, 6 + candidate)))?;
     }
+    Ok(lists)
+}
+
+/// The market of a number: four candidates, and three programmes of up to two seats.
+pub(crate) fn rows_of(alloc: Global, number: u64) -> Result<Rows, OutOfMemory> {
+    let lists = drawn_lists(alloc, number)?;
     let mut orders = Vec::new(alloc);
     let mut seats = Vec::new(alloc);
     for programme in 0..3 {

@@ -106,6 +106,16 @@ pub(crate) fn places_of(
     Ok(places)
 }
 
+/// Whether two matchings fill each programme with as many.
+fn fills_alike(one: &[Option<u32>], other: &[Option<u32>]) -> bool {
+    for programme in 0..3 {
+        if held(one, programme) != held(other, programme) {
+            return false;
+        }
+    }
+    true
+}
+
 /// Whether a matching is as good for each candidate as another, and places the same.
 pub(crate) fn is_as_good(rows: &Rows, one: &[Option<u32>], other: &[Option<u32>]) -> bool {
     for (candidate, list) in rows.lists.iter().enumerate() {
@@ -115,10 +125,5 @@ pub(crate) fn is_as_good(rows: &Rows, one: &[Option<u32>], other: &[Option<u32>]
             return false;
         }
     }
-    for programme in 0..3 {
-        if held(one, programme) != held(other, programme) {
-            return false;
-        }
-    }
-    true
+    fills_alike(one, other)
 }
