@@ -9,8 +9,8 @@ use Rattle.admit_core.specs.declared.ranking.CallOrder.{CallOrder}
 use Rattle.admit_core.specs.declared.records.Terms.{Terms}
 use Rattle.certificate.specs.Checked.{state_after}
 
--- a day is proved: its chain is valid from this morning to this evening; and the passes that it tells
--- are those of the rules, so the last bars of each are the greatest
+-- a day is proved: its chain is valid from this morning to this evening; and the passes that it
+-- tells are those of the rules, so the last bars of each are the greatest
 pub record IsProvedDay (orders : List CallOrder) (ceilings : List ℕ) (day : ℕ) (chain : DayChain)
     (old evening : State) : Type 0 where
   pub valid : IsDayChain orders ceilings day old chain evening

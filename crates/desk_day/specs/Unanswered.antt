@@ -35,5 +35,6 @@ pub record AreProposed (s : State) (offers : List ℕ) : Type 0 where
 -- state that the offers lead to, and from the state before
 pub record AsksAfter (s : State) (offers : List ℕ) (stamp : Stamp) (asked : Who) : Type 0 where
   pub within : AreWishesOf s.dossier offers
-  pub answers : ChangesOnly asked (offered_along offers stamp s) (auto_all (offered_along offers stamp s) stamp)
+  pub answers : ChangesOnly asked (offered_along offers stamp s)
+      (auto_all (offered_along offers stamp s) stamp)
   pub changes : ChangesOnly asked s (auto_all (offered_along offers stamp s) stamp)

@@ -50,8 +50,8 @@ pub fn make_morning(
 }
 
 /// The same, with the offers that lapsed, and one wish of each whom the lapse and the answers may
-/// have changed: so whoever goes along them looks at each candidate once. Whether the answers fit is found without memory: one that does not is never told as
-/// want of it.
+/// have changed: so whoever goes along them looks at each candidate once. Whether the answers fit
+/// is found without memory: one that does not is never told as want of it.
 pub(crate) fn touch_morning(
     alloc: Global,
     state: &mut DayState<'_>,
