@@ -108,7 +108,8 @@ ends_led view played desk can same =
 
 -- and of call orders of another name
 pub ends_led_by : {view : JobView} {one other : List CallOrder} {days : List DayRecord}
-    {end : Result DeskStates Refusal} {desk : DeskStates} → CanEnd view (record { orders = other; days = days; end = end }) → end ≡ Ok desk → one ≡ other
+    {end : Result DeskStates Refusal} {desk : DeskStates}
+    → CanEnd view (record { orders = other; days = days; end = end }) → end ≡ Ok desk → one ≡ other
     → CanBeEnded view (record { orders = one; days = days; end = Ok desk }) desk
 ends_led_by {view = view} {other = other} {days = days} {end = end} {desk = desk} can is same =
     subst (λ (o : List CallOrder). CanBeEnded view (record { orders = o; days = days; end = Ok desk }) desk) (sym same)
