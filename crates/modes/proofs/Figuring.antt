@@ -23,7 +23,8 @@ use Rattle.desk_day.specs.LastPasses.{IsLastPass}
 use Rattle.played.specs.LastDays.{IsDeskAfter, IsLastOf, pass_on}
 use Rattle.round.proofs.EarlyEnds.{told_of_all}
 use Rattle.modes.specs.LentPicker.{TellsPicks}
-use Rattle.modes.specs.Beds.{AfterDays, BreaksFigures, BreaksFiguring, IsAsked, IsOnlyText, IsTextOf, PicksForFigures}
+use Rattle.modes.specs.AfterDays.{AfterDays}
+use Rattle.modes.specs.Beds.{BreaksFigures, BreaksFiguring, IsAsked, IsOnlyText, IsTextOf, PicksForFigures}
 use Rattle.modes.specs.Beds.{TellsFigures}
 
 -- the figures that were found, with what the picker told

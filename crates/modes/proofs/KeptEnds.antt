@@ -2,14 +2,10 @@
 use Rattle.std.proofs.Common.{◌≡◌, ◌∙◌, ℕ, Bool, List, Option, None, Some, Result, Ok, Err, ap, inl, inr, map, refl}
 use Rattle.std.proofs.Common.{subst}
 use Rattle.std.proofs.lemmas.Result.{IfOk-weaker, on_err_weaker}
-use Rattle.admit_core.specs.DossierRows.{DossierRows}
 use Rattle.admit_core.specs.Explanations.{LastPass}
-use Rattle.admit_core.specs.declared.ranking.CallOrder.{CallOrder}
-use Rattle.admit_core.specs.declared.records.DayRecord.{DayRecord}
 use Rattle.admit_core.specs.declared.refusal.Refusal.{Refusal}
 use Rattle.desk_day.specs.DeskStates.{DeskStates}
 use Rattle.desk_day.specs.KeptDays.{kept_day}
-use Rattle.dossier_check.specs.Ids.{Ids}
 use Rattle.explanations.specs.Sayings.{Explains}
 use Rattle.played.proofs.KeptDays.{played_whole}
 use Rattle.played.proofs.LastDay.{last_whole, pass_kept}
@@ -20,7 +16,8 @@ use Rattle.request.specs.declared.modes.Mode.{Mode}
 use Rattle.request.specs.declared.modes.Mode.TheVariants as modes
 use Rattle.request.specs.declared.pickers.PickerName.{PickerName}
 use Rattle.modes.specs.LentPicker.{ArePicks, Asked, BreaksEnding, BreaksLent, BreaksPicks, TellsAfter, TellsLent}
-use Rattle.modes.specs.Beds.{AfterDays, IsAsked, seen_after}
+use Rattle.modes.specs.AfterDays.{AfterDays, seen_after}
+use Rattle.modes.specs.Beds.{IsAsked}
 use Rattle.modes.specs.Endings.{EndsAfter, EndsWith, IsEndOf, IsRefusedWith, lines_before}
 use Rattle.modes.specs.Explained.{IsExplained}
 use Rattle.modes.specs.Jobs.{JobView, keeps_falls, picker_after}
@@ -40,23 +37,20 @@ asked_whole keeps left school place pass is =
       is_pass = is.is_pass ∙ pass_kept keeps left.dossier left.orders is.day last.0 left.desk last.2;
     }
 
-module _ (keeps : Bool) (d : DossierRows) (ids : Ids) (orders : List CallOrder) (days : List DayRecord)
-    (desk : DeskStates) where
-  explained_whole : (wish : ℕ) (text : List ℕ)
-      → IsExplained d ids orders (map (kept_day keeps) days) desk wish text
-      → IsExplained d ids orders days desk wish text
-  explained_whole wish text is =
-      let last = last_whole keeps days is.day is.is_last in
-      record {
-        place = is.place;
-        is_place = is.is_place;
-        day = last.0;
-        is_last = last.1;
-        explanation = is.explanation;
-        explains = subst (λ (pass : LastPass). Explains pass desk.present is.place is.explanation)
-            (pass_kept keeps d orders is.day last.0 desk last.2) is.explains;
-        is_line = is.is_line;
-      }
+explained_whole : (keeps : Bool) (left : AfterDays) (wish : ℕ) (text : List ℕ)
+    → IsExplained (record left { days = map (kept_day keeps) left.days }) wish text → IsExplained left wish text
+explained_whole keeps left wish text is =
+    let last = last_whole keeps left.days is.day is.is_last in
+    record {
+      place = is.place;
+      is_place = is.is_place;
+      day = last.0;
+      is_last = last.1;
+      explanation = is.explanation;
+      explains = subst (λ (pass : LastPass). Explains pass left.desk.present is.place is.explanation)
+          (pass_kept keeps left.dossier left.orders is.day last.0 left.desk last.2) is.explains;
+      is_line = is.is_line;
+    }
 
 -- what was played, by what its mode keeps of it
 abbrev kept_in : Mode → Played → Played
@@ -71,8 +65,7 @@ module _ (view : JobView) (whole : Played) where
       subst (λ (p : Played). IsEndOf modes.Chain view p desk exit text) (played_whole whole) ends
   end_whole (modes.Explain wish) desk exit text ends = (
     ends.0,
-    explained_whole (keeps_falls (modes.Explain wish)) view.dossier view.index whole.orders whole.days desk
-        wish text ends.1,
+    explained_whole (keeps_falls (modes.Explain wish)) (seen_after view whole desk) wish text ends.1,
   )
   end_whole (modes.Beds school) desk exit text ends =
       let keeps = keeps_falls (modes.Beds school) in

@@ -12,46 +12,15 @@ use Rattle.bed_need.specs.Figures.{AreFigures, Figures, TellsOfFigures, lacks, q
 use Rattle.bed_need.specs.Growing.{with_more_beds, with_n_beds}
 use Rattle.bed_need.specs.Telling.{TellsOfFallsOfBoth, TellsOfRun}
 use Rattle.bed_need.specs.Text.{beds_text}
-use Rattle.desk_day.specs.DeskStates.{DeskStates}
 use Rattle.desk_day.specs.Telling.{Telling}
-use Rattle.dossier_check.specs.Ids.{Ids}
-use Rattle.intake.specs.declared.input.Input.{Input}
 use Rattle.played.specs.LastDays.{IsLastOf, pass_on}
-use Rattle.played.specs.PlayedDays.{Played}
-use Rattle.modes.specs.Jobs.{JobView}
+use Rattle.modes.specs.AfterDays.{AfterDays}
 
 -- the school at a place has these figures, which the text tells
 pub record IsTextOf (d : DossierRows) (s : State) (orders : List CallOrder) (ceilings : List ℕ)
     (place : ℕ) (figures : Figures) (text : List ℕ) : Type 0 where
   pub are_figures : AreFigures s orders ceilings place figures
   pub is_text : text ≡ beds_text d place figures.need figures.before figures.after
-
--- what days leave to the mode: the dossier and its ids, the call orders by which they were run,
--- their records, and the desk after them
-pub record AfterDays : Type 0 where
-  pub dossier : DossierRows
-  pub index : Ids
-  pub orders : List CallOrder
-  pub days : List DayRecord
-  pub desk : DeskStates
-
-abbrev pub after_days : Input → List CallOrder → List DayRecord → DeskStates → AfterDays
-after_days input orders days desk = record {
-  dossier = input.dossier;
-  index = input.index;
-  orders = orders;
-  days = days;
-  desk = desk;
-}
-
-abbrev pub seen_after : JobView → Played → DeskStates → AfterDays
-seen_after view played desk = record {
-  dossier = view.dossier;
-  index = view.index;
-  orders = played.orders;
-  days = played.days;
-  desk = desk;
-}
 
 -- the school of this id, and the last pass of the last day
 pub record IsAsked (left : AfterDays) (school place : ℕ) (pass : LastPass) : Type 0 where

@@ -21,7 +21,8 @@ use Rattle.request.specs.declared.modes.Mode.{Mode}
 use Rattle.request.specs.declared.modes.Mode.TheVariants.{Order, Replay, Chain, Check, Explain, Envy, Beds, Market}
 use Rattle.request.specs.declared.modes.Mode.TheVariants.{Sample}
 use Rattle.modes.specs.LentPicker.{ArePicks, Asked, BreaksEnding, BreaksPicks, IsLent, TellsAfter, TellsPicks}
-use Rattle.modes.specs.Beds.{TellsFigures, seen_after}
+use Rattle.modes.specs.AfterDays.{seen_after}
+use Rattle.modes.specs.Beds.{TellsFigures}
 use Rattle.modes.specs.Blocked.{blocked_text}
 use Rattle.modes.specs.Checking.{IsChecked}
 use Rattle.modes.specs.Explained.{IsExplained}
@@ -66,7 +67,7 @@ IsEndOf Replay view played desk =
 IsEndOf Chain view played desk = IsDoneWith (chain_text view.dossier played.days)
 IsEndOf Check view played desk = IsChecked view.dossier view.chain view.dated played.orders
 IsEndOf (Explain wish) view played desk =
-    IsDoneSaying (IsExplained view.dossier view.index played.orders played.days desk wish)
+    IsDoneSaying (IsExplained (seen_after view played desk) wish)
 IsEndOf Envy view played desk = IsDoneWith (blocked_text desk.present played.orders)
 IsEndOf (Beds school) view played desk =
     IsDoneSaying (TellsFigures (seen_after view played desk) school)

@@ -7,7 +7,8 @@ use Rattle.played.specs.PlayedDays.{Played}
 use Rattle.request.specs.declared.modes.Mode.{Mode}
 use Rattle.request.specs.declared.modes.Mode.TheVariants.{Beds, Market}
 use Rattle.request.specs.declared.pickers.PickerName.{PickerName}
-use Rattle.modes.specs.Beds.{BreaksFigures, PicksForFigures, seen_after}
+use Rattle.modes.specs.AfterDays.{seen_after}
+use Rattle.modes.specs.Beds.{BreaksFigures, PicksForFigures}
 use Rattle.modes.specs.Jobs.{JobView, picker_after}
 use Rattle.modes.specs.Market.{BreaksMarket, PicksForMarket}
 

@@ -1,4 +1,5 @@
 pub mod LentPicker
+pub mod AfterDays
 pub mod Beds
 pub mod Blocked
 pub mod CheckedDays

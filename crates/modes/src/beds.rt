@@ -3,8 +3,9 @@ ghost use Rattle.std.specs.Prelude.{◌≡◌, ◌<◌, ◌≤◌, ◌+◌, ◌-
 ghost use Rattle.admit_core.specs.DossierRows.{beds_of};
 ghost use Rattle.admit_core.specs.Lists.{is_among};
 ghost use Rattle.bed_need.specs.Figures.{Figures, TellsOfFigures, question};
+ghost use Rattle.modes.specs.AfterDays.{left_by, left_on};
 ghost use Rattle.modes.specs.LentPicker.{TellsPicks};
-ghost use Rattle.modes.specs.Beds.{BreaksFigures, BreaksFiguring, IsOnlyText, IsTextOf, PicksForFigures, TellsFigures, after_days};
+ghost use Rattle.modes.specs.Beds.{BreaksFigures, BreaksFiguring, IsOnlyText, IsTextOf, PicksForFigures, TellsFigures};
 ghost use Rattle.modes.specs.Endings.{IsDoneSaying};
 ghost use Rattle.played.specs.LastDays.{IsDeskAfter};
 
@@ -104,14 +105,13 @@ fn school_text(
     requires desk { IsDeskAfter input.now.dossier along.now.orders days.now along.now.desk }
 
     ensures text { IfOk result (λ text. TellsFigures
-        (after_days input.now along.now.orders days.now along.now.desk) school text.items) }
+        (left_on input.now days.now along.now) school text.items) }
     ensures only { IfOk result (λ text. IsOnlyText
-        (after_days input.now along.now.orders days.now along.now.desk) school text.items) }
+        (left_on input.now days.now along.now) school text.items) }
     ensures picks { IfOk result (λ text. TellsPicks (PicksForFigures
-        (after_days input.now along.now.orders days.now along.now.desk) school
+        (left_on input.now days.now along.now) school
         (choice picker.old) (told picker.old)) (told picker.old) (told picker.new)) }
-    ensures breaks { OnErr result (BreaksFigures
-        (after_days input.now along.now.orders days.now along.now.desk) school
+    ensures breaks { OnErr result (BreaksFigures (left_on input.now days.now along.now) school
         (record {
           before = told picker.old;
           after = told picker.new;
@@ -152,17 +152,12 @@ pub(crate) fn needed(
     requires desk { IsDeskAfter
         input.now.dossier played.last.orders played.days.items played.last.desk }
 
-    ensures text { IfOk result (λ reply. IsDoneSaying (TellsFigures
-        (after_days input.now played.entry.last.orders played.entry.days.items
-        played.entry.last.desk) school)
-        reply.exit reply.text.items) }
+    ensures text { IfOk result (λ reply. IsDoneSaying
+        (TellsFigures (left_by input.now played.entry) school) reply.exit reply.text.items) }
     ensures picks { IfOk result (λ _. TellsPicks (PicksForFigures
-        (after_days input.now played.entry.last.orders played.entry.days.items
-        played.entry.last.desk) school
+        (left_by input.now played.entry) school
         (choice picker.old) (told picker.old)) (told picker.old) (told picker.new)) }
-    ensures breaks { OnErr result (BreaksFigures
-        (after_days input.now played.entry.last.orders played.entry.days.items
-        played.entry.last.desk) school
+    ensures breaks { OnErr result (BreaksFigures (left_by input.now played.entry) school
         (record {
           before = told picker.old;
           after = told picker.new;

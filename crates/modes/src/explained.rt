@@ -2,6 +2,7 @@
 ghost use Rattle.std.specs.Prelude.{◌≡◌, ◌<◌, IfOk, IsTrue, length};
 ghost use Rattle.admit_core.specs.EveningLaws.{last_bars};
 ghost use Rattle.admit_core.specs.Lists.{is_among};
+ghost use Rattle.modes.specs.AfterDays.{left_by, left_on};
 ghost use Rattle.modes.specs.Endings.{IsDoneSaying};
 ghost use Rattle.modes.specs.Explained.{IsExplained};
 ghost use Rattle.played.specs.LastDays.{IsDeskAfter};
@@ -38,8 +39,8 @@ fn explained_text(
     requires named { IsTrue (is_among wish input.now.index.wishes) }
     requires some_day { 0 < length days.now }
     requires desk { IsDeskAfter input.now.dossier along.now.orders days.now along.now.desk }
-    ensures { IfOk result (λ text. IsExplained input.now.dossier input.now.index along.now.orders
-        days.now along.now.desk wish text.items) }
+    ensures { IfOk result (λ text. IsExplained
+        (left_on input.now days.now along.now) wish text.items) }
 {
     let Some(place) = wish_place(&input.index, wish) else {
         unreachable!()
@@ -66,9 +67,7 @@ pub(crate) fn explained(
     requires desk { IsDeskAfter
         input.now.dossier played.last.orders played.days.items played.last.desk }
     ensures { IfOk result (λ reply. IsDoneSaying
-        (IsExplained input.now.dossier input.now.index played.entry.last.orders
-        played.entry.days.items played.entry.last.desk wish)
-        reply.exit reply.text.items) }
+        (IsExplained (left_by input.now played.entry) wish) reply.exit reply.text.items) }
 {
     let (days, along) = played.into_along(alloc)?;
     let text = explained_text(alloc, input, days.as_slice(), &along, wish)?;

@@ -7,7 +7,8 @@ use Rattle.played.specs.LastDays.{IsDeskAfter}
 use Rattle.played.specs.LastDesks.{DeskBy}
 use Rattle.std.proofs.lemmas.Result.{IfOk-from_err}
 use Rattle.modes.specs.LentPicker.{TellsPicks}
-use Rattle.modes.specs.Beds.{BreaksFigures, PicksForFigures, TellsFigures, after_days}
+use Rattle.modes.specs.AfterDays.{after_days, left_by}
+use Rattle.modes.specs.Beds.{BreaksFigures, PicksForFigures, TellsFigures}
 use Rattle.modes.proofs.Lending.{same_led}
 use Rattle.modes.proofs.beds.needed.Goals as goal
 
@@ -67,7 +68,7 @@ returns-clause-text g c =
     let school = c.args.school in
     let played = c.args.played in (
       c.done.ensures.exit,
-      subst (TellsFigures (after_days input played.last.orders played.days.items played.last.desk) school)
+      subst (TellsFigures (left_by input played) school)
           (sym c.done.ensures.text)
           (same_led (λ (o : List CallOrder) (ds : List DayRecord) (k : DeskStates).
           TellsFigures (after_days input o ds k) school c.in_ok-text.text.items)

@@ -4,7 +4,7 @@ use Rattle.admit_core.specs.DossierRows.{DossierRows}
 use Rattle.admit_core.specs.State.{State}
 use Rattle.desk_day.specs.DeskStates.{DeskStates}
 use Rattle.dossier_check.proofs.Places.{position-any}
-use Rattle.modes.specs.Beds.{after_days}
+use Rattle.modes.specs.AfterDays.{left_on}
 use Rattle.modes.proofs.Figuring.{all_broken, all_only, all_picked, all_tell, opening_ceilings, opening_dossier}
 use Rattle.modes.proofs.OnDesks.{found_within}
 use Rattle.modes.proofs.beds.school_text.Goals as goal
@@ -17,7 +17,7 @@ unreachable-requires g c =
 pub figures_text-requires-clause-dossier : goal.figures_text-requires-clause-dossier
 figures_text-requires-clause-dossier g c =
     ap (λ (s : State). s.dossier) (c.opening-opening.ensures ∙ ap (λ (k : DeskStates). k.opening) c.desk.ensures)
-    ∙ opening_dossier (after_days c.args.input.now c.args.along.now.orders c.args.days.now c.args.along.now.desk)
+    ∙ opening_dossier (left_on c.args.input.now c.args.days.now c.args.along.now)
     c.args.school c.in-Some.place c.in-Some-last.day.now (sym c.school_place.ensures ∙ c.in-Some.is)
     (sym c.in-Some-last.ensures.value) c.requires.desk
 
@@ -28,7 +28,7 @@ figures_text-requires-clause-roster g c =
 pub figures_text-requires-clause-ceilings : goal.figures_text-requires-clause-ceilings
 figures_text-requires-clause-ceilings g c =
     ap length (c.deref.ensures.value ∙ c.in_ok-ceilings.ensures.ceilings)
-    ∙ opening_ceilings (after_days c.args.input.now c.args.along.now.orders c.args.days.now c.args.along.now.desk)
+    ∙ opening_ceilings (left_on c.args.input.now c.args.days.now c.args.along.now)
     c.args.school c.in-Some.place c.in-Some-last.day.now (sym c.school_place.ensures ∙ c.in-Some.is)
     (sym c.in-Some-last.ensures.value) c.requires.desk
     ∙ ap (λ (s : State). length s.dossier.schools)
@@ -42,7 +42,7 @@ figures_text-requires-clause-place g c =
 
 pub returns-clause-text : goal.returns-clause-text
 returns-clause-text g c =
-    all_tell (after_days c.args.input.now c.args.along.now.orders c.args.days.now c.args.along.now.desk)
+    all_tell (left_on c.args.input.now c.args.days.now c.args.along.now)
     c.args.school c.in-Some.place c.in-Some-last.day.now (sym c.school_place.ensures ∙ c.in-Some.is)
     (sym c.in-Some-last.ensures.value) c.requires.desk c.opening-opening.result.now c.roster.result.now.orders
     c.deref.result.now _ _ _ (c.opening-opening.ensures ∙ ap (λ (k : DeskStates). k.opening) c.desk.ensures)
@@ -51,7 +51,7 @@ returns-clause-text g c =
 
 pub returns-clause-only : goal.returns-clause-only
 returns-clause-only g c =
-    all_only (after_days c.args.input.now c.args.along.now.orders c.args.days.now c.args.along.now.desk)
+    all_only (left_on c.args.input.now c.args.days.now c.args.along.now)
     c.args.school c.in-Some.place c.in-Some-last.day.now (sym c.school_place.ensures ∙ c.in-Some.is)
     (sym c.in-Some-last.ensures.value) c.requires.desk c.opening-opening.result.now c.roster.result.now.orders
     c.deref.result.now _ _ _ (c.opening-opening.ensures ∙ ap (λ (k : DeskStates). k.opening) c.desk.ensures)
@@ -60,7 +60,7 @@ returns-clause-only g c =
 
 pub returns-clause-picks : goal.returns-clause-picks
 returns-clause-picks g c =
-    all_picked (after_days c.args.input.now c.args.along.now.orders c.args.days.now c.args.along.now.desk)
+    all_picked (left_on c.args.input.now c.args.days.now c.args.along.now)
     c.args.school c.in-Some.place c.in-Some-last.day.now (sym c.school_place.ensures ∙ c.in-Some.is)
     (sym c.in-Some-last.ensures.value) c.requires.desk c.opening-opening.result.now c.roster.result.now.orders
     c.deref.result.now _ _ _ (c.opening-opening.ensures ∙ ap (λ (k : DeskStates). k.opening) c.desk.ensures)
@@ -69,7 +69,7 @@ returns-clause-picks g c =
 
 pub returns-clause-breaks : goal.returns-clause-breaks
 returns-clause-breaks g c =
-    all_broken (after_days c.args.input.now c.args.along.now.orders c.args.days.now c.args.along.now.desk)
+    all_broken (left_on c.args.input.now c.args.days.now c.args.along.now)
     c.args.school c.in-Some.place c.in-Some-last.day.now (sym c.school_place.ensures ∙ c.in-Some.is)
     (sym c.in-Some-last.ensures.value) c.requires.desk c.opening-opening.result.now c.roster.result.now.orders
     c.deref.result.now _ _ _ (c.opening-opening.ensures ∙ ap (λ (k : DeskStates). k.opening) c.desk.ensures)

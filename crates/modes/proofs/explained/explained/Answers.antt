@@ -4,6 +4,7 @@ use Rattle.admit_core.specs.declared.records.DayRecord.{DayRecord}
 use Rattle.desk_day.specs.DeskStates.{DeskStates}
 use Rattle.played.specs.LastDays.{IsDeskAfter}
 use Rattle.played.specs.LastDesks.{DeskBy}
+use Rattle.modes.specs.AfterDays.{after_days, left_by}
 use Rattle.modes.specs.Explained.{IsExplained}
 use Rattle.modes.proofs.Lending.{same_led}
 use Rattle.modes.proofs.explained.explained.Goals as goal
@@ -22,14 +23,12 @@ explained_text-requires-clause-desk c =
 
 pub returns : goal.returns
 returns c =
-    let d = c.args.input.now.dossier in
-    let index = c.args.input.now.index in
+    let input = c.args.input.now in
     let along = c.in_ok-days.ensures.along in (
       c.done.ensures.exit,
-      subst (IsExplained d index c.args.played.last.orders c.args.played.days.items c.args.played.last.desk c.args.wish)
-          (sym c.done.ensures.text)
-          (same_led (λ (o : List CallOrder) (ds : List DayRecord) (k : DeskStates). IsExplained d index o ds k
-          c.args.wish c.in_ok-text.text.items) (ap (λ (x : DeskBy). x.orders) along)
-          (c.as_slice.ensures.value ∙ c.in_ok-days.ensures.days) (ap (λ (x : DeskBy). x.desk) along)
-          c.in_ok-text.ensures),
+      subst (IsExplained (left_by input c.args.played) c.args.wish) (sym c.done.ensures.text)
+          (same_led (λ (o : List CallOrder) (ds : List DayRecord) (k : DeskStates).
+          IsExplained (after_days input o ds k) c.args.wish c.in_ok-text.text.items)
+          (ap (λ (x : DeskBy). x.orders) along) (c.as_slice.ensures.value ∙ c.in_ok-days.ensures.days)
+          (ap (λ (x : DeskBy). x.desk) along) c.in_ok-text.ensures),
     )
