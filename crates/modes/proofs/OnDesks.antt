@@ -25,6 +25,7 @@ use Rattle.played.specs.PlayedDays.{DaysEndAfter, Lead, Plan, Played, first_desk
 use Rattle.request.specs.Modes.{runs_days}
 use Rattle.request.specs.Request.{IsRequest}
 use Rattle.request.specs.declared.request.Request.{Request}
+use Rattle.round.specs.KeptFalls.{are_kept}
 use Rattle.modes.specs.Endings.{CanBeEnded, CanEnd}
 use Rattle.modes.specs.Jobs.{JobView, days_of}
 use Rattle.modes.specs.Replay.{CanBeDated, CanBeWritten}
@@ -45,7 +46,7 @@ written view played can =
     (few_days view.request can.request) can.dated can.plays.1 in
     subst (λ (p : Played). All (CanBeWritten view.dossier view.dated) p.days
     × ForOk p.end (λ desk. CanBeDated view.dated desk.present)) (sym can.plays.2)
-    (kept_written can.keeps view.dossier view.dated whole.days all.0, all.1)
+    (kept_written (are_kept can.falls) view.dossier view.dated whole.days all.0, all.1)
 
 as_many : (terms : Option Terms) (number : ℕ) (days : List DayRecord) (last : DeskStates)
     (end : Result DeskStates Refusal) → DaysEndAfter terms number days last end
@@ -88,11 +89,11 @@ ends_on view played desk can same =
       dated = can.dated;
       called = plays.called;
       number =
-          length-map whole.days (kept_day can.keeps)
+          length-map whole.days (kept_day (are_kept can.falls))
           ∙ as_many terms number whole.days plays.last whole.end plays.ends desk led;
       days = subst (λ (p : Played). All (CanBeWritten view.dossier view.dated) p.days) can.plays.2 all.0;
       offers = all.1 desk same;
-      last = desk_after_kept can.keeps view.dossier whole.orders whole.days desk
+      last = desk_after_kept (are_kept can.falls) view.dossier whole.orders whole.days desk
           (desk_played view.dossier terms number who can.before whole can.after plays desk led);
       idle = desk_at_first terms number whole.days plays.last whole.end (first_desk view.dossier)
           (plan_of terms who whole) can.before plays.days plays.ends desk led;

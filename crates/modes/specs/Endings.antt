@@ -1,5 +1,5 @@
 -- How a run over a job ends, by its mode.
-use Rattle.std.specs.Prelude.{◌≡◌, ◌⊎◌, ℕ, Bool, List, [], ◌++◌, All, IfOk, IfSome, OnErr, Result, Ok, Err, length}
+use Rattle.std.specs.Prelude.{◌≡◌, ◌⊎◌, ℕ, List, [], ◌++◌, All, IfOk, IfSome, OnErr, Result, Ok, Err, length}
 use Rattle.std.specs.Option.{option_copied}
 use Rattle.admit_core.specs.CallOrder.{AreCallOrders}
 use Rattle.admit_core.specs.Days.{first_evening}
@@ -20,6 +20,7 @@ use Rattle.request.specs.Request.{IsRequest}
 use Rattle.request.specs.declared.modes.Mode.{Mode}
 use Rattle.request.specs.declared.modes.Mode.TheVariants.{Order, Replay, Chain, Check, Explain, Envy, Beds, Market}
 use Rattle.request.specs.declared.modes.Mode.TheVariants.{Sample}
+use Rattle.round.specs.declared.falls.Falls.{Falls}
 use Rattle.modes.specs.LentPicker.{ArePicks, Asked, BreaksEnding, BreaksPicks, IsLent, TellsAfter, TellsPicks}
 use Rattle.modes.specs.AfterDays.{seen_after}
 use Rattle.modes.specs.Beds.{TellsFigures}
@@ -27,7 +28,7 @@ use Rattle.modes.specs.Blocked.{blocked_text}
 use Rattle.modes.specs.Checking.{IsChecked}
 use Rattle.modes.specs.Explained.{IsExplained}
 use Rattle.modes.specs.Market.{TellsMarket}
-use Rattle.modes.specs.Jobs.{JobView, days_of, dossier, picker_after, view_of, seen_of, terms_of}
+use Rattle.modes.specs.Jobs.{JobView, days_of, dossier, picker_after, view_of, seen_of, terms_of, wanted_with}
 use Rattle.modes.specs.Order.{orders_text}
 use Rattle.modes.specs.Replay.{CanBeDated, CanBeWritten, days_text, replay_text}
 use Rattle.modes.specs.declared.exit.Exit.{Exit}
@@ -102,11 +103,11 @@ pub record CanEnd (view : JobView) (played : Played) : Type 0 where
   pub dated : IfSome view.dated (AreDatedFor view.dossier)
   pub named : NamesIn view.request.mode view.index
   pub index : view.index ≡ ids_in view.dossier
-  pub keeps : Bool
+  pub falls : Falls
   pub before : Lent
   pub after : Lent
-  pub plays : IsPlayedKept keeps view.dossier (terms_in view.dated) (days_of view.request)
-      view.request.picker before played after
+  pub plays : IsPlayedKept (wanted_with view.request falls) view.dossier (terms_in view.dated)
+      before played after
 
 -- what all modes may use once the days have led to a desk
 pub record CanBeEnded (view : JobView) (played : Played) (desk : DeskStates) : Type 0 where

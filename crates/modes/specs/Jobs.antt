@@ -15,6 +15,7 @@ use Rattle.intake.specs.Dated.{dated_from, terms_in}
 use Rattle.intake.specs.Input.{Job}
 use Rattle.intake.specs.declared.input.Input.{Input}
 use Rattle.intake.specs.declared.terms.DatedTerms.{DatedTerms}
+use Rattle.played.specs.declared.wanted.Wanted.{Wanted}
 use Rattle.request.specs.Modes.{picks_after, runs_days, sample_of}
 use Rattle.request.specs.Pickers.{picker_on}
 use Rattle.request.specs.declared.modes.Mode.{Mode}
@@ -39,6 +40,14 @@ falls_of _ = LeftOut
 
 abbrev pub keeps_falls : Mode → Bool
 keeps_falls mode = are_kept (falls_of mode)
+
+-- which days of a request are wanted, where so much is kept of their falls
+abbrev pub wanted_with : Request → Falls → Wanted
+wanted_with request falls = record { number = days_of request; who = request.picker; falls = falls }
+
+-- the same by what its mode keeps of them
+abbrev pub wanted_of : Request → Wanted
+wanted_of request = wanted_with request (falls_of request.mode)
 
 -- the picker that the ending is lent, of the modes that ask one once their days are over
 abbrev pub picker_after : Request → Option PickerName

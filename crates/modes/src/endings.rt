@@ -100,12 +100,12 @@ fn lent(
     ensures there { IsSome place.new }
     ensures ends { LendsPlayed task.now played.entry
         (record {
-          told = told_in (λ p. told p) place.old;
-          choice = choice_in (λ p. choice p) place.old;
+          told = told_in told place.old;
+          choice = choice_in choice place.old;
         })
         (record {
-          told = told_in (λ p. told p) place.new;
-          choice = choice_in (λ p. choice p) place.new;
+          told = told_in told place.new;
+          choice = choice_in choice place.new;
         }) result }
 {
     let Some(mut picker) = place.take() else {
@@ -129,8 +129,7 @@ fn asked(
     requires there { AreThere pickers.old }
     ensures there { AreThere pickers.new }
     ensures ends { EndsPlayed task.now played.entry
-        (standing (λ p. told p) (λ p. choice p) pickers.old)
-        (standing (λ p. told p) (λ p. choice p) pickers.new) result }
+        (standing told choice pickers.old) (standing told choice pickers.new) result }
 {
     let Some(name) = picker_after(task.request) else {
         unreachable!()
@@ -154,8 +153,7 @@ fn ended(
     requires there { AreThere pickers.old }
     ensures there { AreThere pickers.new }
     ensures ends { EndsPlayed task.now played.entry
-        (standing (λ p. told p) (λ p. choice p) pickers.old)
-        (standing (λ p. told p) (λ p. choice p) pickers.new) result }
+        (standing told choice pickers.old) (standing told choice pickers.new) result }
 {
     let input = task.input;
     match task.request.mode {
@@ -199,8 +197,7 @@ pub fn ending(
           days = played.entry.days.items;
           end = desk_in played.entry.end;
         })
-        (standing (λ p. told p) (λ p. choice p) pickers.old)
-        (standing (λ p. told p) (λ p. choice p) pickers.new) result }
+        (standing told choice pickers.old) (standing told choice pickers.new) result }
 {
     let task = Task {
         request,

@@ -5,6 +5,7 @@ ghost use Rattle.modes.specs.Jobs as Jobs;
 
 use admit_core::Terms;
 use intake::DatedTerms;
+use played::Wanted;
 use request::{Deadlines, Mode, PickerName, Request, picker_on, picks_after, runs_days, sample_of};
 use round::Falls;
 
@@ -21,7 +22,7 @@ pub fn days_of(request: &Request) -> u32
 
 /// What the days of a mode keep of their falls: all where its text tells them, or how many there
 /// were, and nothing elsewhere.
-pub fn falls_of(mode: Mode) -> Falls
+fn falls_of(mode: Mode) -> Falls
     ensures { result ≡ Jobs.falls_of mode }
 {
     match mode {
@@ -29,6 +30,17 @@ pub fn falls_of(mode: Mode) -> Falls
         Mode::Chain => Falls::Kept,
         Mode::Sample { .. } => Falls::Kept,
         _ => Falls::LeftOut,
+    }
+}
+
+/// Which days are asked for, and what is kept of them.
+pub fn wanted_of(request: &Request) -> Wanted
+    ensures { result ≡ Jobs.wanted_of request.now }
+{
+    Wanted {
+        number: days_of(request),
+        who: request.picker,
+        falls: falls_of(request.mode),
     }
 }
 

@@ -23,5 +23,5 @@ mod unproved;
 
 pub use endings::ending;
 pub use exit::{Exit, exit_number};
-pub use job::{days_of, deadlines_of, falls_of, terms_in};
+pub use job::{days_of, deadlines_of, terms_in, wanted_of};
 pub use reply::{Reply, StopLine, stopped};

@@ -113,16 +113,16 @@ module _ (job : Job) (request : Request) (d : DossierRows) (dates : List (Option
   }
 
 -- the days of what was asked for, as they were played over its input
-module _ (asked : Asked) (known : IsAsked asked) (input : Input) (dated given : Option DatedTerms)
-    (terms : Option Terms) (number : ℕ) (before between : Lent) (played : Played) (same : dated ≡ given)
+module _ (asked : Asked) (known : IsAsked asked) (input : Input) {dated given : Option DatedTerms}
+    {terms : Option Terms} {number : ℕ} {before between : Lent} {played : Played} (same : dated ≡ given)
     (is : IfSome given (AreDatedFor input.dossier)) (terms_are : terms ≡ terms_in dated)
     (number_is : number ≡ days_of asked.request)
     (plays : IsPlayed input.dossier terms number asked.request.picker before played between)
     (own : input.index ≡ ids_in input.dossier) where
   pub can : CanEnd (view_of asked.request input dated) played
   can =
-      can_end asked.request known.request input dated given terms number before between played same is terms_are
-      number_is plays (subst (λ (mode : Mode). NamesIn mode input.index) (sym known.replay) tt) own
+      can_end asked.request known.request input same is terms_are number_is plays
+      (subst (λ (mode : Mode). NamesIn mode input.index) (sym known.replay) tt) own
 
   pub offers_dated : (end : Result DeskStates Refusal) → played.end ≡ end
       → IfOk end (λ desk. CanBeDated dated desk.present)
@@ -164,6 +164,6 @@ module _ (asked : Asked) (known : IsAsked asked) (input : Input) (dated given : 
         EndsWith x (view_of asked.request input dated) played reply.exit reply.text.items) e ends.ends in
         inr (
           by.0,
-          reply_ends asked.request known.request input dated given terms number before between played same is
-              terms_are number_is plays after (Ok reply) job given_is is_job is_input ends,
+          reply_ends asked.request known.request input same is terms_are number_is plays after (Ok reply) job
+              given_is is_job is_input ends,
         )

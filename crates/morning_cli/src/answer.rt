@@ -73,12 +73,10 @@ fn play_out(
     requires there { AreThere pickers.old }
 
     ensures there { AreThere pickers.new }
-    ensures back { AreBack (standing (λ p. told p) (λ p. choice p) pickers.old)
-        (standing (λ p. told p) (λ p. choice p) pickers.new) }
+    ensures back { AreBack (standing told choice pickers.old) (standing told choice pickers.new) }
     ensures ends { (job : Job) → IsJobOf asked.now.request job → IsInputOf job input.now
         → IfOk result (λ reply. IsSlotEnding asked.now.slot job
-        (standing (λ p. told p) (λ p. choice p) pickers.old)
-        (standing (λ p. told p) (λ p. choice p) pickers.new)
+        (standing told choice pickers.old) (standing told choice pickers.new)
         reply.exit reply.text.items) }
 {
     let request = &asked.request;
@@ -113,8 +111,7 @@ pub(crate) fn answer<S: Shelf>(
     ensures there { AreThere pickers.new }
     ensures replies { RepliesSlot (map string_bytes words.now)
         (on_shelf S.left S.taken S.faults shelf.old) (on_shelf S.left S.taken S.faults shelf.new)
-        (standing (λ p. told p) (λ p. choice p) pickers.old)
-        (standing (λ p. told p) (λ p. choice p) pickers.new) result }
+        (standing told choice pickers.old) (standing told choice pickers.new) result }
 {
     let line = StopLine::new(alloc)?;
     match take(alloc, words, shelf) {

@@ -20,16 +20,16 @@ use Rattle.request.specs.declared.pickers.PickerName.{PickerName}
 use Rattle.played.specs.Lent.{AreBack, Lent, Told, Untold, is_named, picked_by}
 use Rattle.played.specs.OneDay.{TellsOfDay}
 use Rattle.played.specs.PlayedDays.{BreaksAfter, BreaksDay, BreaksDays, EndsNext, IsNext, IsPlayed, Lead, Plan, Played}
-use Rattle.played.specs.PlayedDays.{PlaysDays, first_desk, lent_after}
+use Rattle.played.specs.PlayedDays.{PlaysDays, RunMoment, first_desk, lent_after}
 use Rattle.played.proofs.Naming.{back_again, back_untouched, picked_by-append, picked_none, told_more}
 
--- so many days were played
-pub record SoFar (plan : Plan) (old : DeskStates) (before : Lent) (played : ℕ)
-    (days : List DayRecord) (new : DeskStates) (after : Lent) : Type 0 where
-  pub lead : Lead plan 1 old before days new
+-- so many days were played, from a moment of a run to another
+pub record SoFar (plan : Plan) (before : RunMoment) (played : ℕ) (days : List DayRecord)
+    (after : RunMoment) : Type 0 where
+  pub lead : Lead plan 1 before.desk before.pickers days after.desk
   pub number : length days ≡ played
-  pub told : Told plan.who days before after
-  pub back : AreBack before after
+  pub told : Told plan.who days before.pickers after.pickers
+  pub back : AreBack before.pickers after.pickers
 
 -- the pickers after several days
 abbrev lents_after : PickerChoice → List DayRecord → Lent → Lent
@@ -151,16 +151,15 @@ lead_dossier plan d old before [] new same = ap (λ (desk : DeskStates). desk.pr
 lead_dossier plan d old before (day ∷ days) new lead = lead_dossier plan (d + 1) lead.0
     (lent_after plan.who day before) days new lead.2 ∙ lead.1.dossier
 
-pub nothing_played : (plan : Plan) (begun : DeskStates) (before : Lent) (days : List DayRecord)
-    → days ≡ [] → SoFar plan begun before 0 days begun before
-nothing_played plan begun before days none =
-    subst (λ (ds : List DayRecord). SoFar plan begun before 0 ds begun before) (sym none)
+pub nothing_played : (plan : Plan) (begun : RunMoment) (days : List DayRecord) → days ≡ []
+    → SoFar plan begun 0 days begun
+nothing_played plan begun days none =
+    subst (λ (ds : List DayRecord). SoFar plan begun 0 ds begun) (sym none)
     (record {
       lead = refl;
       number = refl;
-      told = λ name. sym (append-nil (before.told name));
-      back = back_untouched
-          before;
+      told = λ name. sym (append-nil (begun.pickers.told name));
+      back = back_untouched begun.pickers;
     })
 
 told_nothing : (who : PickerChoice) (days : List DayRecord) (before after : Lent) → length days ≡ 0
@@ -168,128 +167,130 @@ told_nothing : (who : PickerChoice) (days : List DayRecord) (before after : Lent
 told_nothing who [] before after none told = λ name. told name ∙ append-nil (before.told name)
 told_nothing who (day ∷ days) before after none told = absurd (omega (arith, none))
 
-module _ (plan : Plan) (old : DeskStates) (before : Lent) (played : ℕ) (days : List DayRecord)
-    (mid : DeskStates) (between : Lent)
-    (so_far : SoFar plan old before played days mid between) where
+module _ (plan : Plan) (before : RunMoment) (played : ℕ) (days : List DayRecord) (mid : RunMoment)
+    (so_far : SoFar plan before played days mid) where
   -- what holds of the dossier holds of it still
-  pub still : (P : DossierRows → Type 0) → P old.present.dossier → P mid.present.dossier
-  still P holds = subst P (sym (lead_dossier plan 1 old before days mid so_far.lead)) holds
+  pub still : (P : DossierRows → Type 0) → P before.desk.present.dossier → P mid.desk.present.dossier
+  still P holds = subst P (sym (lead_dossier plan 1 before.desk before.pickers days mid.desk so_far.lead)) holds
 
   -- one more day
-  pub played_on : (day : DayRecord) (more : List DayRecord) (new : DeskStates) (after : Lent)
-      → EndsNext plan (played + 1) mid between (Ok day) new after → more ≡ days ++ day ∷ []
-      → SoFar plan old before (played + 1) more new after
-  played_on day more new after ends more_is =
+  pub played_on : (day : DayRecord) (more : List DayRecord) (after : RunMoment)
+      → EndsNext plan (played + 1) mid (Ok day) after → more ≡ days ++ day ∷ []
+      → SoFar plan before (played + 1) more after
+  played_on day more after ends more_is =
       let at : played + 1 ≡ 1 + length days = omega (arith, so_far.number) in
       let name = picker_on plan.who (1 + length days) in
-      subst (λ (ds : List DayRecord). SoFar plan old before (played + 1) ds new after) (sym more_is)
+      subst (λ (ds : List DayRecord). SoFar plan before (played + 1) ds after) (sym more_is)
       (record {
-        lead = lead_more plan 1 old before days mid day new so_far.lead
-            (next_same plan (1 + length days) mid new between (lents_after plan.who days before) day
-            (so_far.told name ∙ sym (told_after plan.who days before name))
-            (so_far.back.choice name ∙ sym (choice_after plan.who days before name))
-            (subst (λ (n : ℕ). IsNext plan n mid between day new) at ends.done));
+        lead = lead_more plan 1 before.desk before.pickers days mid.desk day after.desk so_far.lead
+            (next_same plan (1 + length days) mid.desk after.desk mid.pickers
+            (lents_after plan.who days before.pickers) day
+            (so_far.told name ∙ sym (told_after plan.who days before.pickers name))
+            (so_far.back.choice name ∙ sym (choice_after plan.who days before.pickers name))
+            (subst (λ (n : ℕ). IsNext plan n mid.desk mid.pickers day after.desk) at ends.done));
         number = omega (arith, so_far.number, length-append days (day ∷ []));
-        told = told_more plan.who days day before between after so_far.told ends.told;
-        back = back_again before between after so_far.back ends.back;
+        told = told_more plan.who days day before.pickers mid.pickers after.pickers so_far.told ends.told;
+        back = back_again before.pickers mid.pickers after.pickers so_far.back ends.back;
       })
 
-  untold_still : (after : Lent) → Untold between after → Told plan.who days before after
+  untold_still : (after : Lent) → Untold mid.pickers after → Told plan.who days before.pickers after
   untold_still after untold = λ name. untold name ∙ so_far.told name
 
   -- memory runs out on the next day, or after it
-  broken : (number : ℕ) (after : Lent) → played < number → BreaksDay plan (played + 1) mid between after
-      → BreaksDays plan number old before after
+  broken : (number : ℕ) (after : Lent) → played < number → BreaksDay plan (played + 1) mid.desk mid.pickers after
+      → BreaksDays plan number before.desk before.pickers after
   broken number after fewer breaks =
       let at : played + 1 ≡ 1 + length days = omega (arith, so_far.number) in
       inr (record {
         days = days;
         fewer = omega (arith, so_far.number, fewer);
-        last = breaks_after plan 1 old before days mid after so_far.lead
-            (breaks_same plan (1 + length days) mid between (lents_after plan.who days before) after
-            (λ name. so_far.told name ∙ sym (told_after plan.who days before name))
+        last = breaks_after plan 1 before.desk before.pickers days mid.desk after so_far.lead
+            (breaks_same plan (1 + length days) mid.desk mid.pickers (lents_after plan.who days before.pickers) after
+            (λ name. so_far.told name ∙ sym (told_after plan.who days before.pickers name))
             (let name = picker_on plan.who (1 + length days) in
-            so_far.back.choice name ∙ sym (choice_after plan.who days before name))
-            (subst (λ (n : ℕ). BreaksDay plan n mid between after) at breaks));
+            so_far.back.choice name ∙ sym (choice_after plan.who days before.pickers name))
+            (subst (λ (n : ℕ). BreaksDay plan n mid.desk mid.pickers after) at breaks));
       })
 
-  out_there : (number : ℕ) (kept : List DayRecord) (new : DeskStates) (after : Lent) → played < number
-      → BreaksDay plan (played + 1) mid between after → AreBack between after
-      → PlaysDays plan number old before kept (Err refusals.OutOfMemory) new after
-  out_there number kept new after fewer breaks back = record {
-    last = mid;
+  out_there : (number : ℕ) (kept : List DayRecord) (after : RunMoment) → played < number
+      → BreaksDay plan (played + 1) mid.desk mid.pickers after.pickers → AreBack mid.pickers after.pickers
+      → PlaysDays plan number before kept (Err refusals.OutOfMemory) after
+  out_there number kept after fewer breaks back = record {
+    last = mid.desk;
     lead = tt;
     stops = tt;
     told = tt;
-    breaks = broken number after fewer breaks;
-    back = back_again before between after so_far.back back;
+    breaks = broken number after.pickers fewer breaks;
+    back = back_again before.pickers mid.pickers after.pickers so_far.back back;
     idle = λ none. absurd (omega arith);
   }
 
   -- the next day does not come about
-  stopped : (number : ℕ) (refusal : DayRefusal) (new : DeskStates) (after : Lent) → played < number
-      → EndsNext plan (played + 1) mid between (Err refusal) new after
-      → PlaysDays plan number old before days (Err refusal) new after
-  stopped number (refusals.Unfit refusal) new after fewer ends =
+  stopped : (number : ℕ) (refusal : DayRefusal) (after : RunMoment) → played < number
+      → EndsNext plan (played + 1) mid (Err refusal) after
+      → PlaysDays plan number before days (Err refusal) after
+  stopped number (refusals.Unfit refusal) after fewer ends =
       let at : played + 1 ≡ length days + 1 = omega (arith, so_far.number) in
       record {
-        last = mid;
+        last = mid.desk;
         lead = so_far.lead;
         stops = record {
           fewer = omega (arith, so_far.number);
-          unfit = subst (λ (n : ℕ). IsSomeAnd (unfit_on plan.terms n mid.present)
-              (λ x. refusal ≡ unfit_refusal mid.present.dossier n x)) at ends.unfit;
+          unfit = subst (λ (n : ℕ). IsSomeAnd (unfit_on plan.terms n mid.desk.present)
+              (λ x. refusal ≡ unfit_refusal mid.desk.present.dossier n x)) at ends.unfit;
         };
-        told = untold_still after ends.undone;
+        told = untold_still after.pickers ends.undone;
         breaks = tt;
-        back = back_again before between after so_far.back ends.back;
+        back = back_again before.pickers mid.pickers after.pickers so_far.back ends.back;
         idle = λ none. absurd (omega arith);
       }
-  stopped number refusals.OutOfMemory new after fewer ends =
-      out_there number days new after fewer ends.undone ends.back
+  stopped number refusals.OutOfMemory after fewer ends =
+      out_there number days after fewer ends.undone ends.back
 
-  pub plays_some : (number : ℕ) (refusal : DayRefusal) (new : DeskStates) (after : Lent)
+  pub plays_some : (number : ℕ) (refusal : DayRefusal) (after : RunMoment)
       (r : Result (Unit {0}) DayRefusal) → IsErrAnd r (λ x. x ≡ refusal) → played < number
-      → EndsNext plan (played + 1) mid between (Err refusal) new after
-      → PlaysDays plan number old before days r new after
-  plays_some number refusal new after (Ok done) from fewer ends = absurd from
-  plays_some number refusal new after (Err other) from fewer ends =
-      subst (λ (x : DayRefusal). PlaysDays plan number old before days (Err x) new after) (sym from)
-      (stopped number refusal new after fewer ends)
+      → EndsNext plan (played + 1) mid (Err refusal) after
+      → PlaysDays plan number before days r after
+  plays_some number refusal after (Ok done) from fewer ends = absurd from
+  plays_some number refusal after (Err other) from fewer ends =
+      subst (λ (x : DayRefusal). PlaysDays plan number before days (Err x) after) (sym from)
+      (stopped number refusal after fewer ends)
 
   -- memory runs out after the next day
-  pub plays_out : (number : ℕ) (day : DayRecord) (kept : List DayRecord) (new : DeskStates)
-      (after : Lent) (r : Result (Unit {0}) DayRefusal) → IsErrAnd r (λ x. x ≡ refusals.OutOfMemory)
+  pub plays_out : (number : ℕ) (day : DayRecord) (kept : List DayRecord) (after : RunMoment)
+      (r : Result (Unit {0}) DayRefusal) → IsErrAnd r (λ x. x ≡ refusals.OutOfMemory)
       → played < number
-      → EndsNext plan (played + 1) mid between (Ok day) new after → PlaysDays plan number old before kept r new after
-  plays_out number day kept new after (Ok done) from fewer ends = absurd from
-  plays_out number day kept new after (Err other) from fewer ends =
-      subst (λ (x : DayRefusal). PlaysDays plan number old before kept (Err x) new after) (sym from)
-      (out_there number kept new after fewer
-      (breaks_behind plan (played + 1) mid between day new after ends.done ends.told) ends.back)
+      → EndsNext plan (played + 1) mid (Ok day) after → PlaysDays plan number before kept r after
+  plays_out number day kept after (Ok done) from fewer ends = absurd from
+  plays_out number day kept after (Err other) from fewer ends =
+      subst (λ (x : DayRefusal). PlaysDays plan number before kept (Err x) after) (sym from)
+      (out_there number kept after fewer
+      (breaks_behind plan (played + 1) mid.desk mid.pickers day after.desk after.pickers ends.done ends.told) ends.back)
 
-  pub plays_all : (number : ℕ) → played ≡ number → PlaysDays plan number old before days (Ok tt) mid between
+  pub plays_all : (number : ℕ) → played ≡ number → PlaysDays plan number before days (Ok tt) mid
   plays_all number all = record {
-    last = mid;
+    last = mid.desk;
     lead = so_far.lead;
     stops = (so_far.number ∙ all, refl);
     told = so_far.told;
     breaks = tt;
     back = so_far.back;
-    idle = λ none. told_nothing plan.who days before between (so_far.number ∙ all ∙ none) so_far.told;
+    idle = λ none. told_nothing plan.who days before.pickers mid.pickers (so_far.number ∙ all ∙ none) so_far.told;
   }
 
 -- what became of the days that were asked for
-module _ (d : DossierRows) (number : ℕ) (plan : Plan) (old new : DeskStates) (before after : Lent)
-    (days : List DayRecord) (end : Result DeskStates Refusal)
-    (called : AreCallOrders d.groups plan.orders) (begun : old ≡ first_desk d) where
+module _ (d : DossierRows) (number : ℕ) (plan : Plan) (before after : RunMoment) (days : List DayRecord)
+    (end : Result DeskStates Refusal)
+    (called : AreCallOrders d.groups plan.orders) (begun : before.desk ≡ first_desk d) where
   abbrev IsAll : Type 0
-  IsAll = IsPlayed d plan.terms number plan.who before (record { orders = plan.orders; days = days; end = end }) after
+  IsAll = IsPlayed d plan.terms number plan.who before.pickers
+      (record { orders = plan.orders; days = days; end = end }) after.pickers
 
-  leads : (last : DeskStates) → Lead plan 1 old before days last → Lead plan 1 (first_desk d) before days last
-  leads last lead = subst (λ (desk : DeskStates). Lead plan 1 desk before days last) begun lead
+  leads : (last : DeskStates) → Lead plan 1 before.desk before.pickers days last
+      → Lead plan 1 (first_desk d) before.pickers days last
+  leads last lead = subst (λ (desk : DeskStates). Lead plan 1 desk before.pickers days last) begun lead
 
-  pub all_played : PlaysDays plan number old before days (Ok tt) new after → end ≡ Ok new → IsAll
+  pub all_played : PlaysDays plan number before days (Ok tt) after → end ≡ Ok after.desk → IsAll
   all_played plays is = record {
     called = called;
     last = plays.last;
@@ -299,7 +300,7 @@ module _ (d : DossierRows) (number : ℕ) (plan : Plan) (old new : DeskStates) (
   }
 
   pub cut_short : (refusal : Refusal)
-      → PlaysDays plan number old before days (Err (refusals.Unfit refusal)) new after
+      → PlaysDays plan number before days (Err (refusals.Unfit refusal)) after
       → end ≡ Err refusal → IsAll
   cut_short refusal plays is = record {
     called = called;

@@ -21,12 +21,14 @@ use Rattle.desk_day.specs.RunDay.{EndsDay, IsDayDone, Moment, TellsNoneUnfit}
 use Rattle.desk_day.specs.declared.refusal.DayRefusal.{DayRefusal}
 use Rattle.desk_day.specs.declared.refusal.DayRefusal.TheVariants as refusals
 use Rattle.request.specs.declared.pickers.PickerChoice.{PickerChoice}
-use Rattle.round.specs.KeptFalls.{IsKeptOf}
-use Rattle.played.specs.KeptDays.{IsPlayedKept, PlaysDaysKept, kept_played}
+use Rattle.round.specs.KeptFalls.{IsKeptOf, are_kept}
+use Rattle.round.specs.declared.falls.Falls.TheVariants.{Kept}
+use Rattle.played.specs.KeptDays.{DayGrounds, DaysLeft, EndsWanted, IsPlayedKept, PlaysDaysKept, kept_played}
 use Rattle.played.specs.LastDesks.{DeskLeft, EndsBy, IsLeftBy, desk_in}
 use Rattle.played.specs.Lent.{Lent}
 use Rattle.played.specs.OneDay.{DayEndsWith, TellsWhereUndone}
-use Rattle.played.specs.PlayedDays.{BreaksDays, EndsNext, IsPlayed, OnFit, Plan, Played, first_desk}
+use Rattle.played.specs.PlayedDays.{BreaksDays, EndsNext, IsPlayed, OnFit, Plan, Played, RunMoment, first_desk}
+use Rattle.played.specs.declared.wanted.Wanted.{Wanted}
 use Rattle.played.proofs.DaysSoFar.{SoFar, all_played, cut_short, lead_dossier, none_played, nothing_played, played_on}
 use Rattle.played.proofs.DaysSoFar.{plays_all, plays_out, plays_some, still}
 
@@ -104,60 +106,57 @@ out_so Fact (Ok done) is = absurd is
 out_so Fact (Err e) is = subst (λ (x : DayRefusal). OnFit (Err x) Fact) (sym is) tt
 
 -- the days so far
-pub none_kept : (keeps : Bool) (plan : Plan) (begun : DeskStates) (before : Lent) (kept : List DayRecord) → kept ≡ []
-    → IsKeptOf (map (kept_day keeps)) (λ days. SoFar plan begun before 0 days begun before) kept
-none_kept keeps plan begun before kept none = ([], nothing_played plan begun before [] refl, none)
+pub none_kept : (keeps : Bool) (plan : Plan) (begun : RunMoment) (kept : List DayRecord) → kept ≡ []
+    → IsKeptOf (map (kept_day keeps)) (λ days. SoFar plan begun 0 days begun) kept
+none_kept keeps plan begun kept none = ([], nothing_played plan begun [] refl, none)
 
-module _ (keeps : Bool) {plan : Plan} {old mid : DeskStates} {before between : Lent} {played : ℕ}
-    {kept : List DayRecord}
-    (so_far : IsKeptOf (map (kept_day keeps)) (λ days. SoFar plan old before played days mid between) kept) where
-  abbrev Next : DeskStates → Lent → Result DayRecord DayRefusal → Type 0
-  Next new after = IsKeptOf (kept_result keeps) (λ r. EndsNext plan (played + 1) mid between r new after)
+module _ (keeps : Bool) {plan : Plan} {before mid : RunMoment} {played : ℕ} {kept : List DayRecord}
+    (so_far : IsKeptOf (map (kept_day keeps)) (λ days. SoFar plan before played days mid) kept) where
+  abbrev Next : RunMoment → Result DayRecord DayRefusal → Type 0
+  Next after = IsKeptOf (kept_result keeps) (λ r. EndsNext plan (played + 1) mid r after)
 
   -- what holds of the dossier holds of it still
-  pub kept_still : (P : DossierRows → Type 0) → P old.present.dossier → P mid.present.dossier
-  kept_still = still plan old before played so_far.0 mid between so_far.1
+  pub kept_still : (P : DossierRows → Type 0) → P before.desk.present.dossier → P mid.desk.present.dossier
+  kept_still = still plan before played so_far.0 mid so_far.1
 
   -- one more day
-  pub kept_on : (day : DayRecord) (more : List DayRecord) (new : DeskStates) (after : Lent) → Next new after (Ok day)
+  pub kept_on : (day : DayRecord) (more : List DayRecord) (after : RunMoment) → Next after (Ok day)
       → more ≡ kept ++ day ∷ []
-      → IsKeptOf (map (kept_day keeps)) (λ days. SoFar plan old before (played + 1) days new after) more
-  kept_on day more new after ends more_is =
-      let next = day_kept keeps (λ r. EndsNext plan (played + 1) mid between r new after) day ends in (
+      → IsKeptOf (map (kept_day keeps)) (λ days. SoFar plan before (played + 1) days after) more
+  kept_on day more after ends more_is =
+      let next = day_kept keeps (λ r. EndsNext plan (played + 1) mid r after) day ends in (
         so_far.0 ++ next.0 ∷ [],
-        played_on plan old before played so_far.0 mid between so_far.1 next.0 (so_far.0 ++ next.0 ∷ []) new after
-            next.1 refl,
+        played_on plan before played so_far.0 mid so_far.1 next.0 (so_far.0 ++ next.0 ∷ []) after next.1 refl,
         kept_more (kept_day keeps) so_far.0 next.0 kept more day so_far.2 next.2 more_is,
       )
 
   -- the next day does not come about
-  pub kept_some : (number : ℕ) (refusal : DayRefusal) (new : DeskStates) (after : Lent)
+  pub kept_some : (number : ℕ) (refusal : DayRefusal) (after : RunMoment)
       (r : Result (Unit {0}) DayRefusal) → IsErrAnd r (λ x. x ≡ refusal) → played < number
-      → Next new after (Err refusal) → PlaysDaysKept keeps plan number old before kept r new after
-  kept_some number refusal new after r from fewer ends = record {
+      → Next after (Err refusal) → PlaysDaysKept keeps plan number before kept r after
+  kept_some number refusal after r from fewer ends = record {
     days = so_far.0;
-    plays = plays_some plan old before played so_far.0 mid between so_far.1 number refusal new after r from fewer
-        (refusal_kept keeps (λ r. EndsNext plan (played + 1) mid between r new after) refusal ends);
+    plays = plays_some plan before played so_far.0 mid so_far.1 number refusal after r from fewer
+        (refusal_kept keeps (λ r. EndsNext plan (played + 1) mid r after) refusal ends);
     keeps_so = fit_so r so_far.2;
   }
 
   -- memory runs out after the next day
-  pub kept_out : (number : ℕ) (day : DayRecord) (found : List DayRecord) (new : DeskStates) (after : Lent)
+  pub kept_out : (number : ℕ) (day : DayRecord) (found : List DayRecord) (after : RunMoment)
       (r : Result (Unit {0}) DayRefusal) → IsErrAnd r (λ x. x ≡ refusals.OutOfMemory) → played < number
-      → Next new after (Ok day) → PlaysDaysKept keeps plan number old before found r new after
-  kept_out number day found new after r from fewer ends =
-      let next = day_kept keeps (λ r. EndsNext plan (played + 1) mid between r new after) day ends in
+      → Next after (Ok day) → PlaysDaysKept keeps plan number before found r after
+  kept_out number day found after r from fewer ends =
+      let next = day_kept keeps (λ r. EndsNext plan (played + 1) mid r after) day ends in
       record {
         days = found;
-        plays = plays_out plan old before played so_far.0 mid between so_far.1 number next.0 found new after r from
-            fewer next.1;
+        plays = plays_out plan before played so_far.0 mid so_far.1 number next.0 found after r from fewer next.1;
         keeps_so = out_so _ r from;
       }
 
-  pub kept_all : (number : ℕ) → played ≡ number → PlaysDaysKept keeps plan number old before kept (Ok tt) mid between
+  pub kept_all : (number : ℕ) → played ≡ number → PlaysDaysKept keeps plan number before kept (Ok tt) mid
   kept_all number all = record {
     days = so_far.0;
-    plays = plays_all plan old before played so_far.0 mid between so_far.1 number all;
+    plays = plays_all plan before played so_far.0 mid so_far.1 number all;
     keeps_so = so_far.2;
   }
 
@@ -165,55 +164,67 @@ module _ (keeps : Bool) {plan : Plan} {old mid : DeskStates} {before between : L
 abbrev with_days : Plan → Result DeskLeft Refusal → List DayRecord → Played
 with_days plan end days = record { orders = plan.orders; days = days; end = desk_in end }
 
-abbrev IsAll : Bool → DossierRows → ℕ → Plan → Lent → Lent → List DayRecord → Result DeskLeft Refusal → Type 0
-IsAll keeps d number plan before after kept end =
-    EndsBy plan.orders number (λ played. IsPlayedKept keeps d plan.terms number plan.who before played after) kept end
+abbrev IsAll : Wanted → DayGrounds → Lent → Lent → List DayRecord → Result DeskLeft Refusal → Type 0
+IsAll wanted by before after kept end =
+    EndsBy by.orders wanted.number (λ played. IsPlayedKept wanted by.dossier by.terms before played after) kept end
 
--- what became of the days that were asked for
-module _ (d : DossierRows) {keeps : Bool} {number : ℕ} {plan : Plan} {old new : DeskStates} {before after : Lent}
-    {kept : List DayRecord} {end : Result DeskLeft Refusal}
-    (called : AreCallOrders d.groups plan.orders) (begun : old ≡ first_desk d) where
-  pub all_kept : 0 < number → PlaysDaysKept keeps plan number old before kept (Ok tt) new after
-      → end ≡ Ok (record { desk = new; orders = plan.orders; is_begun = true })
-      → IsAll keeps d number plan before after kept end
+-- how the days that are wanted are run
+abbrev plan_by : Wanted → DayGrounds → Plan
+plan_by wanted by = record { orders = by.orders; terms = by.terms; who = wanted.who }
+
+-- the days that are wanted, from a moment of a run to another
+abbrev PlaysWanted : Wanted → DayGrounds → RunMoment → List DayRecord → Result (Unit {0}) DayRefusal
+    → RunMoment → Type 0
+PlaysWanted wanted by = PlaysDaysKept (are_kept wanted.falls) (plan_by wanted by) wanted.number
+
+-- what became of them
+module _ (wanted : Wanted) {by : DayGrounds} {before after : RunMoment} {kept : List DayRecord}
+    {end : Result DeskLeft Refusal} (called : AreCallOrders by.dossier.groups by.orders)
+    (begun : before.desk ≡ first_desk by.dossier) where
+  pub all_kept : 0 < wanted.number
+      → PlaysWanted wanted by before kept (Ok tt) after
+      → end ≡ Ok (record { desk = after.desk; orders = by.orders; is_begun = true })
+      → IsAll wanted by before.pickers after.pickers kept end
   all_kept some plays is = record {
     plays = (
-      with_days plan end plays.days,
-      all_played d number plan old new before after plays.days (desk_in end) called begun plays.plays (ap desk_in is),
-      ap (with_days plan end) plays.keeps_so,
+      with_days (plan_by wanted by) end plays.days,
+      all_played by.dossier wanted.number (plan_by wanted by) before after plays.days (desk_in end) called begun
+          plays.plays (ap desk_in is),
+      ap (with_days (plan_by wanted by) end) plays.keeps_so,
     );
-    left = subst (λ (e : Result DeskLeft Refusal). IfOk e (IsLeftBy plan.orders number)) (sym is)
-        (record { by_orders = refl; begun = sym (lt-ltb 0 number some) });
+    left = subst (λ (e : Result DeskLeft Refusal). IfOk e (IsLeftBy by.orders wanted.number)) (sym is)
+        (record { by_orders = refl; begun = sym (lt-ltb 0 wanted.number some) });
   }
 
   pub cut_kept : (refusal : Refusal)
-      → PlaysDaysKept keeps plan number old before kept (Err (refusals.Unfit refusal)) new after → end ≡ Err refusal
-      → IsAll keeps d number plan before after kept end
+      → PlaysWanted wanted by before kept (Err (refusals.Unfit refusal)) after
+      → end ≡ Err refusal → IsAll wanted by before.pickers after.pickers kept end
   cut_kept refusal plays is = record {
     plays = (
-      with_days plan end plays.days,
-      cut_short d number plan old new before after plays.days (desk_in end) called begun refusal plays.plays
-          (ap desk_in is),
-      ap (with_days plan end) plays.keeps_so,
+      with_days (plan_by wanted by) end plays.days,
+      cut_short by.dossier wanted.number (plan_by wanted by) before after plays.days (desk_in end) called begun
+          refusal plays.plays (ap desk_in is),
+      ap (with_days (plan_by wanted by) end) plays.keeps_so,
     );
-    left = subst (λ (e : Result DeskLeft Refusal). IfOk e (IsLeftBy plan.orders number)) (sym is) tt;
+    left = subst (λ (e : Result DeskLeft Refusal). IfOk e (IsLeftBy by.orders wanted.number)) (sym is) tt;
   }
 
 -- the desk after days is of the roster's dossier still
-pub along_still : {keeps : Bool} {plan : Plan} {number : ℕ} {old new : DeskStates} {before after : Lent}
-    {kept : List DayRecord} {d : DossierRows} → PlaysDaysKept keeps plan number old before kept (Ok tt) new after
-    → d ≡ old.present.dossier → d ≡ new.present.dossier
-along_still {plan = plan} {old = old} {before = before} plays same =
-    same ∙ sym (lead_dossier plan 1 old before plays.days plays.plays.last plays.plays.lead)
+pub along_still : {keeps : Bool} {plan : Plan} {number : ℕ} {before after : RunMoment} {kept : List DayRecord}
+    {d : DossierRows} → PlaysDaysKept keeps plan number before kept (Ok tt) after
+    → d ≡ before.desk.present.dossier → d ≡ after.desk.present.dossier
+along_still {plan = plan} {before = before} plays same =
+    same
+    ∙ sym (lead_dossier plan 1 before.desk before.pickers plays.days plays.plays.last plays.plays.lead)
     ∙ ap (λ (desk : DeskStates). desk.present.dossier) (sym plays.plays.stops.1)
 
 -- memory ran out on one of the days
-pub breaks_kept : (d : DossierRows) {keeps : Bool} {plan : Plan} {number : ℕ} {old new : DeskStates}
-    {before after : Lent} {kept : List DayRecord} → old ≡ first_desk d
-    → PlaysDaysKept keeps plan number old before kept (Err refusals.OutOfMemory) new after
-    → BreaksDays plan number (first_desk d) before after
+pub breaks_kept : (d : DossierRows) {keeps : Bool} {plan : Plan} {number : ℕ} {before after : RunMoment}
+    {kept : List DayRecord} → before.desk ≡ first_desk d
+    → PlaysDaysKept keeps plan number before kept (Err refusals.OutOfMemory) after
+    → BreaksDays plan number (first_desk d) before.pickers after.pickers
 breaks_kept d {plan = plan} {number = number} {before = before} {after = after} begun plays =
-    subst (λ (desk : DeskStates). BreaksDays plan number desk before after) begun plays.plays.breaks
+    subst (λ (desk : DeskStates). BreaksDays plan number desk before.pickers after.pickers) begun plays.plays.breaks
 
 -- what is said where memory ran out
 pub where_broken : {A E : Type 0} (P : A → Type 0) (Q : E → Type 0) (Breaks : Type 0) (r : Result A E)
@@ -223,14 +234,14 @@ where_broken P Q Breaks (Err e) is breaks = breaks
 
 -- along a roster, by the orders that it was made of
 pub kept_by_orders : {keeps : Bool} {one other : List CallOrder} {terms : Option Terms} {who : PickerChoice}
-    {number : ℕ} {old new : DeskStates} {before after : Lent} {kept : List DayRecord}
-    {result : Result (Unit {0}) DayRefusal} → one ≡ other
-    → PlaysDaysKept keeps (record { orders = one; terms = terms; who = who }) number old before kept result new after
-    → PlaysDaysKept keeps (record { orders = other; terms = terms; who = who }) number old before kept result new after
-kept_by_orders {keeps = keeps} {terms = terms} {who = who} {number = number} {old = old} {new = new} {before = before}
-    {after = after} {kept = kept} {result = result} same plays =
+    {number : ℕ} {before after : RunMoment} {kept : List DayRecord} {result : Result (Unit {0}) DayRefusal}
+    → one ≡ other
+    → PlaysDaysKept keeps (record { orders = one; terms = terms; who = who }) number before kept result after
+    → PlaysDaysKept keeps (record { orders = other; terms = terms; who = who }) number before kept result after
+kept_by_orders {keeps = keeps} {terms = terms} {who = who} {number = number} {before = before} {after = after}
+    {kept = kept} {result = result} same plays =
     subst (λ (orders : List CallOrder).
-    PlaysDaysKept keeps (record { orders = orders; terms = terms; who = who }) number old before kept result new after)
+    PlaysDaysKept keeps (record { orders = orders; terms = terms; who = who }) number before kept result after)
     same plays
 
 -- a run of which no day is asked for
@@ -239,20 +250,19 @@ kept_none keeps played none =
     ap (λ (days : List DayRecord). record { orders = played.orders; days = days; end = played.end })
     (none ∙ ap (map (kept_day keeps)) (sym none))
 
-pub none_played_kept : (keeps : Bool) (d : DossierRows) (orders : List CallOrder) (terms : Option Terms) (number : ℕ)
-    (who : PickerChoice) (before : Lent) (days : List DayRecord) (end : Result DeskLeft Refusal)
-    → AreCallOrders d.groups orders → days ≡ []
-    → end ≡ Ok (record { desk = first_desk d; orders = orders; is_begun = false }) → number ≡ 0
-    → EndsBy orders number (λ played. IsPlayedKept keeps d terms number who before played before) days end
-none_played_kept keeps d orders terms number who before days end called none is zero =
-    let played : Played = record { orders = orders; days = days; end = desk_in end } in
+pub none_played_kept : (wanted : Wanted) (by : DayGrounds) (before : Lent) (days : List DayRecord)
+    (end : Result DeskLeft Refusal) → AreCallOrders by.dossier.groups by.orders → days ≡ []
+    → end ≡ Ok (record { desk = first_desk by.dossier; orders = by.orders; is_begun = false }) → wanted.number ≡ 0
+    → IsAll wanted by before before days end
+none_played_kept wanted by before days end called none is zero =
+    let played : Played = record { orders = by.orders; days = days; end = desk_in end } in
     record {
       plays = (
         played,
-        none_played d terms number who before played called none (ap desk_in is) zero,
-        kept_none keeps played none,
+        none_played by.dossier by.terms wanted.number wanted.who before played called none (ap desk_in is) zero,
+        kept_none (are_kept wanted.falls) played none,
       );
-      left = subst (λ (e : Result DeskLeft Refusal). IfOk e (IsLeftBy orders number)) (sym is)
+      left = subst (λ (e : Result DeskLeft Refusal). IfOk e (IsLeftBy by.orders wanted.number)) (sym is)
           (record { by_orders = refl; begun = ap (nat_lt 0) (sym zero) });
     }
 
@@ -268,18 +278,17 @@ played_whole played =
     ap (λ (days : List DayRecord). record { orders = played.orders; days = days; end = played.end })
     (days_whole played.days)
 
-pub all_whole : {A E : Type 0} (d : DossierRows) (orders : List CallOrder) (terms : Option Terms) (number : ℕ)
-    (who : PickerChoice) (before after : Lent) (days : A → List DayRecord) (end : A → Result DeskLeft Refusal)
-    (Breaks : Type 0) (r : Result A E)
+pub all_whole : {X E : Type 0} (number : ℕ) (who : PickerChoice) (by : DayGrounds) (before after : Lent)
+    (left : X → DaysLeft) (r : Result X E)
+    → EndsWanted (record { number = number; who = who; falls = Kept }) by before after r left
     → MatchResult r
-    (λ p. EndsBy orders number (λ played. IsPlayedKept true d terms number who before played after) (days p) (end p))
-    (λ _. Breaks)
-    → MatchResult r
-    (λ p. EndsBy orders number (λ played. IsPlayed d terms number who before played after) (days p) (end p))
-    (λ _. Breaks)
-all_whole d orders terms number who before after days end Breaks (Ok p) ends = record {
-  plays = subst (λ (played : Played). IsPlayed d terms number who before played after)
+    (λ x. EndsBy by.orders number (λ played. IsPlayed by.dossier by.terms number who before played after)
+    (left x).days (left x).end)
+    (λ _. BreaksDays (record { orders = by.orders; terms = by.terms; who = who }) number (first_desk by.dossier)
+    before after)
+all_whole number who by before after left (Ok x) ends = record {
+  plays = subst (λ (played : Played). IsPlayed by.dossier by.terms number who before played after)
       (sym (played_whole ends.plays.0) ∙ sym ends.plays.2) ends.plays.1;
   left = ends.left;
 }
-all_whole d orders terms number who before after days end Breaks (Err e) breaks = breaks
+all_whole number who by before after left (Err e) breaks = breaks

@@ -5,14 +5,12 @@ use Rattle.admit_core.specs.declared.ranking.CallOrder.{CallOrder}
 use Rattle.admit_core.specs.declared.records.DayRecord.{DayRecord}
 use Rattle.admit_core.specs.declared.records.Terms.{Terms}
 use Rattle.admit_core.specs.declared.refusal.Refusal.{Refusal}
-use Rattle.desk_day.specs.DeskStates.{DeskStates}
 use Rattle.desk_day.specs.KeptDays.{kept_day}
 use Rattle.desk_day.specs.declared.refusal.DayRefusal.{DayRefusal}
-use Rattle.request.specs.declared.pickers.PickerChoice.{PickerChoice}
 use Rattle.round.specs.KeptFalls.{IsKeptOf, are_kept}
 use Rattle.played.specs.LastDesks.{DeskLeft, EndsBy}
 use Rattle.played.specs.Lent.{Lent}
-use Rattle.played.specs.PlayedDays.{BreaksDays, IsPlayed, OnFit, Plan, Played, PlaysDays, first_desk}
+use Rattle.played.specs.PlayedDays.{BreaksDays, IsPlayed, OnFit, Plan, Played, PlaysDays, RunMoment, first_desk}
 use Rattle.played.specs.declared.wanted.Wanted.{Wanted}
 
 -- what was played, with all falls where they are kept, and with none elsewhere
@@ -21,18 +19,17 @@ kept_played keeps played =
     record { orders = played.orders; days = map (kept_day keeps) played.days; end = played.end }
 
 -- days from day 1 on, of which so many are asked for, and what is kept of those that came about
-pub record PlaysDaysKept (keeps : Bool) (plan : Plan) (number : ℕ) (old : DeskStates)
-    (before : Lent) (kept : List DayRecord) (result : Result (Unit {0}) DayRefusal)
-    (new : DeskStates) (after : Lent) : Type 0 where
+pub record PlaysDaysKept (keeps : Bool) (plan : Plan) (number : ℕ) (before : RunMoment)
+    (kept : List DayRecord) (result : Result (Unit {0}) DayRefusal) (after : RunMoment) : Type 0 where
   pub days : List DayRecord
-  pub plays : PlaysDays plan number old before days result new after
+  pub plays : PlaysDays plan number before days result after
   pub keeps_so : OnFit result (kept ≡ map (kept_day keeps) days)
 
--- what became of the days of a dossier, by what is kept of them
-abbrev pub IsPlayedKept : Bool → DossierRows → Option Terms → ℕ → PickerChoice → Lent → Played
-    → Lent → Type 0
-IsPlayedKept keeps d terms number who before kept after =
-    IsKeptOf (kept_played keeps) (λ whole. IsPlayed d terms number who before whole after) kept
+-- what became of the days of a dossier that are asked for, by what is kept of them
+abbrev pub IsPlayedKept : Wanted → DossierRows → Option Terms → Lent → Played → Lent → Type 0
+IsPlayedKept wanted d terms before kept after =
+    IsKeptOf (kept_played (are_kept wanted.falls))
+    (λ whole. IsPlayed d terms wanted.number wanted.who before whole after) kept
 
 -- what the days of a run go by: a dossier, its call orders and the terms of its offers
 pub record DayGrounds : Type 0 where
@@ -52,7 +49,7 @@ abbrev pub EndsWanted : {X E : Type 0} → Wanted → DayGrounds → Lent → Le
 EndsWanted wanted by before after result left =
     MatchResult result
     (λ x. EndsBy by.orders wanted.number
-    (λ played. IsPlayedKept (are_kept wanted.falls) by.dossier by.terms wanted.number wanted.who
-    before played after) (left x).days (left x).end)
+    (λ played. IsPlayedKept wanted by.dossier by.terms before played after)
+    (left x).days (left x).end)
     (λ _. BreaksDays (record { orders = by.orders; terms = by.terms; who = wanted.who })
     wanted.number (first_desk by.dossier) before after)

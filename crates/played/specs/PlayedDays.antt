@@ -27,6 +27,11 @@ pub record Plan : Type 0 where
   pub terms : Option Terms
   pub who : PickerChoice
 
+-- a moment of a run: its desk, and how its pickers stand
+pub record RunMoment : Type 0 where
+  pub desk : DeskStates
+  pub pickers : Lent
+
 -- a desk, and how the picker of day d stands beside it
 abbrev pub moment_of : Plan → ℕ → DeskStates → Lent → Moment
 moment_of plan d desk lent = record {
@@ -62,14 +67,15 @@ abbrev pub TellWhereUndone : Plan → ℕ → DeskStates → Lent → Lent → D
 TellWhereUndone plan d old before after (refusals.Unfit refusal) = Untold before after
 TellWhereUndone plan d old before after refusals.OutOfMemory = BreaksDay plan d old before after
 
--- how day d ends, on a desk and with the pickers of a run
-pub record EndsNext (plan : Plan) (d : ℕ) (old : DeskStates) (before : Lent)
-    (result : Result DayRecord DayRefusal) (new : DeskStates) (after : Lent) : Type 0 where
-  pub done : IfOk result (λ day. IsNext plan d old before day new)
-  pub told : IfOk result (λ day. Told plan.who (day ∷ []) before after)
-  pub unfit : IfErr result (IsUnfitOf old.present.dossier d (unfit_on plan.terms d old.present))
-  pub undone : IfErr result (TellWhereUndone plan d old before after)
-  pub back : AreBack before after
+-- how day d ends, from a moment of a run to the next
+pub record EndsNext (plan : Plan) (d : ℕ) (before : RunMoment) (result : Result DayRecord DayRefusal)
+    (after : RunMoment) : Type 0 where
+  pub done : IfOk result (λ day. IsNext plan d before.desk before.pickers day after.desk)
+  pub told : IfOk result (λ day. Told plan.who (day ∷ []) before.pickers after.pickers)
+  pub unfit : IfErr result
+      (IsUnfitOf before.desk.present.dossier d (unfit_on plan.terms d before.desk.present))
+  pub undone : IfErr result (TellWhereUndone plan d before.desk before.pickers after.pickers)
+  pub back : AreBack before.pickers after.pickers
 
 -- days from day d on lead from one desk to another
 abbrev pub Lead : Plan → ℕ → DeskStates → Lent → List DayRecord → DeskStates → Type 0
@@ -124,17 +130,16 @@ StopsAfter plan number days last new (Err (refusals.Unfit refusal)) =
     IsCutShort plan.terms number days last.present refusal
 StopsAfter plan number days last new (Err refusals.OutOfMemory) = ⊤
 
--- days from day 1 on, of which so many are asked for
-pub record PlaysDays (plan : Plan) (number : ℕ) (old : DeskStates) (before : Lent)
-    (days : List DayRecord) (result : Result (Unit {0}) DayRefusal) (new : DeskStates)
-    (after : Lent) : Type 0 where
+-- days from day 1 on, of which so many are asked for, from a moment of a run to another
+pub record PlaysDays (plan : Plan) (number : ℕ) (before : RunMoment) (days : List DayRecord)
+    (result : Result (Unit {0}) DayRefusal) (after : RunMoment) : Type 0 where
   pub last : DeskStates
-  pub lead : OnFit result (Lead plan 1 old before days last)
-  pub stops : StopsAfter plan number days last new result
-  pub told : OnFit result (Told plan.who days before after)
-  pub breaks : OnLack result (BreaksDays plan number old before after)
-  pub back : AreBack before after
-  pub idle : number ≡ 0 → Untold before after
+  pub lead : OnFit result (Lead plan 1 before.desk before.pickers days last)
+  pub stops : StopsAfter plan number days last after.desk result
+  pub told : OnFit result (Told plan.who days before.pickers after.pickers)
+  pub breaks : OnLack result (BreaksDays plan number before.desk before.pickers after.pickers)
+  pub back : AreBack before.pickers after.pickers
+  pub idle : number ≡ 0 → Untold before.pickers after.pickers
 
 -- the desk on which a campaign begins
 abbrev pub first_desk : DossierRows → DeskStates

@@ -69,13 +69,13 @@ fn run_lent(
         (DayEndsWith roster.now.orders (option_copied terms.entry) day
         (record {
           desk = desk.old;
-          told = told_in (λ p. told p) place.old;
-          choice = choice_in (λ p. choice p) place.old;
+          told = told_in told place.old;
+          choice = choice_in choice place.old;
         })
         (record {
           desk = desk.new;
-          told = told_in (λ p. told p) place.new;
-          choice = choice_in (λ p. choice p) place.new;
+          told = told_in told place.new;
+          choice = choice_in choice place.new;
         })) result }
 {
     let Some(mut picker) = place.take() else {
@@ -108,8 +108,8 @@ pub(crate) fn next_day(
           terms = option_copied terms.entry;
           who = wanted.who;
         }) day
-        desk.old (lent (λ p. told p) (λ p. choice p) pickers.old) whole
-        desk.new (lent (λ p. told p) (λ p. choice p) pickers.new)) result }
+        (record { desk = desk.old; pickers = lent told choice pickers.old }) whole
+        (record { desk = desk.new; pickers = lent told choice pickers.new })) result }
 {
     let falls = wanted.falls;
     match picker_on(wanted.who, day) {

@@ -59,8 +59,9 @@ fn play_days(
           terms = option_copied terms.entry;
           who = wanted.who;
         }) wanted.number
-        desk.old (lent (λ p. told p) (λ p. choice p) pickers.old) days.new.items result
-        desk.new (lent (λ p. told p) (λ p. choice p) pickers.new) }
+        (record { desk = desk.old; pickers = lent told choice pickers.old })
+        days.new.items result
+        (record { desk = desk.new; pickers = lent told choice pickers.new }) }
 {
     for played in 0..wanted.number {
         let day = next_day(alloc, desk, roster, terms, wanted, played + 1, pickers)?;
@@ -102,16 +103,14 @@ fn play_some<'a, 'd>(
     requires there { AreThere pickers.old }
 
     ensures there { AreThere pickers.new }
-    ensures back { AreBack (lent (λ p. told p) (λ p. choice p) pickers.old)
-        (lent (λ p. told p) (λ p. choice p) pickers.new) }
+    ensures back { AreBack (lent told choice pickers.old) (lent told choice pickers.new) }
     ensures ends { EndsWanted wanted
         (record {
           dossier = dossier.now;
           orders = orders.now.orders;
           terms = option_copied terms.entry;
         })
-        (lent (λ p. told p) (λ p. choice p) pickers.old)
-        (lent (λ p. told p) (λ p. choice p) pickers.new)
+        (lent told choice pickers.old) (lent told choice pickers.new)
         result (λ p. record { days = p.days.items; end = p.end }) }
 {
     let (mut desk, roster) = DeskAlong::begin(alloc, dossier, orders)?.into_parts();
@@ -147,22 +146,20 @@ pub fn play<'a, 'd>(
     requires there { AreThere pickers.old }
 
     ensures there { AreThere pickers.new }
-    ensures back { AreBack (lent (λ p. told p) (λ p. choice p) pickers.old)
-        (lent (λ p. told p) (λ p. choice p) pickers.new) }
-    ensures idle { number ≡ 0 → IsUnasked (lent (λ p. told p) (λ p. choice p) pickers.old)
-        (lent (λ p. told p) (λ p. choice p) pickers.new) result }
+    ensures back { AreBack (lent told choice pickers.old) (lent told choice pickers.new) }
+    ensures idle { number ≡ 0 → IsUnasked (lent told choice pickers.old)
+        (lent told choice pickers.new) result }
     ensures ends { MatchResult result
         (λ p. EndsBy orders.now.orders number
         (λ played. IsPlayed dossier.now (option_copied terms.entry) number who
-        (lent (λ p. told p) (λ p. choice p) pickers.old) played
-        (lent (λ p. told p) (λ p. choice p) pickers.new)) p.days.items p.end)
+        (lent told choice pickers.old) played
+        (lent told choice pickers.new)) p.days.items p.end)
         (λ _. BreaksDays (record {
           orders = orders.now.orders;
           terms = option_copied terms.entry;
           who = who;
         }) number (first_desk dossier.now)
-        (lent (λ p. told p) (λ p. choice p) pickers.old)
-        (lent (λ p. told p) (λ p. choice p) pickers.new)) }
+        (lent told choice pickers.old) (lent told choice pickers.new)) }
 {
     let wanted = Wanted {
         number,
@@ -188,18 +185,16 @@ pub fn play_wanted<'a, 'd>(
     requires there { AreThere pickers.old }
 
     ensures there { AreThere pickers.new }
-    ensures back { AreBack (lent (λ p. told p) (λ p. choice p) pickers.old)
-        (lent (λ p. told p) (λ p. choice p) pickers.new) }
-    ensures idle { wanted.number ≡ 0 → IsUnasked (lent (λ p. told p) (λ p. choice p) pickers.old)
-        (lent (λ p. told p) (λ p. choice p) pickers.new) result }
+    ensures back { AreBack (lent told choice pickers.old) (lent told choice pickers.new) }
+    ensures idle { wanted.number ≡ 0 → IsUnasked (lent told choice pickers.old)
+        (lent told choice pickers.new) result }
     ensures ends { EndsWanted wanted
         (record {
           dossier = dossier.now;
           orders = orders.now.orders;
           terms = option_copied terms.entry;
         })
-        (lent (λ p. told p) (λ p. choice p) pickers.old)
-        (lent (λ p. told p) (λ p. choice p) pickers.new)
+        (lent told choice pickers.old) (lent told choice pickers.new)
         result (λ p. record { days = p.days.items; end = p.end }) }
 {
     if wanted.number == 0 {

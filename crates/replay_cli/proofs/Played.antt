@@ -1,6 +1,6 @@
 -- A job's days, and how the run ends after them.
-use Rattle.std.proofs.Common.{◌≡◌, ◌∙◌, ℕ, ◌+◌, Bool, List, [], ◌∷◌, Option, None, Some, Result, Ok, Err, IfOk, IfSome}
-use Rattle.std.proofs.Common.{IsSomeAnd, IsTrue, ap, inl, inr, option_map, refl, subst, sym, true}
+use Rattle.std.proofs.Common.{◌≡◌, ◌∙◌, ℕ, ◌+◌, List, [], ◌∷◌, Option, None, Some, Result, Ok, Err, IfOk, IfSome}
+use Rattle.std.proofs.Common.{IsSomeAnd, IsTrue, ap, inl, inr, option_map, refl, subst, sym}
 use Rattle.std.specs.Prelude.{MatchResult, is_some, not}
 use Rattle.std.proofs.lemmas.Bool.{cases_Bool, false≢true}
 use Rattle.admit_core.specs.CallOrder.{AreCallOrders}
@@ -25,8 +25,8 @@ use Rattle.modes.specs.Endings.{AreDaysOf, BreaksJob, CanEnd, EndsAfter, EndsWit
 use Rattle.modes.proofs.KeptEnds.{ends_after_whole}
 use Rattle.modes.proofs.CheckedExits.{IsAfterDays, check_done, check_exit, is_after}
 use Rattle.modes.specs.Checking.{CanBeDone, HandsInProof}
-use Rattle.modes.specs.Jobs.{AreDays, IsIdle, JobView, dated_of, days_of, deadlines_of, dossier, keeps_falls}
-use Rattle.modes.specs.Jobs.{picker_after, view_of, seen_of, terms_of}
+use Rattle.modes.specs.Jobs.{AreDays, IsIdle, JobView, dated_of, days_of, deadlines_of, dossier, falls_of}
+use Rattle.modes.specs.Jobs.{picker_after, view_of, seen_of, terms_of, wanted_of, wanted_with}
 use Rattle.modes.specs.declared.exit.Exit.{Exit}
 use Rattle.modes.specs.declared.exit.Exit.TheVariants as exits
 use Rattle.modes.specs.declared.reply.Reply.{Reply}
@@ -37,13 +37,15 @@ use Rattle.played.specs.LastDesks.{DeskLeft, IsLeftBy}
 use Rattle.played.specs.Lent.{Lent, Untold}
 use Rattle.played.specs.PlayedDays as PlayedDays
 use Rattle.played.specs.PlayedDays.{BreaksDays, IsPlayed, Lead, Plan, Played, first_desk, lent_after}
+use Rattle.played.specs.declared.wanted.Wanted.{Wanted}
 use Rattle.request.specs.Modes.{runs_days, sample_of}
 use Rattle.request.specs.Request.{IsDeadlines, IsRequest}
 use Rattle.request.specs.declared.modes.Mode.{Mode}
 use Rattle.request.specs.declared.modes.Mode.TheVariants as modes
-use Rattle.request.specs.declared.pickers.PickerChoice.{PickerChoice}
 use Rattle.request.specs.declared.pickers.PickerName.{PickerName}
 use Rattle.request.specs.declared.request.Request.{Request}
+use Rattle.round.specs.declared.falls.Falls.{Falls}
+use Rattle.round.specs.declared.falls.Falls.TheVariants.{Kept}
 
 pub deadlines_known : (request : Request) → IsRequest request → IfSome (deadlines_of request) IsDeadlines
 deadlines_known request is =
@@ -128,25 +130,23 @@ module _ (job : Job) (request : Request) (d : DossierRows) (ids : Ids) (chain : 
   }))
 
   -- memory ran out on one of the days
-  pub job_stops : (orders : List CallOrder) (terms : Option Terms) (number : ℕ) (who : PickerChoice)
-      (before after : Lent) → AreCallOrders d.groups orders → terms ≡ terms_in dated → number ≡ days_of request
-      → who ≡ request.picker
-      → BreaksDays (record { orders = orders; terms = terms; who = who }) number (first_desk d) before after
+  pub job_stops : (orders : List CallOrder) (terms : Option Terms) (wanted : Wanted) (before after : Lent)
+      → AreCallOrders d.groups orders → terms ≡ terms_in dated → wanted ≡ wanted_of request
+      → BreaksDays (record { orders = orders; terms = terms; who = wanted.who }) wanted.number (first_desk d)
+      before after
       → BreaksJob job before after
-  job_stops orders terms number who before after called terms_are number_is who_is breaks =
-      let P : Option Terms → PickerChoice → ℕ → DossierRows → Type 0 =
-      λ t w n e.
-      BreaksDays (record { orders = orders; terms = t; who = w }) n (first_desk e) before after in
-      let w = request.picker in
+  job_stops orders terms wanted before after called terms_are wanted_is breaks =
+      let P : Option Terms → Wanted → DossierRows → Type 0 =
+      λ t w e.
+      BreaksDays (record { orders = orders; terms = t; who = w.who }) w.number (first_desk e) before after in
       inr (inl (record {
         orders = orders;
         called = subst (λ (e : DossierRows). AreCallOrders e.groups orders) same called;
-        breaks = subst (λ (q : Request). P (terms_of job) q.picker (days_of q) (dossier job)) (sym asked)
-            (subst (λ (t : Option Terms). P t w (days_of request) (dossier job))
+        breaks = subst (λ (q : Request). P (terms_of job) (wanted_of q) (dossier job)) (sym asked)
+            (subst (λ (t : Option Terms). P t (wanted_of request) (dossier job))
             (terms_are ∙ ap (λ (x : Option DatedTerms). terms_in x) dated_job)
-            (subst (λ (p : PickerChoice). P terms p (days_of request) (dossier job)) who_is
-            (subst (λ (n : ℕ). P terms who n (dossier job)) number_is
-            (subst (λ (e : DossierRows). P terms who number e) same breaks))));
+            (subst (λ (w : Wanted). P terms w (dossier job)) wanted_is
+            (subst (λ (e : DossierRows). P terms wanted e) same breaks)));
       }))
 
 -- the plain days of a campaign
@@ -216,25 +216,25 @@ by_orders orders number (Ok last) is = is.by_orders
 by_orders orders number (Err refusal) is = tt
 
 -- what an ending rests on, by what is kept of the days of a request
-ends_kept : (request : Request) (input : Input) (dated given : Option DatedTerms) (keeps : Bool)
+ends_kept : (request : Request) (input : Input) (dated given : Option DatedTerms) (falls : Falls)
     (before between : Lent) (kept : Played) → IsRequest request → dated ≡ given
     → IfSome given (AreDatedFor input.dossier) → NamesIn request.mode input.index → input.index ≡ ids_in input.dossier
-    → IsPlayedKept keeps input.dossier (terms_in dated) (days_of request) request.picker before kept between
+    → IsPlayedKept (wanted_with request falls) input.dossier (terms_in dated) before kept between
     → CanEnd (view_of request input dated) kept
-ends_kept request input dated given keeps before between kept known same is named indexed plays = record {
+ends_kept request input dated given falls before between kept known same is named indexed plays = record {
   request = known;
   dated = subst (λ (x : Option DatedTerms). IfSome x (AreDatedFor input.dossier)) (sym same) is;
   named = named;
   index = indexed;
-  keeps = keeps;
+  falls = falls;
   before = before;
   after = between;
   plays = plays;
 }
 
 -- the days of a request, as they were played over its input, with all their falls
-module _ (request : Request) (known : IsRequest request) (input : Input) (dated given : Option DatedTerms)
-    (terms : Option Terms) (number : ℕ) (before between : Lent) (played : Played) (same : dated ≡ given)
+module _ (request : Request) (known : IsRequest request) (input : Input) {dated given : Option DatedTerms}
+    {terms : Option Terms} {number : ℕ} {before between : Lent} {played : Played} (same : dated ≡ given)
     (is : IfSome given (AreDatedFor input.dossier)) (terms_are : terms ≡ terms_in dated)
     (number_is : number ≡ days_of request)
     (plays : IsPlayed input.dossier terms number request.picker before played between) where
@@ -247,7 +247,7 @@ module _ (request : Request) (known : IsRequest request) (input : Input) (dated 
   pub can_end : NamesIn request.mode input.index → input.index ≡ ids_in input.dossier
       → CanEnd (view_of request input dated) played
   can_end named indexed =
-      ends_kept request input dated given true before between played known same is named indexed
+      ends_kept request input dated given Kept before between played known same is named indexed
       (played, asked_days, sym (played_whole played))
 
   pub reply_ends : {E : Type 0} (after : Lent) (result : Result Reply E) (job : Job)
@@ -266,29 +266,20 @@ module _ (request : Request) (known : IsRequest request) (input : Input) (dated 
       reply.text.items asked_days (record { ends = ends.ends; tells = ends.tells; lends = ends.lends })
 
 -- the same where the falls of the days are kept if the mode tells them
-module _ (request : Request) (known : IsRequest request) (input : Input) (dated given : Option DatedTerms)
-    (terms : Option Terms) (number : ℕ) (who : PickerChoice) (keeps : Bool) (before between : Lent) (kept : Played)
-    (same : dated ≡ given)
+module _ (request : Request) (known : IsRequest request) (input : Input) {dated given : Option DatedTerms}
+    {terms : Option Terms} {wanted : Wanted} {before between : Lent} {kept : Played} (same : dated ≡ given)
     (is : IfSome given (AreDatedFor input.dossier)) (terms_are : terms ≡ terms_in dated)
-    (number_is : number ≡ days_of request) (who_is : who ≡ request.picker)
-    (falls_are : keeps ≡ keeps_falls request.mode)
-    (plays : IsPlayedKept keeps input.dossier terms number who before kept between) where
-  kept_days : IsPlayedKept (keeps_falls request.mode) input.dossier (terms_in dated) (days_of request) request.picker
-      before kept between
+    (wanted_is : wanted ≡ wanted_of request)
+    (plays : IsPlayedKept wanted input.dossier terms before kept between) where
+  kept_days : IsPlayedKept (wanted_of request) input.dossier (terms_in dated) before kept between
   kept_days =
-      subst (λ (k : Bool). IsPlayedKept k input.dossier (terms_in dated) (days_of request) request.picker before kept
-      between) falls_are
-      (subst (λ (p : PickerChoice). IsPlayedKept keeps input.dossier (terms_in dated) (days_of request)
-      p before kept between) who_is
-      (subst (λ (n : ℕ). IsPlayedKept keeps input.dossier (terms_in dated) n who before kept
-      between) number_is
-      (subst (λ (t : Option Terms). IsPlayedKept keeps input.dossier t number who before kept
-      between) terms_are plays)))
+      subst (λ (w : Wanted). IsPlayedKept w input.dossier (terms_in dated) before kept between) wanted_is
+      (subst (λ (t : Option Terms). IsPlayedKept wanted input.dossier t before kept between) terms_are plays)
 
   pub can_end_kept : NamesIn request.mode input.index → input.index ≡ ids_in input.dossier
       → CanEnd (view_of request input dated) kept
   can_end_kept named indexed =
-      ends_kept request input dated given (keeps_falls request.mode) before between kept known same is named indexed
+      ends_kept request input dated given (falls_of request.mode) before between kept known same is named indexed
       kept_days
 
   pub reply_ends_kept : {E : Type 0} (after : Lent) (result : Result Reply E) (job : Job)
@@ -298,25 +289,25 @@ module _ (request : Request) (known : IsRequest request) (input : Input) (dated 
       → MatchResult result (λ reply. IsEnding job before after reply.exit reply.text.items)
       (λ _. BreaksJob job before after)
   reply_ends_kept after result job given_is is_job is_input ends =
-      reply_ends request known input dated given (terms_in dated) (days_of request) before between kept_days.0 same is
-      refl refl kept_days.1 after result job given_is is_job is_input
+      reply_ends request known input same is refl refl kept_days.1 after result job given_is is_job is_input
       (ends_after_whole (view_of request input dated) kept kept_days.0 between after result kept_days.2 ends)
 
 -- memory ran out before the days, or on one of them
 pub breaks_untold : (job : Job) (before : Lent) → BreaksJob job before before
 breaks_untold job before = inl (λ name. refl)
 
-pub stops_so : (request : Request) (input : Input) (dated given : Option DatedTerms) (job : Job)
-    (orders : List CallOrder) (terms : Option Terms) (number : ℕ) (who : PickerChoice) (before after : Lent)
+pub stops_so : (request : Request) (input : Input) {dated given : Option DatedTerms} (job : Job)
+    (orders : List CallOrder) {terms : Option Terms} {wanted : Wanted} {before after : Lent}
     → IsJobOf request job → IsInputOf job input → dated ≡ given
     → given ≡ option_map (dated_from input.dossier input.dates) (deadlines_of request)
-    → AreCallOrders input.dossier.groups orders → terms ≡ terms_in dated → number ≡ days_of request
-    → who ≡ request.picker
-    → BreaksDays (record { orders = orders; terms = terms; who = who }) number (first_desk input.dossier) before after
+    → AreCallOrders input.dossier.groups orders → terms ≡ terms_in dated → wanted ≡ wanted_of request
+    → BreaksDays (record { orders = orders; terms = terms; who = wanted.who }) wanted.number
+    (first_desk input.dossier) before after
     → BreaksJob job before after
-stops_so request input dated given job orders terms number who before after is_job is_input same given_is =
+stops_so request input {dated = dated} job orders {terms = terms} {wanted = wanted} {before = before}
+    {after = after} is_job is_input same given_is =
     job_stops job request input.dossier input.index input.chain input.dates dated is_job.request is_input.dossier
-    is_input.index is_input.chain is_input.dates (same ∙ given_is) orders terms number who before after
+    is_input.index is_input.chain is_input.dates (same ∙ given_is) orders terms wanted before after
 
 -- a run that asks no picker, on its days or after them; told is what the pickers had told before it
 pub untold_idle : (request : Request) (told : PickerName → List ℕ) (between after : Lent)

@@ -12,8 +12,8 @@ ghost use Rattle.request.specs.Request.{IsRequest};
 use admit_core::OutOfMemory;
 use call_order::call_orders;
 use intake::{Input, Stop, dated_terms, take_in};
-use modes::{Reply, StopLine, days_of, deadlines_of, ending, falls_of, stopped, terms_in};
-use played::{Pickers, Wanted, play_wanted};
+use modes::{Reply, StopLine, deadlines_of, ending, stopped, terms_in, wanted_of};
+use played::{Pickers, play_wanted};
 use request::{Request, read_request};
 use slot_io::Shelf;
 use std::alloc::Global;
@@ -43,31 +43,23 @@ fn play_out(
     requires there { AreThere pickers.old }
 
     ensures there { AreThere pickers.new }
-    ensures back { AreBack (standing (λ p. told p) (λ p. choice p) pickers.old)
-        (standing (λ p. told p) (λ p. choice p) pickers.new) }
-    ensures idle { IsIdle request.now → Untold (standing (λ p. told p) (λ p. choice p) pickers.old)
-        (standing (λ p. told p) (λ p. choice p) pickers.new) }
+    ensures back { AreBack (standing told choice pickers.old) (standing told choice pickers.new) }
+    ensures idle { IsIdle request.now → Untold (standing told choice pickers.old)
+        (standing told choice pickers.new) }
     ensures ends { (job : Job) → IsJobOf request.now job → IsInputOf job input.now
         → MatchResult result
         (λ reply. IsEnding job
-        (standing (λ p. told p) (λ p. choice p) pickers.old)
-        (standing (λ p. told p) (λ p. choice p) pickers.new)
+        (standing told choice pickers.old) (standing told choice pickers.new)
         reply.exit reply.text.items)
         (λ _. BreaksJob job
-        (standing (λ p. told p) (λ p. choice p) pickers.old)
-        (standing (λ p. told p) (λ p. choice p) pickers.new)) }
+        (standing told choice pickers.old) (standing told choice pickers.new)) }
 {
     let dated = dated_terms(alloc, input, deadlines_of(request))?;
     let dated = dated.as_ref();
-    let wanted = Wanted {
-        number: days_of(request),
-        who: request.picker,
-        falls: falls_of(request.mode),
-    };
-    let terms = terms_in(dated);
     let dossier = &input.dossier;
     let orders = call_orders(alloc, dossier.groups.as_slice())?;
-    let played = play_wanted(alloc, dossier, &orders, terms, wanted, pickers)?;
+    let terms = terms_in(dated);
+    let played = play_wanted(alloc, dossier, &orders, terms, wanted_of(request), pickers)?;
     ending(alloc, request, input, dated, &orders, played, pickers)
 }
 
@@ -82,8 +74,7 @@ pub(crate) fn answer<S: Shelf>(
     ensures there { AreThere pickers.new }
     ensures replies { Replies (map string_bytes words.now)
         (on_shelf S.left S.taken S.faults shelf.old) (on_shelf S.left S.taken S.faults shelf.new)
-        (standing (λ p. told p) (λ p. choice p) pickers.old)
-        (standing (λ p. told p) (λ p. choice p) pickers.new) result }
+        (standing told choice pickers.old) (standing told choice pickers.new) result }
 {
     let line = StopLine::new(alloc)?;
     match take(alloc, words, shelf) {

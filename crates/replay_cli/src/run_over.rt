@@ -53,12 +53,12 @@ pub fn run<S: Shelf, K: Sink>(
         (record {
           shelf = on_shelf S.left S.taken S.faults shelf.old;
           sink = at_sink K.held K.faults sink.old;
-          pickers = standing (λ p. told p) (λ p. choice p) pickers.old;
+          pickers = standing told choice pickers.old;
         })
         (record {
           shelf = on_shelf S.left S.taken S.faults shelf.new;
           sink = at_sink K.held K.faults sink.new;
-          pickers = standing (λ p. told p) (λ p. choice p) pickers.new;
+          pickers = standing told choice pickers.new;
         })
         result }
     ensures hides { HidesNone K.may_lack

@@ -1,12 +1,11 @@
 //! The one run of a program, with new pickers.
-ghost use Rattle.std.specs.Prelude.{◌≡◌, ℕ, List, [], IfOk, IsErr, IsErrAnd, OnErr, Some, map, option_map, string_bytes};
+ghost use Rattle.std.specs.Prelude.{◌≡◌, ℕ, List, IfOk, IsErr, IsErrAnd, OnErr, map, string_bytes};
 ghost use Rattle.std.specs.Process.{exit_status};
-ghost use Rattle.bar_fixpoint.specs.Choices.{first_of, last_of, turn_of};
 ghost use Rattle.intake.specs.Shelves.{on_shelf};
 ghost use Rattle.modes.specs.declared.exit.Exit.{Exit};
 ghost use Rattle.played.specs.Lent.{AreThere, standing};
 ghost use Rattle.replay_cli.specs.Run.{Around, HidesNone, at_sink};
-ghost use Rattle.replay_cli.specs.Start.{IsNewRun, IsUntouched, LacksMemory, Starts};
+ghost use Rattle.replay_cli.specs.Start.{AreNew, IsNewRun, IsUntouched, LacksMemory, Starts};
 ghost use Rattle.replay_cli.specs.Words.{IsLack, words_in};
 
 use crate::words::words_of;
@@ -37,12 +36,12 @@ pub trait Program {
             (record {
               shelf = on_shelf S.left S.taken S.faults shelf.old;
               sink = at_sink K.held K.faults sink.old;
-              pickers = standing (λ p. told p) (λ p. choice p) pickers.old;
+              pickers = standing told choice pickers.old;
             })
             (record {
               shelf = on_shelf S.left S.taken S.faults shelf.new;
               sink = at_sink K.held K.faults sink.new;
-              pickers = standing (λ p. told p) (λ p. choice p) pickers.new;
+              pickers = standing told choice pickers.new;
             })
             result }
         ensures hides { HidesNone K.may_lack
@@ -75,15 +74,8 @@ fn run_with_new<P: Program, S: Shelf, K: Sink>(
     sink: &mut K,
     pickers: &mut Pickers,
 ) -> Exit
-    requires first { option_map (λ p. told (p.vtable, p.value)) pickers.old.first ≡ Some [] }
-    requires last { option_map (λ p. told (p.vtable, p.value)) pickers.old.last ≡ Some [] }
-    requires turn { option_map (λ p. told (p.vtable, p.value)) pickers.old.turn ≡ Some [] }
-    requires first_of { option_map (λ p. choice (p.vtable, p.value)) pickers.old.first
-        ≡ Some (λ told places. first_of places) }
-    requires last_of { option_map (λ p. choice (p.vtable, p.value)) pickers.old.last
-        ≡ Some (λ told places. last_of places) }
-    requires turn_of { option_map (λ p. choice (p.vtable, p.value)) pickers.old.turn
-        ≡ Some turn_of }
+    requires there { AreThere pickers.old }
+    requires new { AreNew (standing told choice pickers.old) }
     ensures { IsNewRun (P.is_run (map string_bytes words.now)) K.may_lack
         (on_shelf S.left S.taken S.faults shelf.old) (on_shelf S.left S.taken S.faults shelf.new)
         (at_sink K.held K.faults sink.old) (at_sink K.held K.faults sink.new) result }

@@ -10,7 +10,7 @@ use Rattle.morning_cli.proofs.answer.play_out.Goals as goal
 
 pub ending-requires-clause-can : goal.ending-requires-clause-can
 ending-requires-clause-can g c =
-    can c.args.asked.now c.requires.asked c.args.input.now _ _ _ _ _ _ _ c.as_ref-dated.ensures.value
+    can c.args.asked.now c.requires.asked c.args.input.now c.as_ref-dated.ensures.value
     c.in_ok-dated.ensures.dates c.terms_in.ensures c.days_of-number.ensures c.in_ok-played.ensures.ends.plays
     c.requires.indexed
 
@@ -25,7 +25,7 @@ returns-then-is_err-clause-back g c =
 pub returns-then-is_err-clause-ends : goal.returns-then-is_err-clause-ends
 returns-then-is_err-clause-ends g c =
     λ job is_job is_input.
-    ends_refused c.args.asked.now c.requires.asked c.args.input.now _ _ _ _ _ _ _ c.as_ref-dated.ensures.value
+    ends_refused c.args.asked.now c.requires.asked c.args.input.now c.as_ref-dated.ensures.value
     c.in_ok-dated.ensures.dates c.terms_in.ensures c.days_of-number.ensures c.in_ok-played.ensures.ends.plays
     c.requires.indexed job is_job is_input (c.in_ok-dated.ensures.value
     ∙ ap (option_map (dated_from c.args.input.now.dossier c.args.input.now.dates)) c.deadlines_of.ensures) _
@@ -35,14 +35,14 @@ returns-then-is_err-clause-ends g c =
 pub morning_after-requires-clause-dates : goal.morning_after-requires-clause-dates
 morning_after-requires-clause-dates g c =
     on_desk c.in_ok-played.played.end (λ desk. CanBeDated (option_copied c.as_ref-dated.result) desk.present)
-    (offers_dated c.args.asked.now c.requires.asked c.args.input.now _ _ _ _ _ _ _ c.as_ref-dated.ensures.value
+    (offers_dated c.args.asked.now c.requires.asked c.args.input.now c.as_ref-dated.ensures.value
     c.in_ok-dated.ensures.dates c.terms_in.ensures c.days_of-number.ensures c.in_ok-played.ensures.ends.plays
     c.requires.indexed (desk_in c.in_ok-played.played.end) refl)
 
 pub returns-clause-ends : goal.returns-clause-ends
 returns-clause-ends g c =
     λ job is_job is_input.
-    ends_morning c.args.asked.now c.requires.asked c.args.input.now _ _ _ _ _ _ _ c.as_ref-dated.ensures.value
+    ends_morning c.args.asked.now c.requires.asked c.args.input.now c.as_ref-dated.ensures.value
     c.in_ok-dated.ensures.dates c.terms_in.ensures c.days_of-number.ensures c.in_ok-played.ensures.ends.plays
     c.requires.indexed job is_job is_input (c.in_ok-dated.ensures.value
     ∙ ap (option_map (dated_from c.args.input.now.dossier c.args.input.now.dates)) c.deadlines_of.ensures)

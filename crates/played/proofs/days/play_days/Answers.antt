@@ -6,7 +6,7 @@ use Rattle.played.proofs.KeptDays.{kept_all, kept_on, kept_out, kept_some, kept_
 use Rattle.played.proofs.days.play_days.Goals as goal
 
 pub loop-played-init : goal.loop-played-init
-loop-played-init g c = record { so_far = none_kept _ _ _ _ _ c.requires.none; there = c.requires.there }
+loop-played-init g c = record { so_far = none_kept _ _ _ _ c.requires.none; there = c.requires.there }
 
 pub next_day-requires-clause-roster : goal.next_day-requires-clause-roster
 next_day-requires-clause-roster g c =
@@ -23,20 +23,19 @@ next_day-requires-clause-there g c = c.loop-played.invariant.there
 
 pub returns-in_err-day-clause-plays : goal.returns-in_err-day-clause-plays
 returns-in_err-day-clause-plays g c =
-    kept_some _ c.loop-played.invariant.so_far c.args.wanted.number c.in_err-day.field-0.0 _ _
+    kept_some _ c.loop-played.invariant.so_far c.args.wanted.number c.in_err-day.field-0.0 _
     c.from_residual.result c.from_residual.ensures.1 c.loop-played-test.true
     c.in_err-day.ensures.ends
 
 pub returns-in_err-keep-clause-plays : goal.returns-in_err-keep-clause-plays
 returns-in_err-keep-clause-plays g c =
-    kept_out _ c.loop-played.invariant.so_far c.args.wanted.number c.in_ok-day.day _ _ _
+    kept_out _ c.loop-played.invariant.so_far c.args.wanted.number c.in_ok-day.day _ _
     c.from_residual-in_err-keep.result c.from_residual-in_err-keep.ensures.1
     c.loop-played-test.true c.in_ok-day.ensures.ends
 
 pub loop-played-preserved : goal.loop-played-preserved
 loop-played-preserved g c = record {
-  so_far = kept_on _ c.loop-played.invariant.so_far c.in_ok-day.day _ _ _ c.in_ok-day.ensures.ends
-      c.in_ok-keep.ensures;
+  so_far = kept_on _ c.loop-played.invariant.so_far c.in_ok-day.day _ _ c.in_ok-day.ensures.ends c.in_ok-keep.ensures;
   there = c.in_ok-day.ensures.there;
 }
 

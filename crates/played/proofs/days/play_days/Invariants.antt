@@ -14,10 +14,16 @@ abbrev pub invariant-loop-played : goal.invariant-loop-played
 invariant-loop-played g l =
     Invariant
     (IsKeptOf (map (kept_day (are_kept l.wanted.falls)))
-    (λ days. SoFar (record { orders = l.roster.orders; terms = option_copied l.terms; who = l.wanted.who }) l.fn.desk
-    (lent (λ p. (goal.Picker-dyn g (p.vtable, p.value)).told p.value)
-    (λ p. (goal.Picker-dyn g (p.vtable, p.value)).choice p.value) l.fn.pickers) l.played
-    days l.desk
-    (lent (λ p. (goal.Picker-dyn g (p.vtable, p.value)).told p.value)
-    (λ p. (goal.Picker-dyn g (p.vtable, p.value)).choice p.value) l.pickers)) l.days.items)
+    (λ days. SoFar (record { orders = l.roster.orders; terms = option_copied l.terms; who = l.wanted.who })
+    (record {
+      desk = l.fn.desk;
+      pickers = lent (λ p. (goal.Picker-dyn g (p.vtable, p.value)).told p.value)
+          (λ p. (goal.Picker-dyn g (p.vtable, p.value)).choice p.value) l.fn.pickers;
+    })
+    l.played days
+    (record {
+      desk = l.desk;
+      pickers = lent (λ p. (goal.Picker-dyn g (p.vtable, p.value)).told p.value)
+          (λ p. (goal.Picker-dyn g (p.vtable, p.value)).choice p.value) l.pickers;
+    })) l.days.items)
     (AreThere l.pickers)

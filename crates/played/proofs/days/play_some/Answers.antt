@@ -19,7 +19,7 @@ returns-in-Ok-clause-ends g c =
     let left : List CallOrder → DeskLeft =
     λ orders. record { desk = c.play_days.new.desk; orders = orders; is_begun = true } in
     let ended : DeskLeft → Result DeskLeft Refusal = λ last. Ok last in
-    all_kept c.args.dossier.now c.requires.orders begun c.requires.some_day
+    all_kept c.args.wanted c.requires.orders begun c.requires.some_day
     (kept_by_orders same c.in-Ok.ensures.plays)
     (ap ended (c.after_days.ensures ∙ ap left same))
 
@@ -27,7 +27,7 @@ pub returns-in-Err-Unfit-clause-ends : goal.returns-in-Err-Unfit-clause-ends
 returns-in-Err-Unfit-clause-ends g c =
     let same = c.into_parts-desk.ensures.orders ∙ ap (λ (x : DeskBy). x.orders) c.in_ok-begin.ensures in
     let begun = c.into_parts-desk.ensures.desk ∙ ap (λ (x : DeskBy). x.desk) c.in_ok-begin.ensures in
-    cut_kept c.args.dossier.now c.requires.orders begun c.in-Err-Unfit.refusal
+    cut_kept c.args.wanted c.requires.orders begun c.in-Err-Unfit.refusal
     (kept_by_orders same (rw c.in-Err-Unfit.field-0-is at c.in-Err-Unfit.ensures.plays)) refl
 
 pub returns-in_err-begin-clause-ends : goal.returns-in_err-begin-clause-ends

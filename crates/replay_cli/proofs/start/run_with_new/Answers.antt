@@ -1,4 +1,3 @@
-use Rattle.replay_cli.proofs.NewPickers.{are_new}
 use Rattle.replay_cli.proofs.start.run_with_new.Goals as goal
 
 pub returns : goal.returns
@@ -6,8 +5,7 @@ returns g c =
     record {
       pickers = _;
       pickers' = _;
-      are_new = are_new _ _ _ _ _ c.requires.first c.requires.last c.requires.turn c.requires.first_of
-          c.requires.last_of c.requires.turn_of;
+      are_new = c.requires.new;
       is_run = c.run.ensures.runs;
       hides = c.run.ensures.hides;
     }
