@@ -32,7 +32,7 @@ module _ (sys : FallingSystem) (lawful : IsLawful sys) (choice : List ℕ → Li
     greatest_on (Ok x) given fallen = greatest_there fallen.by
     greatest_on (Err e) given fallen = tt
 
-    pub stops_on : {T E : Type 0} (r : Result T E) → OnErr r (EndsEarly sys choice told told_after after)
+    pub stops_on : {T E : Type 0} (r : Result T E) → EndsEarly sys choice told told_after after
         → OnErr r (StopsAbove sys choice told told_after after)
     stops_on (Ok x) early = tt
     stops_on (Err e) early = stops_there early

@@ -1,6 +1,6 @@
 -- What the loop over falls keeps.
 use Rattle.std.proofs.Common.{◌≡◌, ℕ, ◌+◌, ◌<◌, ◌≤◌, List, [], ◌∷◌, ◌++◌, length, true, refl, sym, ap, ◌∙◌, subst}
-use Rattle.std.proofs.Common.{arith, append_assoc}
+use Rattle.std.proofs.Common.{arith, append_assoc, inl}
 use Rattle.std.specs.Prelude.{sum}
 use Rattle.std.proofs.lemmas.List.{length_push, append-nil}
 use Rattle.admit_core.specs.declared.records.Fall.{Fall}
@@ -9,7 +9,8 @@ use Rattle.admit_core.specs.Falls.{fallen, bars_after, AreFalls, IsRunOfFalls}
 use Rattle.admit_core.proofs.FallsLaw.{all_under}
 use Rattle.bar_fixpoint.specs.Overfilled.{all_overfilled}
 use Rattle.bar_fixpoint.specs.Runs.{schools_of}
-use Rattle.bar_fixpoint.specs.Chosen.{AreChosen, PickedFall, TellsAtMostOne, EndsEarly}
+use Rattle.bar_fixpoint.specs.Chosen.{AreChosen, PickedFall, TellsAtMostOne}
+use Rattle.bar_fixpoint.specs.Costs.{AreCounted, CountsFalls, cost_along}
 use Rattle.bar_fixpoint.specs.Steps.{HasFallen, IsNoStep}
 use Rattle.bar_fixpoint.proofs.OneFall.{sum_falls}
 
@@ -49,6 +50,25 @@ AreChosen-push sys choice told bars (e ∷ fs) f chosen is = (
 schools-push : (fs : List Fall) (f : Fall) → schools_of (fs ++ f ∷ []) ≡ schools_of fs ++ f.school ∷ []
 schools-push [] f = refl
 schools-push (e ∷ fs) f = ap (λ xs. e.school ∷ xs) (schools-push fs f)
+
+cost_along-push : (cost : List ℕ → List ℕ → ℕ) (bars : List ℕ) (fs : List Fall) (f : Fall)
+    → cost_along cost bars (fs ++ f ∷ [])
+    ≡ cost_along cost bars fs + cost (bars_after bars fs) (fallen (bars_after bars fs) f)
+cost_along-push cost bars [] f = omega arith
+cost_along-push cost bars (e ∷ fs) f = omega (arith, cost_along-push cost (fallen bars e) fs f)
+
+-- a counter that went on by what one fall more costs
+pub counted_more : (cost cost_now : List ℕ → List ℕ → ℕ) (first ceilings : List ℕ) (falls : List Fall) (f : Fall)
+    (bars after : List ℕ) (steps steps_now steps_then : ℕ)
+    → cost_now ≡ cost → first ≡ ceilings → bars ≡ bars_after ceilings falls → after ≡ fallen bars f
+    → CountsFalls cost first steps steps_now falls
+    → steps_then ≡ steps_now + cost_now bars after
+    → CountsFalls cost first steps steps_then (falls ++ f ∷ [])
+counted_more cost cost_now first ceilings falls f bars after steps steps_now steps_then same from is fell counted more =
+    let at_first : bars ≡ bars_after first falls = is ∙ ap (λ x. bars_after x falls) (sym from) in
+    let one : cost_now bars after ≡ cost (bars_after first falls) (fallen (bars_after first falls) f) =
+    ap (λ c. c bars after) same ∙ ap (cost bars) fell ∙ ap (λ x. cost x (fallen x f)) at_first in
+    omega (arith, counted, more, one, cost_along-push cost first falls f)
 
 pub IsAtMost-refl : (bars : List ℕ) → IsAtMost bars bars
 IsAtMost-refl bars = record { as_many = refl; each = λ i. omega arith }
@@ -106,17 +126,21 @@ module _ (sys : FallingSystem) (lawful : IsLawful sys) (choice : List ℕ → Li
       record { are_falls = so_far.are_falls; settled = subst P so_far.bars_fell settled }
 
   -- where running out of memory ends the falls
-  pub early_so_far : (falls : List Fall) (bars told_now told_after : List ℕ) → SoFar sys choice told falls bars told_now
-      → TellsAtMostOne sys choice bars told_now told_after
-      → EndsEarly sys choice told told_after bars
-  early_so_far falls bars told_now told_after so_far tells =
+  pub early_so_far : (falls : List Fall) (bars told_now told_after : List ℕ) (counts : List Fall → Type 0)
+      → SoFar sys choice told falls bars told_now
+      → TellsAtMostOne sys choice bars told_now told_after → counts falls
+      → AreCounted sys choice told told_after bars counts
+  early_so_far falls bars told_now told_after counts so_far tells counted =
       let P : List ℕ → Type 0 = λ x. TellsAtMostOne sys choice bars x told_after in
       record {
-        falls = falls;
-        are_falls = so_far.are_falls;
-        chosen = so_far.chosen;
-        bars_fell = so_far.bars_fell;
-        told_of = subst P so_far.told_of tells;
+        by_then = record {
+          falls = falls;
+          are_falls = so_far.are_falls;
+          chosen = so_far.chosen;
+          bars_fell = so_far.bars_fell;
+          told_of = subst P so_far.told_of tells;
+        };
+        counted = counted;
       }
 
 -- the same, of the system and the choice by their present names
@@ -177,15 +201,34 @@ module _ (sys : FallingSystem) (lawful : IsLawful sys) (choice : List ℕ → Li
         given_all = given_all;
       }
 
+  -- the falls that led here were counted
+  pub ended_now : (falls : List Fall) (bars told_now after told_after : List ℕ) (counts : List Fall → Type 0)
+      → SoFar sys choice told falls bars told_now
+      → (is_settled sys_now bars ≡ true) × (after ≡ bars) × (told_after ≡ told_now) → counts falls
+      → AreCounted sys choice told told_after after counts
+  ended_now falls bars told_now after told_after counts so_far rest counted =
+      record {
+        by_then = record {
+          falls = falls;
+          are_falls = so_far.are_falls;
+          chosen = so_far.chosen;
+          bars_fell = rest.1 ∙ so_far.bars_fell;
+          told_of = inl (rest.2 ∙ so_far.told_of);
+        };
+        counted = counted;
+      }
+
   -- memory ran out in the next step
   pub early_now : (choice_now : List ℕ → List ℕ → ℕ) (falls : List Fall) (bars told_now told_after after : List ℕ)
+      (counts : List Fall → Type 0)
       → choice_now ≡ choice
       → SoFar sys choice told falls bars told_now
-      → IsNoStep sys_now choice_now told_now bars told_after after
-      → EndsEarly sys choice told told_after after
-  early_now choice_now falls bars told_now told_after after same_choice so_far stopped =
+      → IsNoStep sys_now choice_now told_now bars told_after after → counts falls
+      → AreCounted sys choice told told_after after counts
+  early_now choice_now falls bars told_now told_after after counts same_choice so_far stopped counted =
       let P : FallingSystem → Type 0 = λ s. TellsAtMostOne s choice_now bars told_now told_after in
       let Q : (List ℕ → List ℕ → ℕ) → Type 0 = λ c. TellsAtMostOne sys c bars told_now told_after in
-      subst (EndsEarly sys choice told told_after) (sym stopped.0)
-      (early_so_far sys lawful choice told falls bars told_now told_after so_far
-      (subst Q same_choice (subst P same stopped.1)))
+      let R : List ℕ → Type 0 = λ bs. AreCounted sys choice told told_after bs counts in
+      subst R (sym stopped.0)
+      (early_so_far sys lawful choice told falls bars told_now told_after counts so_far
+      (subst Q same_choice (subst P same stopped.1)) counted)

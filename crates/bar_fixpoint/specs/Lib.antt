@@ -3,3 +3,4 @@ pub mod Runs
 pub mod Choices
 pub mod Chosen
 pub mod Steps
+pub mod Costs

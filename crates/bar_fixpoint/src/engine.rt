@@ -3,7 +3,8 @@ ghost use Rattle.std.specs.Prelude.{◌≡◌, List, [], ◌∷◌, ◌++◌, Co
 ghost use Rattle.admit_core.specs.declared.records.Fall.{Fall};
 ghost use Rattle.admit_core.specs.Falls.{IsAtMost, IsGreatest, is_overfilled, is_settled, fall_of, fallen};
 ghost use Rattle.bar_fixpoint.specs.Overfilled.{all_overfilled};
-ghost use Rattle.bar_fixpoint.specs.Chosen.{EndsEarly, IsPicked, IsRunBy, IsRunOf, StopsAbove};
+ghost use Rattle.bar_fixpoint.specs.Chosen.{IsPicked, IsRunBy, IsRunOf, StopsAbove};
+ghost use Rattle.bar_fixpoint.specs.Costs.{AreCounted, Counts, CountsFalls, fall_cost, step_cost};
 ghost use Rattle.bar_fixpoint.specs.Steps.{HasFallen, IsStep, IsNoStep, GetsFall};
 
 use crate::falling::Falling;
@@ -31,6 +32,9 @@ pub fn greatest<F: Falling, L: Ledger>(
 
     ensures stops { OnErr result (StopsAbove (F.system system.old) (choice picker.old)
         (told picker.old) (told picker.new) (F.bars system.new)) }
+    ensures steps { AreCounted (F.system system.old) (choice picker.old)
+        (told picker.old) (told picker.new) (F.bars system.new)
+        (CountsFalls (F.cost system.old) (F.bars system.old) steps.old steps.new) }
     ensures always { F.lends system.old
         → all_overfilled (F.system system.old) (F.bars system.old) ≡ [] → IsOk result }
 
@@ -59,6 +63,9 @@ pub fn settle<F: Falling, L: Ledger>(
 
     ensures stops { OnErr result (StopsAbove (F.system system.old) (choice picker.old)
         (told picker.old) (told picker.new) (F.bars system.new)) }
+    ensures steps { AreCounted (F.system system.old) (choice picker.old)
+        (told picker.old) (told picker.new) (F.bars system.new)
+        (CountsFalls (F.cost system.old) (F.bars system.old) steps.old steps.new) }
     ensures always { F.lends system.old
         → all_overfilled (F.system system.old) (F.bars system.old) ≡ [] → IsOk result }
 
@@ -81,8 +88,9 @@ fn lower_all<F: Falling, K: Keeper, L: Ledger>(
     requires none { K.was_given keeper.old [] }
     ensures fallen { OnOk result (HasFallen (F.system system.old) (choice picker.old)
         (told picker.old) (told picker.new) (F.bars system.new) (K.was_given keeper.new)) }
-    ensures told_by_then { OnErr result (EndsEarly (F.system system.old) (choice picker.old)
-        (told picker.old) (told picker.new) (F.bars system.new)) }
+    ensures steps { AreCounted (F.system system.old) (choice picker.old)
+        (told picker.old) (told picker.new) (F.bars system.new)
+        (CountsFalls (F.cost system.old) (F.bars system.old) steps.old steps.new) }
     ensures always { F.lends system.old
         → all_overfilled (F.system system.old) (F.bars system.old) ≡ [] → IsOk result }
     ensures same { F.system system.new ≡ F.system system.old }
@@ -113,6 +121,8 @@ fn fall_once<F: Falling, K: Keeper, L: Ledger>(
         → all_overfilled (F.system system.old) (F.bars system.old) ≡ [] → IsOk result }
     ensures same { F.system system.new ≡ F.system system.old }
     ensures offers { F.offers system.new ≡ F.offers system.old }
+    ensures steps { Counts (F.cost system.old) (F.cost system.new) steps.old steps.new
+        (step_cost (F.cost system.old (F.bars system.old) (F.bars system.new)) result) }
     ensures choice { choice picker.new ≡ choice picker.old }
 {
     match picked(alloc, system, picker)? {
@@ -186,6 +196,8 @@ fn lower_over<F: Falling, K: Keeper, L: Ledger>(
     ensures err { OnErr result (F.bars system.new ≡ F.bars system.old) }
     ensures same { F.system system.new ≡ F.system system.old }
     ensures offers { F.offers system.new ≡ F.offers system.old }
+    ensures steps { Counts (F.cost system.old) (F.cost system.new) steps.old steps.new
+        (fall_cost (F.cost system.old (F.bars system.old) (F.bars system.new)) result) }
 {
     match system.over(alloc, school)? {
         None => unreachable!(),

@@ -1,5 +1,5 @@
 //! What a system of falling bars can be asked.
-ghost use Rattle.std.specs.Prelude.{◌≡◌, ℕ, ◌<◌, List, length, slice_index, slice_set, map, filter, nat_le, IfOk, IfSome, IsSome};
+ghost use Rattle.std.specs.Prelude.{◌≡◌, ℕ, ◌+◌, ◌<◌, List, length, slice_index, slice_set, map, filter, nat_le, IfOk, IfSome, IsSome};
 ghost use Rattle.admit_core.specs.Falls.{FallingSystem, IsLawful};
 ghost use Rattle.bar_fixpoint.specs.Overfilled.{rank_over, all_overfilled};
 
@@ -18,6 +18,9 @@ pub trait Falling {
 
     /// What is offered under given bars: this never changes.
     ghost offers: { Self → List ℕ → List ℕ };
+
+    /// What `lower` counts where the bars fall from these to those: this never changes.
+    ghost cost: { Self → List ℕ → List ℕ → ℕ };
 
     /// That `listed` lends the list, so that asking which places are overfilled takes no memory.
     ghost lends: { Self → Type 0 } = { λ s. ⊥ };
@@ -64,13 +67,16 @@ pub trait Falling {
         ensures { IfOk result (λ names. names.items ≡ map ((system self.now).name (bars self.now) i)
             (filter (λ rank. nat_le rank upto) ((system self.now).ranks (bars self.now) i))) };
 
-    /// Lowers a bar.
+    /// Lowers a bar, and counts what that costs.
     fn lower<L: Ledger>(&mut self, i: u32, to: u32, steps: &mut Steps<L>)
         requires in_range { i < length (system self.old).ceilings }
         requires lower { to < slice_index (bars self.old) i }
         ensures bars { bars self.new ≡ slice_set (bars self.old) i to }
         ensures same { system self.new ≡ system self.old }
-        ensures offers { offers self.new ≡ offers self.old };
+        ensures offers { offers self.new ≡ offers self.old }
+        ensures cost { cost self.new ≡ cost self.old }
+        ensures steps { steps.new
+            ≡ steps.old + cost self.old (bars self.old) (bars self.new) };
 
     /// Ranks are from 1 to the bar, and stay demanded while bars fall.
     ghost lawful: { (s : Self) → IsLawful (system s) };

@@ -1,5 +1,5 @@
 //! The boarding schools of a state as a system of falling bars.
-ghost use Rattle.std.specs.Prelude.{◌≡◌, ◌<◌, length, map, slice_get, slice_index, slice_set, All, IfOk};
+ghost use Rattle.std.specs.Prelude.{◌≡◌, ◌<◌, length, map, slice_get, All, IfOk};
 ghost use Rattle.admit_core.specs.CallOrder.{AreCallOrders};
 ghost use Rattle.admit_core.specs.Proposals.{proposed};
 ghost use Rattle.admit_core.specs.Boarding.{boarding};
@@ -99,6 +99,8 @@ impl Falling for PlainRound<'_, '_> {
 
     ghost offers = { λ r. proposed r.state.now r.orders.now.orders };
 
+    ghost cost = { λ _ _ _. 0 };
+
     ghost lawful = { λ r. boarding_is_lawful r.state.now r.orders.now.orders r.ceilings.items };
 
     ghost one_bar_each = { λ r. r.one_bar_each };
@@ -126,17 +128,7 @@ impl Falling for PlainRound<'_, '_> {
         names_up_to(alloc, &demands, upto)
     }
 
-    fn lower<L: Ledger>(&mut self, i: u32, to: u32, _steps: &mut Steps<L>)
-        requires in_range { i < length self.old.ceilings.items }
-        requires lower { to < slice_index self.old.bars.items i }
-        ensures bars { self.new.bars.items ≡ slice_set self.old.bars.items i to }
-        ensures same { boarding
-            self.new.state.now self.new.orders.now.orders self.new.ceilings.items
-            ≡ boarding self.old.state.now self.old.orders.now.orders self.old.ceilings.items }
-        ensures offers { proposed self.new.state.now self.new.orders.now.orders
-            ≡ proposed self.old.state.now self.old.orders.now.orders }
-        ensures steps { _steps.new ≡ _steps.old }
-    {
+    fn lower<L: Ledger>(&mut self, i: u32, to: u32, _steps: &mut Steps<L>) {
         self.bars[i as usize] = to;
     }
 }

@@ -34,7 +34,8 @@ use Rattle.linked_demand.proofs.HousedFronts.{nobody}
 use Rattle.linked_demand.proofs.OneFall.{open_before, past_is_closed}
 use Rattle.linked_demand.proofs.RoundFalls.{round_fallen}
 use Rattle.linked_demand.proofs.RowsTo.{rows_cut}
-use Rattle.linked_demand.proofs.Rounding.{bar_within, falls_seen}
+use Rattle.linked_demand.proofs.BarEach.{bar_each_is}
+use Rattle.linked_demand.proofs.Rounding.{as_long, bar_within, bars_seen, falls_seen}
 use Rattle.linked_demand.proofs.Spending.{steps_spent}
 
 -- the same entry
@@ -145,17 +146,24 @@ module _ {links : LinksRow} {ceilings bars free : List ℕ} {rows : List (List R
     pub offers_now : proposed (lent new.state beds) new.orders ≡ proposed seen.state seen.orders
     offers_now = ap (λ (r : Round). proposed r.state r.orders) seen_now
 
+    bars_now : bar_each ceilings (set bars i to) ≡ set bars i to
+    bars_now = bar_each_is ceilings (set bars i to) (length-set bars i to ∙ as_long beds right is)
+
     -- the steps are the changes
     pub steps_now : (low : List ℕ) → low ≡ set bars i to → (before after : ℕ)
         → after + length kept_row ≡ before + length row + count_by
         (is_new links.state low links new) (enumerate_from 0 (entries links.state))
-        → after ≡ before + changes_between seen.state seen.orders seen.bars (set bars i to)
+        → after ≡ before + changes_between seen.state seen.orders (bar_each seen.ceilings seen.bars)
+        (bar_each ceilings (set bars i to))
     steps_now low low_is before after told =
         let P = λ (r : Round). after ≡ before + changes_between r.state r.orders r.bars (set bars i to) in
         let Q = λ (bs : List ℕ). after + length kept_row ≡ before + length row + count_by
         (is_new links.state bs links new) (enumerate_from 0 (entries links.state)) in
+        let R = λ (us ls : List ℕ). before + changes_between seen.state seen.orders us ls in
         subst P is (steps_spent links new bars i to within_bars le state orders right.round.opens_are now_opens
         row kept_row own cut before after (subst Q low_is told))
+        ∙ ap (λ (us : List ℕ). R us (set bars i to)) (sym (bars_seen beds right is))
+        ∙ ap (R (bar_each seen.ceilings seen.bars)) (sym bars_now)
 
     module _ {low : List ℕ} (low_is : low ≡ set bars i to) {after : List Bool}
         (marks : MarksWishes links.state (is_new links.state low links new) marked after) where

@@ -66,7 +66,7 @@ module _ {links : LinksRow} {ceilings bars free : List ℕ} {rows : List (List R
     (beds : List ℕ) (right : IsRoundUnder links ceilings bars free rows overfilled marked housed)
     (is : record { state = lent links.state beds; orders = links.orders; ceilings = ceilings; bars = bars }
     ≡ seen) where
-  as_long : length bars ≡ length ceilings
+  pub as_long : length bars ≡ length ceilings
   as_long = right.round.bars_each ∙ sym right.ceilings_each
 
   pub bars_seen : bar_each seen.ceilings seen.bars ≡ seen.bars

@@ -200,6 +200,8 @@ impl Falling for LinkedRound<'_, '_> {
 
     ghost offers = { λ r. proposed r.state r.orders };
 
+    ghost cost = { λ r. changes_between r.state r.orders };
+
     ghost lends = { λ r. Unit {0} };
 
     ghost lawful = { λ r. boarding_is_lawful r.state r.orders r.ceilings };
@@ -262,8 +264,11 @@ impl Falling for LinkedRound<'_, '_> {
         ensures offers { proposed self.new.state self.new.orders
             ≡ proposed self.old.state self.old.orders }
         ensures round { self.new ≡ record self.old { bars = slice_set self.old.bars i to } }
+        ensures cost { changes_between self.new.state self.new.orders
+            ≡ changes_between self.old.state self.old.orders }
         ensures steps { steps.new ≡ steps.old + changes_between self.old.state self.old.orders
-            self.old.bars self.new.bars }
+            (bar_each self.old.ceilings self.old.bars)
+            (bar_each self.new.ceilings self.new.bars) }
     {
         self.bars[i as usize] = to;
         let front = front_in(self.boarders, &self.ends, i);

@@ -1,5 +1,5 @@
 //! A market as a system of falling bars.
-ghost use Rattle.std.specs.Prelude.{ℕ, ◌≡◌, ◌<◌, ◌≤◌, length, map, filter, nat_le, slice_get, slice_index, slice_set, ◌+◌, ◌-◌, [], IfOk, IsOk};
+ghost use Rattle.std.specs.Prelude.{ℕ, ◌≡◌, ◌<◌, ◌≤◌, length, map, filter, nat_le, slice_get, slice_index, ◌-◌, [], sum, IfOk, IsOk};
 ghost use Rattle.markets.specs.Markets.{market_order, candidate_at};
 ghost use Rattle.markets.specs.Bars.{market_system, place_codes, place_code};
 ghost use Rattle.markets.specs.Rounds.{IsRound, held_to};
@@ -137,6 +137,8 @@ impl Falling for MarketRound<'_> {
 
     ghost offers = { λ r. place_codes r.market };
 
+    ghost cost = { λ _ upper lower. sum upper - sum lower };
+
     ghost lends = { λ r. Unit {0} };
 
     ghost lawful = { λ r. lawful_by r.market r.round.positions };
@@ -186,14 +188,7 @@ impl Falling for MarketRound<'_> {
         names_within(alloc, self.market.market(), &self.seating.places, i, end)
     }
 
-    fn lower<L: Ledger>(&mut self, i: u32, to: u32, steps: &mut Steps<L>)
-        requires in_range { i < length (market_system self.old.market).ceilings }
-        requires lower { to < slice_index self.old.bars.items i }
-        ensures bars { self.new.bars.items ≡ slice_set self.old.bars.items i to }
-        ensures same { market_system self.new.market ≡ market_system self.old.market }
-        ensures offers { place_codes self.new.market ≡ place_codes self.old.market }
-        ensures steps { steps.new ≡ steps.old + (slice_index self.old.bars.items i - to) }
-    {
+    fn lower<L: Ledger>(&mut self, i: u32, to: u32, steps: &mut Steps<L>) {
         lower_to(
             &self.market,
             &mut self.bars,

@@ -6,7 +6,7 @@ pub returns-in_err-lower_all-clause-stops : goal.returns-in_err-lower_all-clause
 returns-in_err-lower_all-clause-stops g c =
     let f = g.F.Falling in
     on_err _ (stops_there (f.system c.args.system.now) (g.met.F.Falling.lawful c.args.system.now) _ _ _ _
-    c.in_err-lower_all.ensures.told_by_then)
+    c.in_err-lower_all.ensures.steps.by_then)
 
 pub returns-clause-greatest : goal.returns-clause-greatest
 returns-clause-greatest g c =

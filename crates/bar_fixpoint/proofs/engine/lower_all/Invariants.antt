@@ -1,6 +1,7 @@
 use Rattle.std.proofs.Common.{◌≡◌, List, []}
 use Rattle.std.specs.Prelude.{sum}
 use Rattle.admit_core.specs.declared.records.Fall.{Fall}
+use Rattle.bar_fixpoint.specs.Costs.{CountsFalls}
 use Rattle.bar_fixpoint.specs.Overfilled.{all_overfilled}
 use Rattle.bar_fixpoint.proofs.SoFar.{SoFar}
 use Rattle.bar_fixpoint.proofs.engine.lower_all.Given as goal
@@ -18,6 +19,8 @@ invariant-loop-school g l =
       choice : now.choice l.picker.now.1 ≡ first.choice l.fn.picker.now.1;
       so_far : (falls : List Fall) × SoFar (f.system l.fn.system) (first.choice l.fn.picker.now.1)
           (first.told l.fn.picker.now.1) falls (f.bars l.system) (now.told l.picker.now.1);
+      same_cost : f.cost l.system ≡ f.cost l.fn.system;
+      counted : CountsFalls (f.cost l.fn.system) (f.bars l.fn.system) l.fn.steps l.steps so_far.0;
       given : g.K.Keeper.was_given l.keeper so_far.0;
     }
 

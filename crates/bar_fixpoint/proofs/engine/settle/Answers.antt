@@ -11,4 +11,4 @@ pub returns-clause-stops : goal.returns-clause-stops
 returns-clause-stops g c =
     let f = g.F.Falling in
     stops_on (f.system c.args.system.now) (g.met.F.Falling.lawful c.args.system.now) _ _ _ _ c.lower_all.result
-    c.lower_all.ensures.told_by_then
+    c.lower_all.ensures.steps.by_then
