@@ -7,7 +7,8 @@ from pathlib import Path
 from .harness import TOOLS, Ended, Tally, executable, run, scratch
 from .measure import is_of_days, surroundings
 from .modes import MODES
-from .national import KINDS
+from .national import ALL_DAYS, FIRST_DAYS, KINDS
+from .shaped import up_to
 from .timed import maker
 
 SIZES = ("150", "300")
@@ -121,6 +122,8 @@ def check_columns(tally: Tally, folder: Path, with_gaps: Path) -> None:
     tally.equal("how many programmes share a group", set(sharing.values()), {1, 3})
     tally.check("wishes with boarding", 0.02 < sum(row["school"] != "" for row in wishes) / len(wishes) < 0.2)
     tally.equal("the state", {row["status"] for row in columns(folder, "state")}, {"accepted", "offered"})
-    tally.equal("days of answers", {row["day"] for row in columns(folder, "answers")}, {"1", "2", "3"})
+    days = Counter(int(row["day"]) for row in columns(folder, "answers"))
+    tally.equal("days of answers", set(days), set(up_to(ALL_DAYS)))
+    tally.check("most answers in the first days", sum(days[day] for day in up_to(FIRST_DAYS)) > days.total() * 0.6, days)
     ids = [int(row["wish"]) for row in columns(with_gaps, "wishes")]
     tally.check("ids with gaps", len(set(ids)) == len(wishes) and max(ids) > 1_900_000_000 and min(ids) >= 1, len(ids))
