@@ -37,6 +37,7 @@ SHAPES = {
     "quits-ranked": Shape("offers_move_ranked", (5_000, 20_000), ("replay", "--days", "2")),
     "one-group": Shape("one_group", (50_000, 200_000)),
     "one-group-market": Shape("one_group", (50_000, 200_000), ("market",)),
+    "one-group-envy": Shape("one_group", (50_000, 200_000), ("envy",)),
     "one-school": Shape("one_school", (50_000, 200_000)),
     "one-candidate": Shape("one_candidate", (5_000, 20_000)),
     "one-claim": Shape("one_claim", (5_000, 20_000)),
