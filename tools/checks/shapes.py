@@ -49,6 +49,7 @@ SHAPES = {
     "schools-at-once": Shape("schools_at_once", (20_000, 80_000)),
     "passes": Shape("passes", (500, 2_000)),
     "idle-days": Shape("applicants", (10_000, 40_000), ("chain", "--days", "366")),
+    "check-falls": Shape("schools_at_once", (20_000, 80_000), ("check",), ("chain",)),
     "check-days": Shape("applicants", (10_000, 40_000), ("check",), ("chain", "--days", "61")),
     "sorted": Shape("applicants", (25_000, 100_000)),
     "shuffled": Shape("shuffled", (25_000, 100_000)),
