@@ -6,7 +6,6 @@ ghost use Rattle.admit_core.specs.ChainLines.{chain_reason_name, chain_reason_nu
 use crate::sequence::Sequence;
 use crate::text::push_after;
 use std::alloc::AllocError;
-use std::fmt;
 
 /// A written fall of a school's bar. The school and the wishes are ids as read.
 #[derive(Drop)]
@@ -134,35 +133,5 @@ impl ChainFault {
         push_after(text, " reason ", self.reason.number() as u64)?;
         text.push_str(" ")?;
         text.push_str(self.reason.name())
-    }
-}
-
-/// The reason's name.
-impl fmt::Display for ChainReason {
-    ghost output = { λ reason. Some (chain_reason_name reason) };
-
-    fn fmt<W: fmt::Write>(&self, f: &mut fmt::Formatter<W>) -> fmt::Result {
-        f.write_str(self.name())
-    }
-}
-
-/// The reason's name, without the school that is kept.
-impl fmt::Display for CheckReason {
-    ghost output = { λ reason. Some (check_reason_name reason) };
-
-    fn fmt<W: fmt::Write>(&self, f: &mut fmt::Formatter<W>) -> fmt::Result {
-        f.write_str(self.name())
-    }
-}
-
-/// The line of a fault, without its line feed.
-impl fmt::Display for ChainFault {
-    ghost output = { λ fault. Some (chain_fault_text fault) };
-
-    fn fmt<W: fmt::Write>(&self, f: &mut fmt::Formatter<W>) -> fmt::Result {
-        let row = self.row;
-        let number = self.reason.number();
-        let reason = self.reason;
-        write!(f, "not a chain row {row} reason {number} {reason}")
     }
 }

@@ -1,5 +1,6 @@
 //! The rows that a campaign works on, with places for ids.
 ghost use Rattle.std.specs.Prelude.{◌≡◌};
+ghost use Rattle.admit_core.specs.Faults.{row_number};
 
 use crate::ranking::RankGroup;
 use crate::sequence::Sequence;
@@ -8,6 +9,9 @@ use std::marker::Model;
 
 /// The most rows of a list; the rankings of all groups count together.
 pub const MAX_ROWS: u32 = 16_000_000;
+
+/// The number of a slot's first row of values. Its header is row 1.
+pub const FIRST_ROW: u64 = 2;
 
 /// The greatest id, rank, preference, limit and number of seats or beds.
 pub const MAX_NUMBER: u32 = 2_000_000_000;
@@ -19,6 +23,7 @@ pub const MAX_DAY: u32 = 366;
 /// are theorems.
 pub fn limits_of_rules()
     ensures rows { MAX_ROWS ≡ 16000000 }
+    ensures first { FIRST_ROW ≡ row_number 0 }
     ensures numbers { MAX_NUMBER ≡ 2000000000 }
     ensures days { MAX_DAY ≡ 366 }
 {}

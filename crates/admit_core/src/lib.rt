@@ -28,8 +28,8 @@ pub use bar_laws::laws_of_bars;
 pub use chain::{Chain, ChainFault, ChainReason, CheckReason, DayChain, FallLine, PassChain};
 pub use chain_laws::laws_of_chains;
 pub use dossier::{
-    Answer, AnswerKind, CeilingChange, Dossier, MAX_DAY, MAX_NUMBER, MAX_ROWS, Programme, School,
-    Wish, limits_of_rules,
+    Answer, AnswerKind, CeilingChange, Dossier, FIRST_ROW, MAX_DAY, MAX_NUMBER, MAX_ROWS,
+    Programme, School, Wish, limits_of_rules,
 };
 pub use evening_laws::laws_of_evenings;
 pub use explanation::{BarCause, Explanation};

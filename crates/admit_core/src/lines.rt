@@ -9,7 +9,6 @@ use crate::slot::Slot;
 use crate::state::Status;
 use crate::text::push_after;
 use std::alloc::AllocError;
-use std::fmt;
 
 impl Slot {
     /// The name of the file, without its ending.
@@ -31,16 +30,8 @@ impl Slot {
     }
 }
 
-impl fmt::Display for Slot {
-    ghost output = { λ slot. Some (slot_name slot) };
-
-    fn fmt<W: fmt::Write>(&self, f: &mut fmt::Formatter<W>) -> fmt::Result {
-        f.write_str(self.name())
-    }
-}
-
 impl Status {
-    /// Pushing the word makes a text in half the time that printing the status takes.
+    /// The word of a row of the states' file.
     pub fn word(self) -> &'static str
         ensures { result.now ≡ status_word self }
     {
@@ -58,14 +49,6 @@ impl Status {
     }
 }
 
-impl fmt::Display for Status {
-    ghost output = { λ status. Some (status_word status) };
-
-    fn fmt<W: fmt::Write>(&self, f: &mut fmt::Formatter<W>) -> fmt::Result {
-        f.write_str(self.word())
-    }
-}
-
 impl Bound {
     /// The letter of a position in the line of a group's rules.
     pub fn letter(self) -> &'static str
@@ -78,14 +61,6 @@ impl Bound {
             Bound::Both => "b",
             Bound::Alone => "x",
         }
-    }
-}
-
-impl fmt::Display for Bound {
-    ghost output = { λ bound. Some (bound_letter bound) };
-
-    fn fmt<W: fmt::Write>(&self, f: &mut fmt::Formatter<W>) -> fmt::Result {
-        f.write_str(self.letter())
     }
 }
 

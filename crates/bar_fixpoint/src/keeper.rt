@@ -66,7 +66,8 @@ impl Keeper for NoFalls {
         _rank: u32,
     ) -> Result<(), OutOfMemory>
         ensures kept { OnOk result ((falls : List Fall) →
-            ⟦<NoFalls as Keeper>⟧.was_given self.old falls → ⟦<NoFalls as Keeper>⟧.was_given self.new
+            ⟦<NoFalls as Keeper>⟧.was_given self.old falls →
+            ⟦<NoFalls as Keeper>⟧.was_given self.new
             (falls ++ fall_of (F.system _system.now) (F.bars _system.now) _school ∷ [])) }
         ensures always { IsOk result }
     {

@@ -5,7 +5,7 @@ ghost use Rattle.desk_day.specs.AnswersOn.{AreAnswersOn, IsApplied, refusal_at};
 ghost use Rattle.desk_day.specs.declared.refusal.DayRefusal.TheVariants as refusals;
 
 use crate::refusal::DayRefusal;
-use admit_core::{Answer, Dossier, Reason, Refusal, Slot, Stamp};
+use admit_core::{Answer, Dossier, FIRST_ROW, Reason, Refusal, Slot, Stamp};
 use day_state::{DayState, UnfitAt};
 
 /// The answers of one day, and the place of the first one.
@@ -64,7 +64,7 @@ fn unfit(first: usize, at: UnfitAt) -> DayRefusal
 {
     DayRefusal::Unfit(Refusal {
         slot: Slot::Answers,
-        row: first as u64 + u64::from(at.index) + 2,
+        row: first as u64 + u64::from(at.index) + FIRST_ROW,
         reason: Reason::UnfitAnswer(at.status),
     })
 }

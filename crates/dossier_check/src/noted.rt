@@ -6,7 +6,7 @@ ghost use Rattle.dossier_check.specs.Noted.{Notes};
 ghost use Rattle.dossier_check.specs.Pairs.{pair_eq};
 
 use crate::row_ids::RowIds;
-use admit_core::OutOfMemory;
+use admit_core::{FIRST_ROW, OutOfMemory};
 use indexmap::{IndexMap, IndexSet};
 use keyed_hash::Keyed;
 use std::hash::Hash;
@@ -33,7 +33,7 @@ pub(crate) fn note<R, K: Hash + Eq + Copy + Drop, Q: Key<R, K>>(
     if is_new {
         return Ok(None);
     }
-    Ok(Some(place as u64 + 2))
+    Ok(Some(place as u64 + FIRST_ROW))
 }
 
 /// The row at the place of the first one that passes a test.

@@ -6,7 +6,7 @@ ghost use Rattle.dossier_check.specs.Noted.{Notes};
 ghost use Rattle.dossier_check.specs.RowIds.{Rises};
 
 use crate::noted::{Key, note};
-use admit_core::OutOfMemory;
+use admit_core::{FIRST_ROW, OutOfMemory};
 use indexmap::IndexSet;
 use keyed_hash::Keyed;
 use std::alloc::Global;
@@ -139,7 +139,7 @@ fn row_among(ids: &[u32], id: u32) -> Option<u64>
     ensures { result ≡ option_map row_number (position (nat_eq id) ids.now) }
 {
     let place = place_among(ids, id)?;
-    Some(place as u64 + 2)
+    Some(place as u64 + FIRST_ROW)
 }
 
 impl RowIds {

@@ -3,7 +3,7 @@ ghost use Rattle.std.specs.Prelude.{◌≡◌, List, [], ◌∷◌, ◌++◌, �
 ghost use Rattle.admit_core.specs.Faults.{Test, row_number, first_reason, first_in};
 ghost use Rattle.dossier_check.specs.Outcome.{AnswersFault, LacksAt, MayLack};
 
-use admit_core::{InFault, OutOfMemory, Reason, Refusal, Slot};
+use admit_core::{FIRST_ROW, InFault, OutOfMemory, Reason, Refusal, Slot};
 
 /// The tests of a slot's rows, with what they need to know of the rows before.
 pub(crate) trait RowChecks<R> {
@@ -47,7 +47,7 @@ pub(crate) fn scan<R, C: RowChecks<R>>(
     ensures told { MayLack (LacksAt C.lacks slot (C.tests checks.old) rows.now) result }
 {
     for (place, row) in rows.iter().enumerate() {
-        let number = place as u64 + 2;
+        let number = place as u64 + FIRST_ROW;
         if let Some(reason) = checks.next(row, number)? {
             return Err(InFault::Refused(Refusal {
                 slot,

@@ -7,7 +7,7 @@ ghost use Rattle.dossier_csv.specs.Layout.{Layout};
 ghost use Rattle.dossier_csv.specs.Rest.{GivesNext, HasLeft, HasSome};
 ghost use Rattle.dossier_csv.specs.Shape.{Answers, at_row, records_of, row_of, rows_from, same_texts, shape};
 
-use admit_core::{InFault, MAX_ROWS, OutOfMemory, Reason, Refusal, Slot};
+use admit_core::{FIRST_ROW, InFault, MAX_ROWS, OutOfMemory, Reason, Refusal, Slot};
 use csv::{ByteRecord, ErrorKind, Reader, ReaderBuilder};
 use std::alloc::Global;
 
@@ -33,7 +33,7 @@ pub(crate) trait TableRow: Drop {
 }
 
 /// The row that is one too many.
-const ROW_PAST_THE_LAST: u64 = MAX_ROWS as u64 + 2;
+const ROW_PAST_THE_LAST: u64 = MAX_ROWS as u64 + FIRST_ROW;
 
 /// A reader of a slot's records.
 fn reader_of(alloc: Global, bytes: &[u8]) -> Reader<&[u8]>
@@ -130,7 +130,7 @@ fn read_rows<T: TableRow>(
 {
     let mut rows = Vec::new(alloc);
     'rows: while next_row(reader, row)? {
-        let number = rows.len() as u64 + 2;
+        let number = rows.len() as u64 + FIRST_ROW;
         rows.push(typed_row(row, width, number)?)?;
     }
     Ok(rows)

@@ -1,5 +1,6 @@
 -- Flags by place, as their words change.
-use Rattle.std.proofs.Common.{ℕ, ◌/◌, ◌%◌, ◌≤◌, ◌<◌, ◌≡◌, ◌≢◌, ◌*◌, ◌^◌, Bool, true, false, inl, inr, eqb, List, length, get_or}
+use Rattle.std.proofs.Common.{ℕ, ◌/◌, ◌%◌, ◌≤◌, ◌<◌, ◌≡◌, ◌≢◌, ◌*◌, ◌^◌, Bool, true, false, inl, inr, eqb}
+use Rattle.std.proofs.Common.{List, length, get_or}
 use Rattle.std.proofs.Common.{sym, ap, ◌∙◌, arith}
 use Rattle.std.specs.Prelude.{replicate}
 use Rattle.std.specs.Int.{bit_at, bit_not, div_ceil, w64}

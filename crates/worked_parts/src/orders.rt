@@ -66,7 +66,7 @@ fn push_order(alloc: Global, text: &mut String, group: &RankGroup) -> Result<(),
     let bounds = order.trace.as_slice();
     for (candidate, bound) in order.list.as_slice().iter().zip(bounds) {
         push_word(text, candidate)?;
-        push_word(text, bound)?;
+        push_word(text, &bound.letter())?;
     }
     Ok(())
 }
