@@ -6,7 +6,7 @@ ghost use Rattle.admit_core.specs.State.{is_live};
 ghost use Rattle.day_state.specs.Kept.{mark_in, one_if, recount_some};
 
 use crate::bundle_numbers::{Later, number_all, shared_firsts};
-use crate::counts::{copy_counts, recount_some, zeros};
+use crate::live_counts::LiveCounts;
 use crate::marks::Marks;
 use crate::numbers::{BundleNumber, Numbers};
 use admit_core::{OutOfMemory, Wish};
@@ -26,7 +26,7 @@ pub enum Sites {
 #[derive(Drop)]
 pub struct Bundles {
     numbers: Rc<Numbers>,
-    live: Vec<u32>,
+    live: LiveCounts,
 }
 
 /// Whether a bundle had a live wish, and whether it has one.
@@ -47,11 +47,11 @@ impl Bundles {
         requires few { length wishes.now < 2 ^ 31 }
         requires laters { AreLaters (bundles_of sites wishes.now) laters.now }
         ensures numbers { IfOk result (λ b. b.numbers.value ≡ all_numbers sites wishes.now) }
-        ensures live { IfOk result (λ b. b.live.items
+        ensures live { IfOk result (λ b. b.live
             ≡ replicate (shared_in_all sites wishes.now) 0) }
     {
         let shared = shared_firsts(alloc, laters)?;
-        let live = zeros(alloc, shared.len())?;
+        let live = LiveCounts::none(alloc, shared.len())?;
         let numbers = number_all(alloc, sites, wishes, &shared, laters)?;
         Ok(Bundles {
             numbers: Rc::new(alloc, numbers)?,
@@ -62,21 +62,21 @@ impl Bundles {
     /// The same bundles again.
     pub fn copy(&self, alloc: Global) -> Result<Bundles, OutOfMemory>
         ensures numbers { IfOk result (λ b. b.numbers.value ≡ self.now.numbers.value) }
-        ensures live { IfOk result (λ b. b.live.items ≡ self.now.live.items) }
+        ensures live { IfOk result (λ b. b.live ≡ self.now.live) }
     {
         Ok(Bundles {
             numbers: self.numbers.clone()?,
-            live: self.live.as_slice().to_vec(alloc)?,
+            live: self.live.copy(alloc)?,
         })
     }
 
     /// Takes over how many wishes are live in each bundle of the same wishes.
     pub fn set_from(&mut self, other: &Bundles)
-        requires { length self.old.live.items ≡ length other.now.live.items }
+        requires { length self.old.live ≡ length other.now.live }
         ensures numbers { self.new.numbers.value ≡ self.old.numbers.value }
-        ensures live { self.new.live.items ≡ other.now.live.items }
+        ensures live { self.new.live ≡ other.now.live }
     {
-        copy_counts(&mut self.live, &other.live);
+        self.live.set_from(&other.live);
     }
 
     /// Whether one of a wish's bundle is live. These are the marks; that of the wish is read where
@@ -84,9 +84,7 @@ impl Bundles {
     pub fn is_live(&self, wish: u32, marks: &Marks) -> bool
         requires place { wish < length self.now.numbers.value }
         requires mark { wish < length marks.now }
-        requires number { ForSome (count_at self.now.numbers.value wish)
-            (λ n. n < length self.now.live.items) }
-        ensures { result ≡ has_live self.now.live.items
+        ensures { result ≡ has_live self.now.live
             (number_at self.now.numbers.value wish) (is_live (mark_in marks.now wish)) }
     {
         has_live_by(&self.live, self.numbers.get(wish), marks, wish)
@@ -102,11 +100,11 @@ impl Bundles {
 
     /// Whether a bundle has a live wish, by its number; a wish of it that is not live asks.
     pub fn is_live_beside(&self, number: BundleNumber) -> bool
-        ensures { result ≡ has_live self.now.live.items number false }
+        ensures { result ≡ has_live self.now.live number false }
     {
         match number {
             BundleNumber::NoSite | BundleNumber::Alone => false,
-            BundleNumber::Shared(number) => is_counted(&self.live, number),
+            BundleNumber::Shared(number) => self.live.has_some(number),
         }
     }
 
@@ -114,42 +112,31 @@ impl Bundles {
     pub fn turn(&mut self, wish: u32, was_live: bool, lives: bool) -> Turn
         requires place { wish < length self.old.numbers.value }
         requires number { ForSome (count_at self.old.numbers.value wish)
-            (λ n. n < length self.old.live.items) }
+            (λ n. n < length self.old.live) }
         requires comes { ForSome (count_at self.old.numbers.value wish)
-            (λ n. slice_index self.old.live.items n + one_if lives < 2 ^ 32) }
+            (λ n. slice_index self.old.live n + one_if lives < 2 ^ 32) }
         requires goes { ForSome (count_at self.old.numbers.value wish)
-            (λ n. one_if was_live ≤ slice_index self.old.live.items n + one_if lives) }
+            (λ n. one_if was_live ≤ slice_index self.old.live n + one_if lives) }
         ensures numbers { self.new.numbers.value ≡ self.old.numbers.value }
-        ensures live { self.new.live.items ≡ recount_some self.old.live.items
+        ensures live { self.new.live ≡ recount_some self.old.live
             (count_at self.old.numbers.value wish) was_live lives }
-        ensures had { result.had ≡ has_live self.old.live.items
+        ensures had { result.had ≡ has_live self.old.live
             (number_at self.old.numbers.value wish) was_live }
-        ensures has { result.has ≡ has_live self.new.live.items
+        ensures has { result.has ≡ has_live self.new.live
             (number_at self.old.numbers.value wish) lives }
     {
         let number = self.numbers.get(wish);
         let had = has_live(&self.live, number, was_live);
-        recount_some(&mut self.live, number.count(), was_live, lives);
+        self.live.recount(number.count(), was_live, lives);
         let has = has_live(&self.live, number, lives);
         Turn { had, has }
     }
 }
 
-/// Whether the count at a place is not 0; past the end it is.
-fn is_counted(counts: &Vec<u32>, place: u32) -> bool
-    ensures { result ≡ nat_lt 0 (slice_index counts.now.items place) }
-{
-    match counts.as_slice().get(place as usize) {
-        None => false,
-        Some(count) => *count > 0,
-    }
-}
-
 /// Whether a bundle has a live wish. Where a wish is alone in it, the mark of that wish tells it.
-fn has_live_by(live: &Vec<u32>, number: BundleNumber, marks: &Marks, wish: u32) -> bool
-    requires mark { wish < length marks.now }
-    requires number { ForSome (count_of number) (λ n. n < length live.now.items) }
-    ensures { result ≡ has_live live.now.items number (is_live (mark_in marks.now wish)) }
+fn has_live_by(live: &LiveCounts, number: BundleNumber, marks: &Marks, wish: u32) -> bool
+    requires { wish < length marks.now }
+    ensures { result ≡ has_live live.now number (is_live (mark_in marks.now wish)) }
 {
     match number {
         BundleNumber::NoSite => false,
@@ -159,13 +146,12 @@ fn has_live_by(live: &Vec<u32>, number: BundleNumber, marks: &Marks, wish: u32) 
 }
 
 /// Whether a bundle has a live wish; `lives` tells it of the wish that was asked about.
-fn has_live(live: &Vec<u32>, number: BundleNumber, lives: bool) -> bool
-    requires { ForSome (count_of number) (λ n. n < length live.now.items) }
-    ensures { result ≡ has_live live.now.items number lives }
+fn has_live(live: &LiveCounts, number: BundleNumber, lives: bool) -> bool
+    ensures { result ≡ has_live live.now number lives }
 {
     match number {
         BundleNumber::NoSite => false,
         BundleNumber::Alone => lives,
-        BundleNumber::Shared(number) => live[number as usize] > 0,
+        BundleNumber::Shared(number) => live.has_some(number),
     }
 }

@@ -48,8 +48,8 @@ impl<'d> Model for CountedMarks<'d> {
     ghost view = { λ s. record { dossier = s.dossier.now; marks = s.marks } };
 
     ghost invariant = { λ s. KeepsCounts (record { dossier = s.dossier.now; marks = s.marks })
-        s.seats.items s.beds.items s.in_programmes.numbers.value s.in_programmes.live.items
-        s.in_schools.numbers.value s.in_schools.live.items };
+        s.seats.items s.beds.items s.in_programmes.numbers.value s.in_programmes.live
+        s.in_schools.numbers.value s.in_schools.live };
 }
 
 impl<'d> CountedMarks<'d> {

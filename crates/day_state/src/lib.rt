@@ -12,6 +12,7 @@ mod counts;
 mod day;
 mod index;
 mod laws;
+mod live_counts;
 mod mark;
 mod marked;
 mod marks;

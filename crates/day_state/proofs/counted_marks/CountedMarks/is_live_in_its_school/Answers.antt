@@ -9,7 +9,7 @@ pub is_live-requires : goal.is_live-requires
 is_live-requires c =
     let in_range : c.args.wish < length c.self.inside.marks = rw (sym c.self.view_is) at c.requires in
     let has = has_number c.self.invariant.schools c.self.invariant.kept.marks in_range in
-    record { place = has.place; mark = in_range; number = has.number }
+    record { place = has.place; mark = in_range }
 
 pub returns : goal.returns
 returns c =
