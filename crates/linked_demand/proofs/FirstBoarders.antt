@@ -6,6 +6,7 @@ use Rattle.std.specs.List.Sorted.{IsNonDecreasingBy}
 use Rattle.std.specs.declared.alloc.Global.{Global}
 use Rattle.std.proofs.lemmas.List.{get_or_default, get_or-map, length-map}
 use Rattle.std.proofs.lemmas.List.Elements.{All-filter, All-take}
+use Rattle.std.proofs.lemmas.List.Sorted.{IsNonDecreasingBy-take}
 use Rattle.std.proofs.lemmas.List.Kept.{IsNonDecreasingBy-filter}
 use Rattle.std.proofs.lemmas.Option.{slice_get-get_or, slice_get_within, unwrap_or-slice_get}
 use Rattle.admit_core.specs.declared.ranking.CallOrder.{CallOrder}
@@ -104,7 +105,10 @@ first_open l bars free boarders ends by_school are right h front first =
     let rows = rows_to l.state boarders ends in
     let row = row_in l.state front in
     let found = row_found l.state boarders ends are.one_each h front first in
+    let P = λ (xs : List RowWish). IsNonDecreasingBy (λ (x : RowWish). x.rank) xs in
     record {
+      all_rise = subst P (sym first.front_is) (IsNonDecreasingBy-take (λ (x : RowWish). x.rank) (slice_index ends h)
+          first.own.items (by_rank_each l.state.dossier l.orders boarders by_school h first.own first.found));
       own = first_items l.state.dossier l.orders boarders by_school ends h front first;
       items = rows_open l bars free rows right h row found;
       rises = (right.rows_are h row found).rises;
@@ -138,7 +142,10 @@ upto_open l upto own front rises is opens =
     let P = λ (xs : List RowWish). slice_get xs k ≡ Some x in
     (in_front (row_in l.state own) here.end k x (subst P here.front_is found)).1 in
     let P = λ (xs : List RowWish). All (IsItem l.state.dossier l.orders) xs in
+    let Q = λ (xs : List RowWish). IsNonDecreasingBy (λ (x : RowWish). x.rank) xs in
     record {
+      all_rise = subst Q (sym is.front_is)
+          (IsNonDecreasingBy-take (λ (x : RowWish). x.rank) is.end own opens.all_rise);
       own = subst P (sym is.front_is) (All-take (IsItem l.state.dossier l.orders) is.end own opens.own);
       items = λ k x found. opens.items k x (at k x found);
       rises = λ j k x y le a b. opens.rises j k x y le (at j x a) (at k y b);

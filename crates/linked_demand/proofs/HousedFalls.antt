@@ -15,7 +15,7 @@ use Rattle.admit_core.specs.Proposals.{is_open, is_proposed, needs_no_seat, ahea
 use Rattle.admit_core.proofs.DemandLaws.{seat_stays}
 use Rattle.admit_core.proofs.Plain.{get_set_here, get_set_other}
 use Rattle.linked_demand.specs.declared.rows.RowWish.{RowWish}
-use Rattle.linked_demand.specs.declared.housed.Rung.{Rung}
+use Rattle.linked_demand.specs.Rungs.{Rung}
 use Rattle.linked_demand.specs.Demand.{is_proposed_at}
 use Rattle.linked_demand.specs.Housed.{AllHoused, AreHoused, kept, within}
 use Rattle.linked_demand.specs.Links.{LinksRow}

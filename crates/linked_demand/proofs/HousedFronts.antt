@@ -1,77 +1,31 @@
 -- The ranks of a row are housed one after another.
-use Rattle.std.proofs.Common.{ℕ, ◌+◌, ◌≤◌, ◌<◌, ◌≡◌, ◌⊎◌, Bool, true, false, List, [], ◌∷◌}
+use Rattle.std.proofs.Common.{ℕ, ◌+◌, ◌≤◌, ◌<◌, ◌≡◌, ◌⊎◌, Bool, true, false, ◌&&◌, List, [], ◌∷◌}
 use Rattle.std.proofs.Common.{length, take, inl, inr, refl, sym, ◌∙◌, ap, arith, get_or, nat_eq, nat_lt, Some, None}
 use Rattle.std.proofs.Common.{Option}
 use Rattle.std.proofs.Common.{subst, unwrap_or, is_some}
-use Rattle.std.specs.Prelude.{slice_get}
+use Rattle.std.specs.Prelude.{slice_get, IfNone}
+use Rattle.std.specs.List.Sorted.{IsNonDecreasingBy}
 use Rattle.std.specs.Option.{option_or}
 use Rattle.std.proofs.lemmas.Bool.{cases_Bool, cases_lt, cases_eq, false≢true, or_left, or_right, eq-eqb, eqb-true}
-use Rattle.std.proofs.lemmas.Bool.{ltb-true, ltb-false, or_cases}
+use Rattle.std.proofs.lemmas.Bool.{and_parts, ltb-true, ltb-false, or_cases}
 use Rattle.std.proofs.lemmas.List.{take_all}
-use Rattle.std.proofs.lemmas.Option.{slice_get-get_or}
+use Rattle.std.proofs.lemmas.Option.{slice_get-get_or, slice_get_within}
 use Rattle.admit_core.specs.Lists.{is_among}
 use Rattle.admit_core.proofs.Tests.{Ascends}
 use Rattle.linked_demand.specs.declared.rows.RowWish.{RowWish}
-use Rattle.linked_demand.specs.declared.housed.Rung.{Rung}
+use Rattle.linked_demand.specs.Rungs.{Rung, BedRow, housed_in, rank_in, rungs_of}
 use Rattle.linked_demand.specs.Demand.{counted, is_proposed_at}
-use Rattle.linked_demand.specs.Housed.{ranks_of, housed_in, reached, last_rank, AreNoted, AreHoused}
+use Rattle.linked_demand.specs.Housed.{ranks_of, reached, last_rank, AreNoted, AreHoused}
 use Rattle.linked_demand.specs.Links.{LinksRow}
 use Rattle.linked_demand.specs.Rows.{needs_bed, row_in, row_item, AreOpen, RanksRise}
 use Rattle.linked_demand.proofs.Demanded.{Rises, rises_row}
 use Rattle.linked_demand.proofs.Falling.{in_front, front_at}
 use Rattle.linked_demand.proofs.HousedRows.{left_others, housed_by, demands_rank, demander_of}
 use Rattle.linked_demand.proofs.HousedWishes.{Houses}
-use Rattle.linked_demand.proofs.Passing.{no_more, one_more, passing, passing_all, passing_at}
-use Rattle.linked_demand.proofs.Rungs.{among_push, housed_same, last_known, ranks_noted, rises_push}
-
--- a rank that is reached
-module _ (r : ℕ) (xs : List Rung) where
-  abbrev one : Rung
-  one = record { rank = r; housed = false }
-
-  pub reached_housed : housed_in (reached r xs) ≡ housed_in xs
-  reached_housed =
-      elim (cases_Bool (nat_lt (last_rank xs) r)) [
-        | inl above ↦ rw above (housed_same xs one refl)
-        | inr not_above ↦ rw not_above refl
-      ]
-
-  pub reached_rises : Ascends (0 ∷ ranks_of xs) → Ascends (0 ∷ ranks_of (reached r xs))
-  reached_rises rises =
-      elim (cases_Bool (nat_lt (last_rank xs) r)) [
-        | inl above ↦ rw above (rises_push xs one rises (ltb-true (last_rank xs) r above))
-        | inr not_above ↦ rw not_above rises
-      ]
-
-  pub reached_known : (q : ℕ) → is_among q (ranks_of xs) ≡ true → is_among q (ranks_of (reached r xs)) ≡ true
-  reached_known q t =
-      elim (cases_Bool (nat_lt (last_rank xs) r)) [
-        | inl above ↦ rw above (among_push q xs one ∙ or_left (is_among q (ranks_of xs)) (nat_eq q r) t)
-        | inr not_above ↦ rw not_above t
-      ]
-
-  pub reached_own : 0 < r → last_rank xs ≤ r → is_among r (ranks_of (reached r xs)) ≡ true
-  reached_own some le =
-      elim (cases_Bool (nat_lt (last_rank xs) r)) [
-        | inl above ↦ rw above (among_push r xs one
-            ∙ or_right (is_among r (ranks_of xs)) (nat_eq r r) (eq-eqb r r refl))
-        | inr not_above ↦ rw not_above (
-            let high = ltb-false (last_rank xs) r not_above in
-            let same : last_rank xs ≡ r = omega (arith, high, le) in
-            ap (λ n. is_among n (ranks_of xs)) (sym same) ∙ last_known xs (omega (arith, same, some)))
-      ]
-
-  pub reached_from : (q : ℕ) → is_among q (ranks_of (reached r xs)) ≡ true
-      → (is_among q (ranks_of xs) ≡ true) ⊎ (q ≡ r)
-  reached_from q t =
-      elim (cases_Bool (nat_lt (last_rank xs) r)) [
-        | inl above ↦ elim (or_cases (is_among q (ranks_of xs)) (nat_eq q r)
-            (sym (among_push q xs one) ∙ (rw above at t))) [
-              | inl was ↦ inl was
-              | inr now ↦ inr (eqb-true q r now)
-            ]
-        | inr not_above ↦ inl (rw not_above at t)
-      ]
+use Rattle.linked_demand.proofs.Passing.{no_more, one_more, passing, passing_all, passing_at, passing_behind}
+use Rattle.linked_demand.proofs.RowRungs.{rank_read, rank_there, ranks_rise}
+use Rattle.linked_demand.proofs.Rungs.{last_known, ranks_noted}
+use Rattle.linked_demand.proofs.RungSteps.{reached_from, reached_housed, reached_known, reached_own, reached_rises}
 
 abbrev pub nobody : ℕ → Bool
 nobody k = false
@@ -267,8 +221,9 @@ module _ (p : ℕ → Bool) (row : List RowWish) (rises : RanksRise row) (free :
 
 -- the same while the first boarders of a school are gone along, of whom some are in its row
 module _ (links : LinksRow) (front : List RowWish) (items : AreOpen links (row_in links.state front))
-    (rises : RanksRise (row_in links.state front)) (free i : ℕ) (d : RowWish) (lt : i < length front)
-    (xs : List Rung) (to : IsHousedTo (is_proposed_at links) (row_in links.state front) free
+    (rises : RanksRise (row_in links.state front)) (all_rise : IsNonDecreasingBy (λ (x : RowWish). x.rank) front)
+    (free i : ℕ) (d : RowWish) (lt : i < length front) (xs : List Rung)
+    (to : IsHousedTo (is_proposed_at links) (row_in links.state front) free
     (passing (needs_bed links.state) front i) xs) where
   abbrev q : RowWish → Bool
   q = needs_bed links.state
@@ -282,49 +237,84 @@ module _ (links : LinksRow) (front : List RowWish) (items : AreOpen links (row_i
   at : slice_get front i ≡ Some y
   at = slice_get-get_or front i d lt
 
-  -- one who is not in the row is passed over
-  pub skipped : q y ≡ false → IsHousedTo (is_proposed_at links) row free (passing q front (i + 1)) xs
-  skipped none =
-      let P = λ (n : ℕ). IsHousedTo (is_proposed_at links) row free n xs in
-      subst P (sym (no_more q front i (i + 1) y at refl none)) to
+  module _ (now : List Rung) (now_is : now ≡ reached y.rank xs) where
+    behind : (k : ℕ) (x : RowWish) → passing q front i ≤ k → slice_get row k ≡ Some x → y.rank ≤ x.rank
+    behind k x le there =
+        let (j, far, found) = passing_behind q front i k x there le in
+        omega (
+          arith,
+          ranks_rise front all_rise i j far (slice_get_within front j x found),
+          rank_there front i y at,
+          rank_there front j x found,
+        )
 
-  module _ (needs : q y ≡ true) (now : List Rung) (now_is : now ≡ reached y.rank xs) where
-    here : slice_get row (passing q front i) ≡ Some y
-    here = passing_at q front i y at needs
+    reached_past : IsHousedTo (is_proposed_at links) row free (passing q front i) (reached y.rank xs)
+    reached_past =
+        let was = to.are.noted_are in
+        record {
+          are = record {
+            noted_are = record {
+              rises = reached_rises y.rank xs was.rises;
+              sound = λ r t. was.sound r (ap (is_among r) (sym (reached_housed y.rank xs)) ∙ t);
+              complete = λ k x there pass none some low. ap (is_among x.rank) (reached_housed y.rank xs)
+                  ∙ was.complete k x there pass none some low;
+              known = λ k x there some low. reached_known y.rank xs x.rank (was.known k x there some low);
+              below = λ r t. refl;
+            };
+            few = omega (arith, to.are.few, ap (λ (ns : List ℕ). length ns) (reached_housed y.rank xs));
+            demanded = to.are.demanded;
+            full = λ o is. absurd (false≢true (ap is_some is));
+          };
+          most = λ k x le there r t. elim (reached_from y.rank xs r t) [
+            | inl before ↦ to.most k x le there r before
+            | inr same ↦ omega (arith, same, behind k x le there)
+          ];
+        }
 
-    next : (zs : List Rung) → IsHousedTo (is_proposed_at links) row free (passing q front i + 1) zs
-        → IsHousedTo (is_proposed_at links) row free (passing q front (i + 1)) zs
-    next zs =
-        let P = λ (n : ℕ). IsHousedTo (is_proposed_at links) row free n zs in
-        subst P (sym (one_more q front i (i + 1) y at refl needs))
+    -- of one who is not in the row the rank is known
+    pub skipped : q y ≡ false → IsHousedTo (is_proposed_at links) row free (passing q front (i + 1)) now
+    skipped none =
+        let P = λ (n : ℕ). IsHousedTo (is_proposed_at links) row free n (reached y.rank xs) in
+        let Q = λ (zs : List Rung). IsHousedTo (is_proposed_at links) row free (passing q front (i + 1)) zs in
+        subst Q (sym now_is) (subst P (sym (no_more q front i (i + 1) y at refl none)) reached_past)
 
-    one_rank : (j : ℕ) (x : RowWish) → slice_get row j ≡ Some x → x.wish ≡ y.wish → x.rank ≡ y.rank
-    one_rank j x there same =
-        ap (λ (z : RowWish). z.rank) (items j x there).item
-        ∙ ap (λ (k : ℕ). (row_item links.state links.orders k).rank) same
-        ∙ sym (ap (λ (z : RowWish). z.rank) (items (passing q front i) y here).item)
+    module _ (needs : q y ≡ true) where
+      here : slice_get row (passing q front i) ≡ Some y
+      here = passing_at q front i y at needs
 
-    pub read_over : is_proposed_at links y.wish ≡ false
-        → IsHousedTo (is_proposed_at links) row free (passing q front (i + 1)) now
-    read_over fails =
-        let P = λ (zs : List Rung). IsHousedTo (is_proposed_at links) row free (passing q front (i + 1)) zs in
-        subst P (sym now_is) (next (reached y.rank xs)
-        (passed_over (is_proposed_at links) row rises free (passing q front i) y here xs to one_rank fails))
+      next : (zs : List Rung) → IsHousedTo (is_proposed_at links) row free (passing q front i + 1) zs
+          → IsHousedTo (is_proposed_at links) row free (passing q front (i + 1)) zs
+      next zs =
+          let P = λ (n : ℕ). IsHousedTo (is_proposed_at links) row free n zs in
+          subst P (sym (one_more q front i (i + 1) y at refl needs))
 
-    module _ (pass : is_proposed_at links y.wish ≡ true) (o : Option ℕ) (ys : List Rung)
-        (houses : Houses free y.rank now ys o) where
-      houses_now : Houses free y.rank (reached y.rank xs) ys o
-      houses_now = let P = λ (zs : List Rung). Houses free y.rank zs ys o in subst P now_is houses
+      one_rank : (j : ℕ) (x : RowWish) → slice_get row j ≡ Some x → x.wish ≡ y.wish → x.rank ≡ y.rank
+      one_rank j x there same =
+          ap (λ (z : RowWish). z.rank) (items j x there).item
+          ∙ ap (λ (k : ℕ). (row_item links.state links.orders k).rank) same
+          ∙ sym (ap (λ (z : RowWish). z.rank) (items (passing q front i) y here).item)
 
-      pub read_has : is_some o ≡ false → IsHousedTo (is_proposed_at links) row free (passing q front (i + 1)) ys
-      read_has none =
-          next ys (has_bed (is_proposed_at links) row rises free (passing q front i) y here xs to one_rank pass o ys
-          none houses_now)
+      pub read_over : is_proposed_at links y.wish ≡ false
+          → IsHousedTo (is_proposed_at links) row free (passing q front (i + 1)) now
+      read_over fails =
+          let P = λ (zs : List Rung). IsHousedTo (is_proposed_at links) row free (passing q front (i + 1)) zs in
+          subst P (sym now_is) (next (reached y.rank xs)
+          (passed_over (is_proposed_at links) row rises free (passing q front i) y here xs to one_rank fails))
 
-      pub read_none : is_some o ≡ true → AreHoused (is_proposed_at links) nobody row free o ys
-      read_none some =
-          has_none (is_proposed_at links) row rises free (passing q front i) y here xs to one_rank pass o ys some
-          houses_now
+      module _ (pass : is_proposed_at links y.wish ≡ true) (o : Option ℕ) (ys : List Rung)
+          (houses : Houses free y.rank now ys o) where
+        houses_now : Houses free y.rank (reached y.rank xs) ys o
+        houses_now = let P = λ (zs : List Rung). Houses free y.rank zs ys o in subst P now_is houses
+
+        pub read_has : is_some o ≡ false → IsHousedTo (is_proposed_at links) row free (passing q front (i + 1)) ys
+        read_has none =
+            next ys (has_bed (is_proposed_at links) row rises free (passing q front i) y here xs to one_rank pass o ys
+            none houses_now)
+
+        pub read_none : is_some o ≡ true → AreHoused (is_proposed_at links) nobody row free o ys
+        read_none some =
+            has_none (is_proposed_at links) row rises free (passing q front i) y here xs to one_rank pass o ys some
+            houses_now
 
 pub all_of_front : (links : LinksRow) (front : List RowWish) (free i : ℕ) (xs : List Rung) → length front ≤ i
     → IsHousedTo (is_proposed_at links) (row_in links.state front) free (passing (needs_bed links.state) front i) xs
@@ -335,3 +325,86 @@ all_of_front links front free i xs le to rises =
     let all = passing_all (needs_bed links.state) front i le in
     all_housed (is_proposed_at links) row rises free (passing (needs_bed links.state) front i) xs
     (omega (arith, all)) to
+
+-- a row is gone along, and so many of its places are known
+pub record IsFoundTo (links : LinksRow) (front : List RowWish) (free i : ℕ) (b : BedRow) : Type 0 where
+  pub along : b.row ≡ front
+  pub so_far : b.known ≡ i
+  pub housed : IsHousedTo (is_proposed_at links) (row_in links.state front) free
+      (passing (needs_bed links.state) front i) (rungs_of b)
+
+pub found_start : (links : LinksRow) (front : List RowWish) (free : ℕ) (flags : List Bool) (b : BedRow)
+    → RanksRise (row_in links.state front) → b ≡ record { row = front; known = 0; flags = flags }
+    → IsFoundTo links front free 0 b
+found_start links front free flags b rises is =
+    let P = λ (x : BedRow). IsFoundTo links front free 0 x in
+    subst P (sym is) (record {
+      along = refl;
+      so_far = refl;
+      housed = none_housed (is_proposed_at links) (row_in links.state front) rises free;
+    })
+
+module _ (links : LinksRow) (front : List RowWish) (items : AreOpen links (row_in links.state front))
+    (rises : RanksRise (row_in links.state front)) (all_rise : IsNonDecreasingBy (λ (x : RowWish). x.rank) front)
+    (free i : ℕ) (d : RowWish) (lt : i < length front) (b : BedRow) (to : IsFoundTo links front free i b)
+    (now : BedRow) (known : now ≡ record b { known = b.known + 1 })
+    (rungs : rungs_of now ≡ reached (rank_in b.row b.known) (rungs_of b)) where
+  abbrev x : RowWish
+  x = get_or front i d
+
+  abbrev demands : Bool
+  demands = needs_bed links.state x && is_proposed_at links x.wish
+
+  now_is : rungs_of now ≡ reached x.rank (rungs_of b)
+  now_is =
+      rungs ∙ ap (λ n. reached n (rungs_of b)) ((λ j. rank_in (to.along j) (to.so_far j)) ∙ sym (rank_read front i d lt))
+
+  next_along : now.row ≡ front
+  next_along = ap (λ (z : BedRow). z.row) known ∙ to.along
+
+  next_far : now.known ≡ i + 1
+  next_far = ap (λ (z : BedRow). z.known) known ∙ ap (λ n. n + 1) to.so_far
+
+  -- who demands no bed is passed over
+  pub found_over : demands ≡ false → IsFoundTo links front free (i + 1) now
+  found_over none = record {
+    along = next_along;
+    so_far = next_far;
+    housed = elim (cases_Bool (needs_bed links.state x)) [
+      | inl needs ↦
+          let fails : is_proposed_at links x.wish ≡ false = rw needs at none in
+          read_over links front items rises all_rise free i d lt (rungs_of b) to.housed (rungs_of now) now_is needs
+          fails
+      | inr not_so ↦ skipped links front items rises all_rise free i d lt (rungs_of b) to.housed (rungs_of now) now_is
+          not_so
+    ];
+  }
+
+  module _ (both : demands ≡ true) (o : Option ℕ) (then : BedRow)
+      (houses : Houses free x.rank (rungs_of now) (rungs_of then) o) where
+    needs_one : needs_bed links.state x ≡ true
+    needs_one = (and_parts (needs_bed links.state x) (is_proposed_at links x.wish) both).0
+
+    passes_too : is_proposed_at links x.wish ≡ true
+    passes_too = (and_parts (needs_bed links.state x) (is_proposed_at links x.wish) both).1
+
+    -- who does has one
+    pub found_has : is_some o ≡ false → IfNone o (then ≡ record now { flags = then.flags })
+        → IsFoundTo links front free (i + 1) then
+    found_has none same = by_answer o none same houses
+      where
+        by_answer : (v : Option ℕ) → is_some v ≡ false → IfNone v (then ≡ record now { flags = then.flags })
+            → Houses free x.rank (rungs_of now) (rungs_of then) v → IsFoundTo links front free (i + 1) then
+        by_answer None none same by = record {
+          along = ap (λ (z : BedRow). z.row) same ∙ next_along;
+          so_far = ap (λ (z : BedRow). z.known) same ∙ next_far;
+          housed = read_has links front items rises all_rise free i d lt (rungs_of b) to.housed (rungs_of now) now_is
+              needs_one passes_too None (rungs_of then) by refl;
+        }
+        by_answer (Some v) none same by = absurd (false≢true (sym none))
+
+    pub found_none : is_some o ≡ true
+        → AreHoused (is_proposed_at links) nobody (row_in links.state front) free o (rungs_of then)
+    found_none some =
+        read_none links front items rises all_rise free i d lt (rungs_of b) to.housed (rungs_of now) now_is
+        needs_one passes_too o (rungs_of then) houses some

@@ -16,9 +16,9 @@ use Rattle.admit_core.specs.Lists.{is_among}
 use Rattle.admit_core.proofs.Plain.{same_test}
 use Rattle.admit_core.proofs.Tests.{Ascends, same_members}
 use Rattle.linked_demand.specs.declared.rows.RowWish.{RowWish}
-use Rattle.linked_demand.specs.declared.housed.Rung.{Rung}
+use Rattle.linked_demand.specs.Rungs.{Rung, housed_in}
 use Rattle.linked_demand.specs.Demand.{counted}
-use Rattle.linked_demand.specs.Housed.{ranks_of, housed_in, kept, noted, GivesUp, is_below, AreNoted}
+use Rattle.linked_demand.specs.Housed.{ranks_of, kept, noted, GivesUp, is_below, AreNoted}
 use Rattle.linked_demand.specs.Housed.{AreHoused, within}
 use Rattle.linked_demand.proofs.Closing.{any_at}
 use Rattle.linked_demand.proofs.Demanded.{Rises, ascends_counted, among_counted, passes, any_place}

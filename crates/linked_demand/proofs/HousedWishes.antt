@@ -15,11 +15,11 @@ use Rattle.admit_core.specs.Proposals.{is_proposed}
 use Rattle.admit_core.proofs.DemandLaws.{demanded}
 use Rattle.day_state.specs.Kept.{wish_in, mark_in, has_bed_there, holds_bed_in}
 use Rattle.linked_demand.specs.declared.rows.RowWish.{RowWish}
-use Rattle.linked_demand.specs.declared.housed.Rung.{Rung}
+use Rattle.linked_demand.specs.Rungs.{Rung, housed_in}
 use Rattle.linked_demand.specs.Links.{LinksRow}
 use Rattle.linked_demand.specs.Demand.{is_proposed_at, counted}
 use Rattle.linked_demand.specs.Filled.{bed_sought, wants_bed}
-use Rattle.linked_demand.specs.Housed.{AllHoused, GivesUp, housed_in, noted}
+use Rattle.linked_demand.specs.Housed.{AllHoused, GivesUp, noted}
 use Rattle.linked_demand.specs.Rounds.{IsRound}
 use Rattle.linked_demand.proofs.KeptAnswers.{proposed_entry}
 use Rattle.linked_demand.proofs.Closing.{any_at}

@@ -6,7 +6,8 @@ use Rattle.std.specs.Prelude.{slice_get, slice_index, All}
 use Rattle.std.specs.List.{position_or_len}
 use Rattle.std.proofs.Math.Bool.{or_comm}
 use Rattle.std.proofs.lemmas.Bool.{eq-eqb, ne_eqb}
-use Rattle.std.proofs.lemmas.List.{get_or_default}
+use Rattle.std.proofs.lemmas.List.{get_or_default, length-map}
+use Rattle.std.proofs.lemmas.List.FromFn.{length-map-range_with_len}
 use Rattle.std.proofs.lemmas.List.Sums.{position_or_len_is}
 use Rattle.admit_core.specs.declared.dossier.Wish.{Wish}
 use Rattle.admit_core.specs.declared.state.Mark.{Mark}
@@ -21,10 +22,10 @@ use Rattle.linked_demand.specs.Boarders.{IsBoarder}
 use Rattle.linked_demand.specs.Demand.{is_proposed_at}
 use Rattle.linked_demand.specs.Line.{LineRow, is_reached}
 use Rattle.linked_demand.specs.Links.{IsLinked, IsPlaceOf, IsSeatPlace, LinksRow, WaitsAt}
-use Rattle.linked_demand.specs.Opens.{line_of}
-use Rattle.linked_demand.specs.Rows.{item_at, line_place, row_item}
+use Rattle.linked_demand.specs.Opens.{line_of, seat_row}
+use Rattle.linked_demand.specs.Rows.{item_at, line_place, row_item, IsItem}
 use Rattle.linked_demand.specs.Seats.{is_called_by_limit}
-use Rattle.linked_demand.specs.Wants.{IsReached, stops_wanting, wants_with}
+use Rattle.linked_demand.specs.Wants.{IsReached, reach_in, seat_rows, stops_wanting, wants_with}
 use Rattle.linked_demand.proofs.Closing.{Closes, claim_right, closes_read, proposed_at_is, proposed_right, wish_of}
 use Rattle.linked_demand.proofs.Closing.{wish_there, wish_within}
 use Rattle.linked_demand.proofs.Leaving.{Reads}
@@ -162,6 +163,32 @@ module _ {s : State} {orders : List CallOrder} {opens : List Bool} {lines : List
         ∙ ap (λ (b : Bool). b && (needs_none || reached)) (sym set)
         ∙ right
         ∙ sym (proposed_at_is here x.wish w k.mark k.at))
+
+-- what is known of an item whose wish may be closed
+module _ {s : State} {orders : List CallOrder} {opens : List Bool} {reached : List ℕ}
+    {claims : List (List (List ℕ))} {places : List ℕ} {sure : List Bool}
+    (reach : IsReached s orders opens reached claims places sure) (row : LinksRow)
+    (is : record { state = s; orders = orders; opens = opens } ≡ row) (x : RowWish)
+    (own : IsItem row.state.dossier row.orders x) where
+  here_own : IsItem s.dossier orders x
+  here_own = let P = λ (r : LinksRow). IsItem r.state.dossier r.orders x in subst P (sym is) own
+
+  pub own_within : x.wish < length s.dossier.wishes
+  own_within = here_own.within
+
+  pub own_bundle : x.bundle ≡ seat_bundle s.dossier x.wish
+  own_bundle = ap (λ (y : RowWish). y.bundle) here_own.item
+
+  -- a number is kept of its programme
+  pub own_programme : x.programme < length reached
+  own_programme =
+      let w = wish_in s.dossier.wishes x.wish in
+      let lt = reach.links.programmes_are x.wish w (wish_there s.dossier.wishes x.wish w own_within refl) in
+      let many : length reached ≡ length s.dossier.programmes =
+      ap (λ (ns : List ℕ). length ns) reach.reached_are
+      ∙ length-map (seat_rows s orders opens) reach_in
+      ∙ length-map-range_with_len (seat_row s orders opens) 0 (length s.dossier.programmes) in
+      omega (arith, lt, many, ap (λ (y : RowWish). y.programme) here_own.item)
 
 -- what is known where a wish of a row is closed
 module _ {s : State} {orders : List CallOrder} {opens : List Bool} {reached : List ℕ}

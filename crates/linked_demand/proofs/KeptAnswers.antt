@@ -13,7 +13,7 @@ use Rattle.admit_core.specs.Proposals.{is_open, is_proposed}
 use Rattle.linked_demand.specs.declared.rows.RowWish.{RowWish}
 use Rattle.linked_demand.specs.Links.{LinksRow}
 use Rattle.linked_demand.specs.Opens.{opens_of, is_proposed_by}
-use Rattle.linked_demand.specs.declared.housed.Rung.{Rung}
+use Rattle.linked_demand.specs.Rungs.{Rung}
 use Rattle.linked_demand.specs.Demand.{is_proposed_at, counted, over_at}
 use Rattle.linked_demand.specs.Housed.{AllHoused}
 use Rattle.linked_demand.specs.Rounds.{IsRound}

@@ -6,7 +6,7 @@
 -- Rows of the schools: RowsTo, RowsRight, FirstBoarders, Items, RowSteps, RowFronts, Demanded, Naming.
 -- A wish is closed: Moving, Ticking, Marking, Staying; the end of a row falls: Cutting, Telling.
 -- A bar falls: OneFall, Answered, RoundFalls, TickLaw, Spending.
--- Who has a bed: Rungs, RungSteps, HousedRows, HousedFronts, HousedAll, HousedWishes, HousedMarks, HousedFalls;
+-- Who has a bed: Rungs, RungSteps, RowRungs, RowBeds, HousedRows, HousedFronts, HousedAll, HousedWishes, HousedMarks, HousedFalls;
 -- the answers: KeptAnswers; the beds that are lent: Lent.
 -- The system as a whole: BarEach, Rounding, and last Lowered.
 pub mod Answered
@@ -56,10 +56,12 @@ pub mod Putting
 pub mod Reach
 pub mod RoundFalls
 pub mod RowFronts
+pub mod RowRungs
 pub mod RowSteps
 pub mod RowsRight
 pub mod RowsTo
 pub mod Rounding
+pub mod RowBeds
 pub mod RungSteps
 pub mod Rungs
 pub mod Seating

@@ -17,7 +17,7 @@ use Rattle.admit_core.specs.State.{State, entries, holds_bed, has_school}
 use Rattle.admit_core.specs.Proposals.{is_open, proposed}
 use Rattle.admit_core.specs.Boarding.{boarding}
 use Rattle.linked_demand.specs.declared.rows.RowWish.{RowWish}
-use Rattle.linked_demand.specs.declared.housed.Rung.{Rung}
+use Rattle.linked_demand.specs.Rungs.{Rung}
 use Rattle.linked_demand.specs.Boarders.{AreBySchool}
 use Rattle.linked_demand.specs.Lent.{left_of, lent}
 use Rattle.linked_demand.specs.Links.{LinksRow}

@@ -18,7 +18,7 @@ use Rattle.bar_fixpoint.proofs.Listing.{overfilled_by_rank}
 use Rattle.day_state.specs.Kept.{mark_in, wish_in}
 use Rattle.day_state.proofs.Places.{entry_in, entries_by_place}
 use Rattle.linked_demand.specs.declared.rows.RowWish.{RowWish}
-use Rattle.linked_demand.specs.declared.housed.Rung.{Rung}
+use Rattle.linked_demand.specs.Rungs.{Rung}
 use Rattle.linked_demand.specs.Lent.{left_of, lent}
 use Rattle.linked_demand.specs.Links.{LinksRow, WaitsAt, AllOpenWait}
 use Rattle.linked_demand.specs.Listed.{answered}

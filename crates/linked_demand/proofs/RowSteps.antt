@@ -72,14 +72,12 @@ module _ (p : ℕ → Bool) (q : RowWish → Bool) (row : List RowWish) where
         let x = get_or row i d in
         and_right (q x) (nat_lt last x.rank && p x.wish) (ap (λ b. b && p x.wish) (le-ltb last x.rank le))
 
-    pub not_needed : q (get_or row i d) ≡ false
+    pub not_demanded : (q (get_or row i d) && p (get_or row i d).wish) ≡ false
         → (q (get_or row i d) && (nat_lt last (get_or row i d).rank && p (get_or row i d).wish)) ≡ false
-    not_needed none =
+    not_demanded fails =
         let x = get_or row i d in
-        ap (λ b. b && (nat_lt last x.rank && p x.wish)) none
-
-    pub not_proposed : p (get_or row i d).wish ≡ false
-        → (q (get_or row i d) && (nat_lt last (get_or row i d).rank && p (get_or row i d).wish)) ≡ false
-    not_proposed fails =
-        let x = get_or row i d in
-        and_right (q x) (nat_lt last x.rank && p x.wish) (and_right (nat_lt last x.rank) (p x.wish) fails)
+        elim (cases_Bool (q x)) [
+          | inl needs ↦ and_right (q x) (nat_lt last x.rank && p x.wish)
+              (and_right (nat_lt last x.rank) (p x.wish) (rw needs at fails))
+          | inr none ↦ ap (λ b. b && (nat_lt last x.rank && p x.wish)) none
+        ]

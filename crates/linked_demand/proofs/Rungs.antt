@@ -12,8 +12,8 @@ use Rattle.std.proofs.lemmas.Option.{slice_get_within}
 use Rattle.admit_core.specs.Lists.{is_among}
 use Rattle.admit_core.proofs.Plain.{or_false, or_true}
 use Rattle.admit_core.proofs.Tests.{Ascends}
-use Rattle.linked_demand.specs.declared.housed.Rung.{Rung}
-use Rattle.linked_demand.specs.Housed.{ranks_of, housed_in, kept, noted, last_rank}
+use Rattle.linked_demand.specs.Rungs.{Rung, housed_in}
+use Rattle.linked_demand.specs.Housed.{ranks_of, kept, noted, last_rank}
 
 -- a number among those above another is above it
 pub among_above : (n r : ℕ) (ns : List ℕ) → AllByRecursion (λ m. n < m) ns → is_among r ns ≡ true → n < r
@@ -170,18 +170,6 @@ housed_same (y ∷ xs) x has =
       | inr none ↦ rw none (housed_same xs x has)
     ]
 
-above_front : (n : ℕ) (xs : List Rung) (x : Rung) → AllByRecursion (λ m. n < m) (ranks_of (xs ++ x ∷ []))
-    → AllByRecursion (λ m. n < m) (ranks_of xs)
-above_front n [] x all = tt
-above_front n (y ∷ xs) x all = (all.0, above_front n xs x all.1)
-
-ascends_front : (xs : List Rung) (x : Rung) → Ascends (ranks_of (xs ++ x ∷ [])) → Ascends (ranks_of xs)
-ascends_front [] x rises = tt
-ascends_front (y ∷ xs) x rises = (above_front y.rank xs x rises.0, ascends_front xs x rises.1)
-
-pub rises_front : (xs : List Rung) (x : Rung) → Ascends (0 ∷ ranks_of (xs ++ x ∷ [])) → Ascends (0 ∷ ranks_of xs)
-rises_front xs x rises = (above_front 0 xs x rises.0, ascends_front xs x rises.1)
-
 above_mid : (n : ℕ) (xs : List Rung) (x : Rung) (rest : List Rung)
     → AllByRecursion (λ m. n < m) (ranks_of (xs ++ x ∷ rest)) → n < x.rank
 above_mid n [] x rest all = all.0
@@ -320,75 +308,6 @@ most_noted r (x ∷ xs) rises =
             | inr bare ↦ rw (bare, other) (omega (arith, rest))
           ]
     ]
-
--- the rung at a place has a known rank
-pub among_at : (xs : List Rung) (k : ℕ) (x : Rung) → slice_get xs k ≡ Some x → is_among x.rank (ranks_of xs) ≡ true
-among_at [] k x at = absurd (omega (arith, slice_get_within {A = Rung} [] k x at))
-among_at (y ∷ xs) zero x at =
-    let same : y.rank ≡ x.rank = ap (λ (o : Option Rung). (unwrap_or o y).rank) at in
-    or_left (nat_eq x.rank y.rank) (is_among x.rank (ranks_of xs)) (eq-eqb x.rank y.rank (sym same))
-among_at (y ∷ xs) (suc k) x at =
-    or_right (nat_eq x.rank y.rank) (is_among x.rank (ranks_of xs)) (among_at xs k x at)
-
--- a known rank has a place
-pub place_of : (xs : List Rung) (r : ℕ) → is_among r (ranks_of xs) ≡ true
-    → (k : ℕ) × (x : Rung) × (slice_get xs k ≡ Some x) × (x.rank ≡ r)
-place_of [] r t = absurd (false≢true t)
-place_of (x ∷ xs) r t =
-    elim (or_cases (nat_eq r x.rank) (is_among r (ranks_of xs)) t) [
-      | inl here ↦ (0, x, refl, sym (eqb-true r x.rank here))
-      | inr later ↦ let (k, y, at, same) = place_of xs r later in (suc k, y, at, same)
-    ]
-
--- the ranks of two rungs
-pub ranks_apart : (xs : List Rung) (j k : ℕ) (x y : Rung) → Ascends (ranks_of xs) → slice_get xs j ≡ Some x
-    → slice_get xs k ≡ Some y → j < k → x.rank < y.rank
-ranks_apart [] j k x y rises a b lt = absurd (omega (arith, slice_get_within {A = Rung} [] j x a))
-ranks_apart (z ∷ xs) j zero x y rises a b lt = absurd (omega arith)
-ranks_apart (z ∷ xs) zero (suc k) x y rises a b lt =
-    let same : z.rank ≡ x.rank = ap (λ (o : Option Rung). (unwrap_or o z).rank) a in
-    omega (arith, same, among_above z.rank y.rank (ranks_of xs) rises.0 (among_at xs k y b))
-ranks_apart (z ∷ xs) (suc j) (suc k) x y rises a b lt = ranks_apart xs j k x y rises.1 a b (omega arith)
-
--- the rank of a rung is noted in its place
-pub noted_at : (r : ℕ) (xs : List Rung) (at : ℕ) (x : Rung) → Ascends (ranks_of xs) → slice_get xs at ≡ Some x
-    → x.rank ≡ r → noted r xs ≡ set xs at (record x { housed = true })
-noted_at r [] at x rises there is = absurd (omega (arith, slice_get_within {A = Rung} [] at x there))
-noted_at r (y ∷ xs) zero x rises there is =
-    let same : y ≡ x = ap (λ (o : Option Rung). unwrap_or o y) there in
-    let rank : y.rank ≡ r = ap (λ (z : Rung). z.rank) same ∙ is in
-    let none : is_among r (ranks_of xs) ≡ false = false_from_ne_true (is_among r (ranks_of xs))
-    (λ t. omega (arith, among_above y.rank r (ranks_of xs) rises.0 t, rank)) in
-    ap (λ b. let z : Rung = record y { housed = b } in z ∷ noted r xs)
-    (ap (λ b. y.housed || b) (eq-eqb r y.rank (sym rank)) ∙ or_true y.housed)
-    ∙ ap (λ (ys : List Rung). let z : Rung = record y { housed = true } in z ∷ ys) (noted_none r xs none)
-    ∙ ap (λ (z : Rung). let u : Rung = record z { housed = true } in u ∷ xs) same
-noted_at r (y ∷ xs) (suc at) x rises there is =
-    let low = among_above y.rank x.rank (ranks_of xs) rises.0 (among_at xs at x there) in
-    let other : (y.housed || nat_eq r y.rank) ≡ y.housed =
-    ap (λ b. y.housed || b) (ne_eqb r y.rank (λ e. omega (arith, e, low, is))) ∙ or_false y.housed in
-    ap (λ b. let z : Rung = record y { housed = b } in z ∷ noted r xs) other
-    ∙ ap (λ (ys : List Rung). y ∷ ys) (noted_at r xs at x rises.1 there is)
-
-pub count_set : (xs : List Rung) (at : ℕ) (x : Rung) → slice_get xs at ≡ Some x → x.housed ≡ false
-    → length (housed_in (set xs at (record x { housed = true }))) ≡ length (housed_in xs) + 1
-count_set [] at x there none = absurd (omega (arith, slice_get_within {A = Rung} [] at x there))
-count_set (y ∷ xs) zero x there none =
-    let bare : y.housed ≡ false = ap (λ (o : Option Rung). (unwrap_or o y).housed) there ∙ none in
-    rw bare (omega arith)
-count_set (y ∷ xs) (suc at) x there none =
-    let rest = count_set xs at x there none in
-    elim (cases_Bool y.housed) [
-      | inl has ↦ rw has (omega (arith, rest))
-      | inr bare ↦ rw bare rest
-    ]
-
-pub ranks_set : (xs : List Rung) (at : ℕ) (x : Rung) → slice_get xs at ≡ Some x
-    → ranks_of (set xs at (record x { housed = true })) ≡ ranks_of xs
-ranks_set [] at x there = refl
-ranks_set (y ∷ xs) zero x there =
-    ap (λ (o : Option Rung). (unwrap_or o y).rank ∷ ranks_of xs) (sym there)
-ranks_set (y ∷ xs) (suc at) x there = ap (λ (ns : List ℕ). y.rank ∷ ns) (ranks_set xs at x there)
 
 above_push : (n : ℕ) (xs : List Rung) (x : Rung) → AllByRecursion (λ m. n < m) (ranks_of xs) → n < x.rank
     → AllByRecursion (λ m. n < m) (ranks_of (xs ++ x ∷ []))

@@ -5,17 +5,13 @@ use Rattle.std.specs.Prelude.{Option, Some, None, option_map, unwrap_or, if◌th
 use Rattle.std.specs.Prelude.{slice_index_or}
 use Rattle.admit_core.specs.Lists.{is_among}
 use Rattle.admit_core.proofs.Tests.{Ascends}
-use Rattle.linked_demand.specs.declared.housed.Rung.{Rung}
+use Rattle.linked_demand.specs.Rungs.{Rung, housed_in}
 use Rattle.linked_demand.specs.declared.rows.RowWish.{RowWish}
 use Rattle.linked_demand.specs.Demand.{counted, is_proposed_at}
 use Rattle.linked_demand.specs.Links.{LinksRow}
 
 abbrev pub ranks_of : List Rung → List ℕ
 ranks_of xs = map (λ x. x.rank) xs
-
--- the ranks that have a bed
-abbrev pub housed_in : List Rung → List ℕ
-housed_in xs = map (λ x. x.rank) (filter (λ x. x.housed) xs)
 
 -- the rungs whose ranks pass a test
 abbrev pub kept : (ℕ → Bool) → List Rung → List Rung
@@ -34,11 +30,6 @@ reached r xs =
 abbrev pub noted : ℕ → List Rung → List Rung
 noted r xs =
     map (λ x. let y : Rung = record x { housed = x.housed || nat_eq r x.rank } in y) xs
-
--- the ranks rise from 1, and so many have a bed
-pub record AreRungs (xs : List Rung) (count : ℕ) : Type 0 where
-  pub rises : Ascends (0 ∷ ranks_of xs)
-  pub count_is : count ≡ length (housed_in xs)
 
 -- the last rank that has a bed is given up, with all above it
 pub record GivesUp (old new : List Rung) (rank : ℕ) : Type 0 where

@@ -20,6 +20,7 @@ pub mod Opens
 pub mod Rosters
 pub mod Rounds
 pub mod Rows
+pub mod Rungs
 pub mod Seats
 pub mod Ticks
 pub mod Wants

@@ -14,7 +14,7 @@ use Rattle.linked_demand.specs.Links.{LinksRow}
 use Rattle.linked_demand.specs.Opens.{opens_of}
 use Rattle.linked_demand.specs.Rows.{IsRow, AllItems, AreEnds, rows_to}
 use Rattle.linked_demand.specs.Demand.{over_at}
-use Rattle.linked_demand.specs.declared.housed.Rung.{Rung}
+use Rattle.linked_demand.specs.Rungs.{Rung}
 use Rattle.linked_demand.specs.Housed.{AllHoused}
 
 -- what a round is seen as: its state has the beds that are lent

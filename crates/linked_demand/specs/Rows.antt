@@ -160,8 +160,9 @@ AreByRankEach boarders =
     (h : ℕ) (own : Vec RowWish Global) → slice_get boarders h ≡ Some own
     → IsNonDecreasingBy (λ x. x.rank) own.items
 
--- the first boarders of a school, whose row is of open wishes by rank
+-- the first boarders of a school by rank, whose row is of open wishes by rank
 pub record AreOpenFirst (l : LinksRow) (front : List RowWish) : Type 0 where
+  pub all_rise : IsNonDecreasingBy (λ x. x.rank) front
   pub own : All (IsItem l.state.dossier l.orders) front
   pub items : AreOpen l (row_in l.state front)
   pub rises : RanksRise (row_in l.state front)

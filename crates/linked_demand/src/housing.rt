@@ -15,6 +15,7 @@ use crate::housed::Housed;
 use crate::links::SeatLinks;
 use crate::marks::Marks;
 use crate::overfilled::Overfilled;
+use crate::row_beds::RowBeds;
 use crate::rows::RowWish;
 use crate::schools::school_count;
 use admit_core::OutOfMemory;
@@ -24,48 +25,48 @@ use std::alloc::Global;
 /// The ranks of a school that have a bed, and the first demanded one that has none, if there is
 /// one.
 #[derive(Drop)]
-struct Housing {
-    housed: Housed,
+struct Housing<'a> {
+    housed: Housed<'a>,
     over: Option<u32>,
 }
 
 /// Houses the demanded ranks of the first boarders of a school, from the least, as far as there are
 /// beds.
-fn house_row(
+fn house_row<'a>(
     alloc: Global,
     links: &SeatLinks<'_, '_>,
-    front: &[RowWish],
+    front: &'a [RowWish],
     beds: u32,
-) -> Result<Housing, OutOfMemory>
+) -> Result<Housing<'a>, OutOfMemory>
     requires { AreOpenFirst links.now front.now }
     ensures { IfOk result (λ v. AreHoused (is_proposed_at links.now) (λ k. false)
         (row_in links.now.state front.now) beds v.over v.housed) }
 {
-    let mut housed = Housed::none(alloc);
+    let mut found = RowBeds::along(alloc, front)?;
     for item in front {
-        if links.needs_bed(*item) {
-            housed.reach(item.rank)?;
-            if links.proposes(*item) {
-                let over = housed.house(item.rank, beds);
-                if over.is_some() {
-                    return Ok(Housing { housed, over });
-                }
+        found.advance();
+        if links.demands(*item) {
+            let over = found.house(item.rank, beds);
+            if over.is_some() {
+                let housed = Housed::of(found);
+                return Ok(Housing { housed, over });
             }
         }
     }
+    let housed = Housed::of(found);
     Ok(Housing { housed, over: None })
 }
 
 /// Houses the demanded ranks of all schools, of which none is overfilled yet, as far as these beds
 /// go.
-pub fn house_all(
+pub fn house_all<'a>(
     alloc: Global,
     links: &SeatLinks<'_, '_>,
-    boarders: &[Vec<RowWish>],
+    boarders: &'a [Vec<RowWish>],
     ends: &[usize],
     beds: &[u32],
     overfilled: &mut Overfilled,
-) -> Result<Vec<Housed>, OutOfMemory>
+) -> Result<Vec<Housed<'a>>, OutOfMemory>
     requires boarders { AreBySchool links.now.state.dossier links.now.orders boarders.now }
     requires ends { AreEnds boarders.now ends.now }
     requires beds { length beds.now ≡ length links.now.state.dossier.schools }
@@ -89,7 +90,7 @@ pub fn house_all(
 }
 
 /// Takes away the beds of a school of those who rank past a bar.
-pub fn cut_school(housed: &mut Vec<Housed>, overfilled: &mut Overfilled, school: u32, to: u32)
+pub fn cut_school(housed: &mut Vec<Housed<'_>>, overfilled: &mut Overfilled, school: u32, to: u32)
     requires housed { school < length housed.old.items }
     requires overfilled { school < length overfilled.old }
     ensures housed { housed.new.items ≡ slice_set housed.old.items school
@@ -107,7 +108,7 @@ fn house_wish(
     links: &SeatLinks<'_, '_>,
     beds: &[u32],
     wish: u32,
-    housed: &mut Vec<Housed>,
+    housed: &mut Vec<Housed<'_>>,
     overfilled: &mut Overfilled,
 )
     requires wish { wish < length links.now.state.dossier.wishes }
@@ -140,7 +141,7 @@ pub fn house_marked(
     links: &SeatLinks<'_, '_>,
     beds: &[u32],
     marked: &mut Marks,
-    housed: &mut Vec<Housed>,
+    housed: &mut Vec<Housed<'_>>,
     overfilled: &mut Overfilled,
 )
     requires marked { length marked.old ≡ length links.now.state.dossier.wishes }

@@ -32,6 +32,7 @@ mod over;
 mod overfilled;
 mod roster;
 mod round;
+mod row_beds;
 mod rows;
 mod schools;
 mod seats;

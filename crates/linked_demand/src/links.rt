@@ -1,5 +1,5 @@
 //! Who is served in each programme while wishes are closed.
-ghost use Rattle.std.specs.Prelude.{◌≡◌, ◌+◌, ◌<◌, ◌&&◌, ◌||◌, false, not, length, filter, slice_set, slice_index_or, count_by, IfOk};
+ghost use Rattle.std.specs.Prelude.{◌≡◌, ◌+◌, ◌<◌, ◌&&◌, ◌||◌, true, false, not, length, filter, slice_set, slice_index_or, count_by, IfOk};
 ghost use Rattle.std.specs.List.{enumerate_from, range_with_len};
 ghost use Rattle.admit_core.specs.State.{entries, is_live};
 ghost use Rattle.day_state.specs.Bundles.{seat_bundle};
@@ -45,13 +45,12 @@ fn is_seated(state: &DayState<'_>, notes: &Notes, wish: u32, reached: bool) -> b
     reached || needs_no_seat(state, notes, wish)
 }
 
-/// Whether an open wish of a row has a seat, by what its item tells.
+/// Whether a wish of a row has a seat where it is open, by what its item tells.
 fn is_item_seated(state: &DayState<'_>, item: RowWish, reached: bool) -> bool
     requires wish { item.wish < length state.now.dossier.wishes }
-    requires waits { is_live (mark_in state.now.marks item.wish) ≡ false }
     requires bundle { item.bundle ≡ seat_bundle state.now.dossier item.wish }
-    ensures { result ≡ (reached
-        || (item.called_by_limit || has_seat_there state.now item.wish)) }
+    ensures { is_live (mark_in state.now.marks item.wish) ≡ false
+        → result ≡ (reached || (item.called_by_limit || has_seat_there state.now item.wish)) }
 {
     reached || (item.called_by_limit || is_item_live(state, item))
 }
@@ -137,10 +136,10 @@ impl<'a, 'd> SeatLinks<'a, 'd> {
         })
     }
 
-    /// Whether an open wish of a row is proposed.
-    pub fn proposes(&self, item: RowWish) -> bool
-        requires { IsOpenItem self.now item }
-        ensures { result ≡ is_proposed_at self.now item.wish }
+    /// Whether a wish of a row is proposed, where it is open.
+    fn proposes(&self, item: RowWish) -> bool
+        requires { IsItem self.now.state.dossier self.now.orders item }
+        ensures { IsOpenItem self.now item → result ≡ is_proposed_at self.now item.wish }
     {
         let front = self.reached[item.programme as usize];
         let reached = is_reached(item.place as usize, front);
@@ -216,6 +215,16 @@ impl<'a, 'd> SeatLinks<'a, 'd> {
         ensures { result ≡ needs_bed self.now.state item }
     {
         waits(self.state, item.wish) && !has_item_bed(self.state, item)
+    }
+
+    /// Whether the wish of an item demands a bed: it waits and is proposed, and its candidate has no
+    /// bed in its school. Hardly any wish is proposed on a busy day, so that is asked first.
+    pub fn demands(&self, item: RowWish) -> bool
+        requires item { IsItem self.now.state.dossier self.now.orders item }
+        requires open { needs_bed self.now.state item ≡ true → IsOpenItem self.now item }
+        ensures { result ≡ (needs_bed self.now.state item && is_proposed_at self.now item.wish) }
+    {
+        self.proposes(item) && self.needs_bed(item)
     }
 
     /// The school in which a wish demands a bed: it is proposed, and its candidate has none there.

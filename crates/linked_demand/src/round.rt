@@ -42,7 +42,7 @@ pub struct LinkedRound<'a, 'd> {
     ends: Vec<usize>,
     overfilled: Overfilled,
     marked: Marks,
-    housed: Vec<Housed>,
+    housed: Vec<Housed<'a>>,
 }
 
 // Not derived: so a round is dropped in one step where it is held, and not by each list.

@@ -18,11 +18,11 @@ use std::alloc::Global;
 
 /// Of each school how many boarders rank at most at its bar, which ranks have a bed and the first
 /// that has none; and a mark for each wish.
-pub struct Schools {
+pub struct Schools<'a> {
     pub ends: Vec<usize>,
     pub overfilled: Overfilled,
     pub marked: Marks,
-    pub housed: Vec<Housed>,
+    pub housed: Vec<Housed<'a>>,
 }
 
 /// The number of schools.
@@ -33,13 +33,13 @@ pub fn school_count(state: &DayState<'_>) -> u32
 }
 
 /// The schools with these beds, at the bars under which the wishes of these links are open.
-pub fn schools_of(
+pub fn schools_of<'a>(
     alloc: Global,
     links: &SeatLinks<'_, '_>,
-    boarders: &[Vec<RowWish>],
+    boarders: &'a [Vec<RowWish>],
     beds: &[u32],
     bars: &[u32],
-) -> Result<Schools, OutOfMemory>
+) -> Result<Schools<'a>, OutOfMemory>
     requires boarders { AreBySchool links.now.state.dossier links.now.orders boarders.now }
     requires opens { links.now.opens ≡ opens_of links.now.state bars.now }
     requires beds { length beds.now ≡ length links.now.state.dossier.schools }

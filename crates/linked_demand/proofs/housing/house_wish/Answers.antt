@@ -1,6 +1,7 @@
 use Rattle.std.proofs.Common.{◌≡◌, ◌∙◌, ℕ, ◌<◌, ◌≤◌, arith, length, refl, subst, sym}
 use Rattle.std.specs.Prelude.{IfNone, IfSome, slice_index}
-use Rattle.linked_demand.specs.Housed.{housed_in, noted}
+use Rattle.linked_demand.specs.Rungs.{housed_in}
+use Rattle.linked_demand.specs.Housed.{noted}
 use Rattle.linked_demand.specs.Lent.{left_of}
 use Rattle.linked_demand.proofs.Lent.{left_read}
 use Rattle.linked_demand.proofs.HousedWishes.{houses_sought, housed_put, housed_quiet, nothing_sought}

@@ -1,9 +1,0 @@
-use Rattle.std.proofs.Common.{rules, ltb}
-use Rattle.std.proofs.lemmas.List.Sorted.{IsPartitionPoint-from_clause, IsPartitionedBy-ltb}
-use Rattle.linked_demand.specs.declared.housed.Rung.{Rung}
-use Rattle.linked_demand.proofs.housed.first_rung.Goals as goal
-
-pub returns-clause-point : goal.returns-clause-point
-returns-clause-point c =
-    IsPartitionPoint-from_clause (λ (x : Rung). ltb x.rank c.args.rank) _ _ c.partition_point.ensures.partitioned
-    (IsPartitionedBy-ltb (λ (x : Rung). x.rank) _ c.args.rank c.requires) (λ a r q k. search rules)
