@@ -1,17 +1,16 @@
 -- The ranks of a row are housed one after another.
-use Rattle.std.proofs.Common.{ℕ, ◌+◌, ◌≤◌, ◌<◌, ◌≡◌, ◌⊎◌, Bool, true, false, ◌&&◌, List, [], ◌∷◌}
+use Rattle.std.proofs.Common.{ℕ, ◌+◌, ◌≤◌, ◌<◌, ◌≡◌, ◌⊎◌, Bool, true, false, ◌&&◌, List, []}
 use Rattle.std.proofs.Common.{length, take, inl, inr, refl, sym, ◌∙◌, ap, arith, get_or, nat_eq, nat_lt, Some, None}
 use Rattle.std.proofs.Common.{Option}
 use Rattle.std.proofs.Common.{subst, unwrap_or, is_some}
 use Rattle.std.specs.Prelude.{slice_get, IfNone}
 use Rattle.std.specs.List.Sorted.{IsNonDecreasingBy}
 use Rattle.std.specs.Option.{option_or}
-use Rattle.std.proofs.lemmas.Bool.{cases_Bool, cases_lt, cases_eq, false≢true, or_left, or_right, eq-eqb, eqb-true}
-use Rattle.std.proofs.lemmas.Bool.{and_parts, ltb-true, ltb-false, or_cases}
+use Rattle.std.proofs.lemmas.Bool.{cases_Bool, cases_lt, cases_eq, false≢true, eq-eqb, eqb-true}
+use Rattle.std.proofs.lemmas.Bool.{and_parts, ltb-true}
 use Rattle.std.proofs.lemmas.List.{take_all}
 use Rattle.std.proofs.lemmas.Option.{slice_get-get_or, slice_get_within}
 use Rattle.admit_core.specs.Lists.{is_among}
-use Rattle.admit_core.proofs.Tests.{Ascends}
 use Rattle.linked_demand.specs.declared.rows.RowWish.{RowWish}
 use Rattle.linked_demand.specs.Rungs.{Rung, BedRow, housed_in, rank_in, rungs_of}
 use Rattle.linked_demand.specs.Demand.{counted, is_proposed_at}

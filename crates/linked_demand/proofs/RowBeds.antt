@@ -10,7 +10,7 @@ use Rattle.admit_core.specs.Lists.{is_among}
 use Rattle.admit_core.proofs.Tests.{Ascends}
 use Rattle.linked_demand.specs.declared.rows.RowWish.{RowWish}
 use Rattle.linked_demand.specs.Housed.{last_rank, noted, ranks_of, reached}
-use Rattle.linked_demand.specs.Rungs.{Rung, housed_in, rank_in, rank_before, is_first, rungs_to, rungs_of, AreBeds, BedRow, GoesBare}
+use Rattle.linked_demand.specs.Rungs.{Rung, housed_in, rank_in, rank_before, is_first, rungs_to, AreBeds, BedRow, GoesBare}
 use Rattle.linked_demand.specs.Rungs.{IsFirstOf}
 use Rattle.linked_demand.proofs.Rungs.{last_most}
 use Rattle.linked_demand.proofs.RungSteps.{few_housed, reached_housed}

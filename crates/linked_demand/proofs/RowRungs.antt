@@ -1,13 +1,13 @@
 -- The ranks that are known along a row: its last place is added or taken away, and flags change.
-use Rattle.std.proofs.Common.{ℕ, zero, suc, ◌+◌, ◌≤◌, ◌<◌, ◌≡◌, ◌≢◌, Bool, true, false, List, [], ◌∷◌, ◌++◌, ◌||◌}
-use Rattle.std.proofs.Common.{length, get_or, map, inl, inr, refl, sym, ◌∙◌, ap, arith, nat_eq, nat_lt, set, subst}
+use Rattle.std.proofs.Common.{ℕ, zero, suc, ◌+◌, ◌≤◌, ◌<◌, ◌≡◌, Bool, true, false, List, [], ◌∷◌, ◌++◌, ◌||◌}
+use Rattle.std.proofs.Common.{length, get_or, inl, inr, refl, sym, ◌∙◌, ap, arith, nat_eq, nat_lt, set}
 use Rattle.std.proofs.Common.{Some, Option, unwrap_or, option_map}
 use Rattle.std.specs.Prelude.{slice_get, if◌then◌else◌}
 use Rattle.std.specs.List.Sorted.{IsNonDecreasingBy}
 use Rattle.std.proofs.lemmas.Bool.{cases_Bool, cases_eq, false≢true, eq-eqb, eqb-true, ltb-true, ltb-false, ne_eqb}
-use Rattle.std.proofs.lemmas.Bool.{or_cases, lt-ltb, false_from_ne_true}
-use Rattle.std.proofs.lemmas.List.{get_or-set_other, get_or-set_same, length-append, map-append, set-get_or}
-use Rattle.std.proofs.lemmas.Option.{get_or_from_slice_get, slice_get_within}
+use Rattle.std.proofs.lemmas.Bool.{or_cases, false_from_ne_true}
+use Rattle.std.proofs.lemmas.List.{get_or-set_other, get_or-set_same, length-append}
+use Rattle.std.proofs.lemmas.Option.{get_or_from_slice_get}
 use Rattle.admit_core.specs.Lists.{is_among}
 use Rattle.admit_core.proofs.Plain.{or_false, or_true}
 use Rattle.admit_core.proofs.Tests.{Ascends}

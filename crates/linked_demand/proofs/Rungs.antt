@@ -1,14 +1,13 @@
 -- Lists of rungs: which ranks they know, and which of them have a bed.
-use Rattle.std.proofs.Common.{ℕ, zero, suc, ◌+◌, ◌-◌, ◌≤◌, ◌<◌, ◌≡◌, Bool, true, false, ◌&&◌, ◌||◌, List, [], ◌∷◌}
+use Rattle.std.proofs.Common.{ℕ, suc, ◌+◌, ◌-◌, ◌≤◌, ◌<◌, ◌≡◌, Bool, true, false, ◌&&◌, ◌||◌, List, [], ◌∷◌}
 use Rattle.std.proofs.Common.{◌++◌}
 use Rattle.std.proofs.Common.{length, inl, inr, refl, sym, ◌∙◌, ap, arith, nat_eq, nat_lt}
-use Rattle.std.proofs.Common.{set, Some, Option, unwrap_or, option_map}
+use Rattle.std.proofs.Common.{unwrap_or, option_map}
 use Rattle.std.specs.Prelude.{slice_get}
 use Rattle.std.specs.List.{AllByRecursion}
 use Rattle.std.proofs.lemmas.Bool.{cases_Bool, false≢true, or_cases, or_parts, or_left, or_right, and_right, eqb-true}
-use Rattle.std.proofs.lemmas.Bool.{eq-eqb, ne_eqb, false_from_ne_true, lt-ltb}
+use Rattle.std.proofs.lemmas.Bool.{eq-eqb, false_from_ne_true, lt-ltb}
 use Rattle.std.proofs.lemmas.Bool.{le-ltb}
-use Rattle.std.proofs.lemmas.Option.{slice_get_within}
 use Rattle.admit_core.specs.Lists.{is_among}
 use Rattle.admit_core.proofs.Plain.{or_false, or_true}
 use Rattle.admit_core.proofs.Tests.{Ascends}

@@ -1,10 +1,10 @@
-use Rattle.std.proofs.Common.{◌∙◌, ◌∷◌, arith, refl, subst, true}
+use Rattle.std.proofs.Common.{◌∷◌, arith, refl, subst, true}
 use Rattle.admit_core.proofs.Tests.{Ascends}
 use Rattle.linked_demand.specs.Housed.{ranks_of}
 use Rattle.linked_demand.specs.Rungs.{rungs_of, BedRow}
 use Rattle.linked_demand.proofs.RowBeds.{ranks_up}
 use Rattle.linked_demand.proofs.RowRungs.{some_beds}
-use Rattle.linked_demand.proofs.RungSteps.{front_gives, front_some, front_start, front_step}
+use Rattle.linked_demand.proofs.RungSteps.{front_gives, front_some, front_step}
 use Rattle.linked_demand.proofs.row_beds.RowBeds.give_up.Goals as goal
 
 pub step_back-requires : goal.step_back-requires

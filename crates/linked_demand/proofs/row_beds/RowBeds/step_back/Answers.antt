@@ -1,4 +1,4 @@
-use Rattle.std.proofs.Common.{◌≡◌, ◌∙◌, ◌+◌, ◌-◌, ℕ, ap, arith, false, subst, sym, true}
+use Rattle.std.proofs.Common.{◌≡◌, ◌∙◌, ◌+◌, ◌-◌, ap, arith, false, subst, sym, true}
 use Rattle.linked_demand.specs.Rungs.{rungs_of, rungs_to, BedRow, GoesBare}
 use Rattle.linked_demand.proofs.RowBeds.{beds_bare, beds_housed, count_less, flag_read, gone_bare, gone_read}
 use Rattle.linked_demand.proofs.row_beds.RowBeds.step_back.Goals as goal
