@@ -11,7 +11,8 @@ invariant_of-self c =
     let n = c.in-Some.bundle in
     let v : ℕ = get_or old n 0 + one_if c.args.lives - one_if c.args.was_live in
     let within : n < length old = rw (sym c.self.view_is) at (c.requires.bundle n c.in-Some.is) in
-    let there : n < length new = omega (arith, within, ap (λ (xs : List ℕ). length xs) c.recount.ensures, length-set old n v) in
+    let long = ap (λ (xs : List ℕ). length xs) c.recount.ensures ∙ length-set old n v in
+    let there : n < length new = omega (arith, within, long) in
     let read = get_or_read new n c.index.result.now there c.index.ensures 0
     ∙ ap (λ (xs : List ℕ). get_or xs n 0) c.recount.ensures ∙ get_or-set_same old n v 0 within in
     c.set.ensures
