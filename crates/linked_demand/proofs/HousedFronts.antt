@@ -356,7 +356,8 @@ module _ (links : LinksRow) (front : List RowWish) (items : AreOpen links (row_i
 
   now_is : rungs_of now ≡ reached x.rank (rungs_of b)
   now_is =
-      rungs ∙ ap (λ n. reached n (rungs_of b)) ((λ j. rank_in (to.along j) (to.so_far j)) ∙ sym (rank_read front i d lt))
+      rungs ∙ ap (λ n. reached n (rungs_of b))
+      ((λ j. rank_in (to.along j) (to.so_far j)) ∙ sym (rank_read front i d lt))
 
   next_along : now.row ≡ front
   next_along = ap (λ (z : BedRow). z.row) known ∙ to.along

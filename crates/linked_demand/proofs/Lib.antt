@@ -6,7 +6,8 @@
 -- Rows of the schools: RowsTo, RowsRight, FirstBoarders, Items, RowSteps, RowFronts, Demanded, Naming.
 -- A wish is closed: Moving, Ticking, Marking, Staying; the end of a row falls: Cutting, Telling.
 -- A bar falls: OneFall, Answered, RoundFalls, TickLaw, Spending.
--- Who has a bed: Rungs, RungSteps, RowRungs, RowBeds, HousedRows, HousedFronts, HousedAll, HousedWishes, HousedMarks, HousedFalls;
+-- Who has a bed: Rungs, RungSteps, RowRungs, RowBeds, HousedRows, HousedFronts, HousedAll, HousedWishes, HousedMarks,
+-- HousedFalls;
 -- the answers: KeptAnswers; the beds that are lent: Lent.
 -- The system as a whole: BarEach, Rounding, and last Lowered.
 pub mod Answered

@@ -3,18 +3,22 @@ use Rattle.std.proofs.Common.{ℕ, zero, suc, ◌+◌, ◌-◌, ◌≤◌, ◌<�
 use Rattle.std.proofs.Common.{length, get_or, inl, inr, refl, sym, ◌∙◌, ap, arith, nat_lt, set, replicate, take}
 use Rattle.std.proofs.Common.{append-nil}
 use Rattle.std.specs.List.Sorted.{IsNonDecreasingBy, IsPartitionPoint}
-use Rattle.std.proofs.lemmas.Bool.{cases_Bool, cases_eq, cases_lt, false≢true, ltb-true, ltb-false, lt-ltb, false_from_ne_true}
-use Rattle.std.proofs.lemmas.List.{get_or-set_other, get_or-set_same, get_or-take, get_or_read, length-replicate, length-set}
+use Rattle.std.proofs.lemmas.Bool.{cases_Bool, cases_eq, cases_lt, false≢true, ltb-true, ltb-false, lt-ltb}
+use Rattle.std.proofs.lemmas.Bool.{false_from_ne_true}
+use Rattle.std.proofs.lemmas.List.{get_or-set_other, get_or-set_same, get_or-take, get_or_read, length-replicate}
+use Rattle.std.proofs.lemmas.List.{length-set}
 use Rattle.std.proofs.lemmas.List.{set-get_or}
 use Rattle.admit_core.specs.Lists.{is_among}
 use Rattle.admit_core.proofs.Tests.{Ascends}
 use Rattle.linked_demand.specs.declared.rows.RowWish.{RowWish}
 use Rattle.linked_demand.specs.Housed.{last_rank, noted, ranks_of, reached}
-use Rattle.linked_demand.specs.Rungs.{Rung, housed_in, rank_in, rank_before, is_first, rungs_to, AreBeds, BedRow, GoesBare}
+use Rattle.linked_demand.specs.Rungs.{Rung, housed_in, rank_in, rank_before, is_first, rungs_to, AreBeds, BedRow}
+use Rattle.linked_demand.specs.Rungs.{GoesBare}
 use Rattle.linked_demand.specs.Rungs.{IsFirstOf}
 use Rattle.linked_demand.proofs.Rungs.{last_most}
 use Rattle.linked_demand.proofs.RungSteps.{few_housed, reached_housed}
-use Rattle.linked_demand.proofs.RowRungs.{count_push, count_same, far, few_rungs, first_place, housed_more, item_there, last_is}
+use Rattle.linked_demand.proofs.RowRungs.{count_push, count_same, far, few_rungs, first_place, housed_more, item_there}
+use Rattle.linked_demand.proofs.RowRungs.{last_is}
 use Rattle.linked_demand.proofs.RowRungs.{noted_first, one_known, rank_read, ranks_rise, rung_at, rungs_rise_to}
 
 abbrev pub beds : List RowWish → ℕ → List Bool → BedRow

@@ -1,7 +1,8 @@
 use Rattle.std.proofs.Common.{ℕ, ◌||◌, Bool, ap, arith, ◌∙◌}
 use Rattle.linked_demand.specs.Opens.{seat_row}
 use Rattle.linked_demand.proofs.Closing.{programme_within}
-use Rattle.linked_demand.proofs.Items.{closes_item, item_proposed, item_stands, item_sure, item_waits, own_bundle, own_programme}
+use Rattle.linked_demand.proofs.Items.{closes_item, item_proposed, item_stands, item_sure, item_waits, own_bundle}
+use Rattle.linked_demand.proofs.Items.{own_programme}
 use Rattle.linked_demand.proofs.Items.{own_within}
 use Rattle.linked_demand.proofs.Leaving.{reach_right, reached_is, row_there}
 use Rattle.linked_demand.proofs.links.SeatLinks.proposes.Goals as goal
