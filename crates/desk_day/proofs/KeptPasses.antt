@@ -15,12 +15,13 @@ use Rattle.round.specs.KeptFalls.{IsKeptOf, IsPassOffered, kept_pass}
 use Rattle.desk_day.specs.DayPasses.{AreChosenPasses, open_wishes, schools_of_passes, stamp_of}
 use Rattle.desk_day.specs.KeptDays.{ArePassesPicked, IsPassPicked, kept_end}
 use Rattle.desk_day.specs.Running.{RunningStates}
+use Rattle.desk_day.specs.Telling.{Telling}
 use Rattle.desk_day.proofs.PassesSoFar.{SoFar, chosen_more, so_far_end, so_far_more, so_far_none, told_more}
 
 -- what is kept of a pass offers what the pass does
 pub offers_kept : (keeps : Bool) {s new : State} {orders : List CallOrder} {ceilings : List ℕ} {stamp : Stamp}
-    {choice : List ℕ → List ℕ → ℕ} {told told_after : List ℕ} {found : PassRecord}
-    → (is : IsKeptOf (kept_pass keeps) (IsPassOffered s new orders ceilings stamp choice told told_after) found)
+    {telling : Telling} {found : PassRecord}
+    → (is : IsKeptOf (kept_pass keeps) (IsPassOffered s new orders ceilings stamp telling) found)
     → found.offers ≡ proposed s orders is.0.bars
 offers_kept keeps is =
     ap (λ (p : PassRecord). p.offers) is.2 ∙ is.1.by.is_pass.offers

@@ -182,7 +182,11 @@ impl<'d> Present<'d> {
 
         ensures pass { IfOk result (λ made. IsKeptOf (kept_pass (are_kept plan.entry.falls))
             (IsPassOffered self.old self.new roster.now.orders plan.entry.ceilings.now stamp
-            (choice picker.old) (told picker.old) (told picker.new)) made.0) }
+            (record {
+              before = told picker.old;
+              after = told picker.new;
+              choice = choice picker.old;
+            })) made.0) }
         ensures offered { IfOk result (λ made.
             self.new ≡ offered_along made.0.offers stamp self.old) }
         ensures asked { IfOk result (λ made. AsksAfter self.old made.0.offers stamp made.1) }

@@ -1,23 +1,19 @@
 -- Passes whose falls are kept or left out.
 use Rattle.std.proofs.Common.{ℕ, ◌≡◌, Bool, true, false, List, [], Result, Ok, Err, IfOk, length, sym, ◌∙◌, ap}
 use Rattle.std.proofs.Common.{subst}
-use Rattle.std.specs.Prelude.{OnErr}
-use Rattle.std.proofs.lemmas.Result.{IfOk-weaker}
 use Rattle.admit_core.specs.declared.ranking.CallOrder.{CallOrder}
 use Rattle.admit_core.specs.declared.records.Fall.{Fall}
 use Rattle.admit_core.specs.declared.records.PassRecord.{PassRecord}
 use Rattle.admit_core.specs.declared.state.Stamp.{Stamp}
-use Rattle.admit_core.specs.Boarding.{boarding}
 use Rattle.admit_core.specs.CallOrder.{AreCallOrders}
-use Rattle.admit_core.specs.Days.{IsPass, offered}
+use Rattle.admit_core.specs.Days.{offered}
 use Rattle.admit_core.specs.Falls.{FallingSystem}
 use Rattle.admit_core.specs.Proposals.{proposed}
 use Rattle.admit_core.specs.State.{State}
 use Rattle.admit_core.specs.Validity.{IsValid}
-use Rattle.bar_fixpoint.specs.Chosen.{IsRunBy, IsRunOf, TellsOfFalls}
+use Rattle.bar_fixpoint.specs.Chosen.{IsRunBy, IsRunOf}
 use Rattle.round.specs.KeptFalls.{AreKeptOfRun, IsKeptOf, IsPassBy, IsPassOffered, kept_falls, kept_pass}
-use Rattle.round.specs.PassLaws.{KeepsPassLaws}
-use Rattle.round.specs.Picks.{PicksFalls}
+use Rattle.round.specs.Telling.{Telling}
 use Rattle.round.proofs.PassClauses.{laws_kept}
 
 -- falls that led to these bars
@@ -36,9 +32,8 @@ module _ (keeps : Bool) (sys : FallingSystem) (choice : List ℕ → List ℕ �
   none_kept falls left none run = (run, none ∙ ap (λ (k : Bool). kept_falls k run.falls) (sym left))
 
 -- what is kept of a pass offers what the pass does, and then the pass has been made
-module _ (keeps : Bool) (s : State) (orders : List CallOrder) (ceilings : List ℕ) (choice : List ℕ → List ℕ → ℕ)
-    (told told_after : List ℕ) (found : PassRecord)
-    (is : IsKeptOf (kept_pass keeps) (IsPassBy s orders ceilings choice told told_after) found) where
+module _ (keeps : Bool) {s : State} {orders : List CallOrder} {ceilings : List ℕ} {telling : Telling}
+    {found : PassRecord} (is : IsKeptOf (kept_pass keeps) (IsPassBy s orders ceilings telling) found) where
   pub kept_offers : found.offers ≡ proposed s orders found.bars
   kept_offers =
       ap (λ (p : PassRecord). p.offers) is.2 ∙ is.1.is_pass.offers
@@ -46,7 +41,7 @@ module _ (keeps : Bool) (s : State) (orders : List CallOrder) (ceilings : List �
 
   pub kept_made : (new : State) (stamp : Stamp) → new ≡ offered s orders found.bars stamp → IsValid s.dossier
       → AreCallOrders s.dossier.groups orders → length ceilings ≡ length s.dossier.schools
-      → IsKeptOf (kept_pass keeps) (IsPassOffered s new orders ceilings stamp choice told told_after) found
+      → IsKeptOf (kept_pass keeps) (IsPassOffered s new orders ceilings stamp telling) found
   kept_made new stamp made valid called long =
       let offers = made ∙ ap (λ (p : PassRecord). offered s orders p.bars stamp) is.2 in (
         is.0,
@@ -59,39 +54,7 @@ module _ (keeps : Bool) (s : State) (orders : List CallOrder) (ceilings : List �
       )
 
 -- a pass whose falls are all kept is what is kept of it
-all_of : {E : Type 0} (Holds : PassRecord → Type 0) (r : Result PassRecord E)
+pub all_of : {E : Type 0} (Holds : PassRecord → Type 0) (r : Result PassRecord E)
     → IfOk r (IsKeptOf (kept_pass true) Holds) → IfOk r Holds
 all_of Holds (Ok found) is = subst Holds (sym is.2) is.1
 all_of Holds (Err e) is = tt
-
--- then its picker was asked and told what the pass says
-picks_of : {E : Type 0} (s new : State) (orders : List CallOrder) (ceilings : List ℕ) (stamp : Stamp)
-    (choice choice_now : List ℕ → List ℕ → ℕ) (told told_after : List ℕ) (r : Result PassRecord E)
-    → IfOk r (IsPassOffered s new orders ceilings stamp choice told told_after)
-    → OnErr r (TellsOfFalls (boarding s orders ceilings) choice told told_after) → choice_now ≡ choice
-    → PicksFalls (boarding s orders ceilings) choice choice_now told told_after r
-picks_of s new orders ceilings stamp choice choice_now told told_after (Ok found) is early same =
-    record { told = is.by.told_of; chosen = is.by.chosen; told_by_then = tt; choice = same }
-picks_of s new orders ceilings stamp choice choice_now told told_after (Err e) is early same =
-    record { told = tt; chosen = tt; told_by_then = early; choice = same }
-
-pub record IsWhole {E : Type 0} (s new : State) (orders : List CallOrder) (ceilings : List ℕ) (stamp : Stamp)
-    (choice choice_now : List ℕ → List ℕ → ℕ) (told told_after : List ℕ) (r : Result PassRecord E) : Type 0 where
-  pub pass : IfOk r (IsPass s orders ceilings)
-  pub state : IfOk r (λ found. new ≡ offered s orders found.bars stamp)
-  pub picks : PicksFalls (boarding s orders ceilings) choice choice_now told told_after r
-  pub laws : IfOk r (KeepsPassLaws s new ceilings)
-
-pub whole : {E : Type 0} (s new : State) (orders : List CallOrder) (ceilings : List ℕ) (stamp : Stamp)
-    (choice choice_now : List ℕ → List ℕ → ℕ) (told told_after : List ℕ) (r : Result PassRecord E)
-    → IfOk r (IsKeptOf (kept_pass true) (IsPassOffered s new orders ceilings stamp choice told told_after))
-    → OnErr r (TellsOfFalls (boarding s orders ceilings) choice told told_after) → choice_now ≡ choice
-    → IsWhole s new orders ceilings stamp choice choice_now told told_after r
-whole s new orders ceilings stamp choice choice_now told told_after r is early same =
-    let made = all_of (IsPassOffered s new orders ceilings stamp choice told told_after) r is in
-    record {
-      pass = IfOk-weaker r _ _ (λ found is. is.by.is_pass) made;
-      state = IfOk-weaker r _ _ (λ found is. is.offers) made;
-      picks = picks_of s new orders ceilings stamp choice choice_now told told_after r made early same;
-      laws = IfOk-weaker r _ _ (λ found is. is.laws) made;
-    }

@@ -11,6 +11,7 @@ use Rattle.admit_core.specs.State.{State}
 use Rattle.bar_fixpoint.specs.Chosen.{AreChosen, IsRunBy}
 use Rattle.bar_fixpoint.specs.Runs.{schools_of}
 use Rattle.round.specs.PassLaws.{KeepsPassLaws}
+use Rattle.round.specs.Telling.{Telling}
 use Rattle.round.specs.declared.falls.Falls.{Falls}
 use Rattle.round.specs.declared.falls.Falls.TheVariants.{Kept, LeftOut}
 
@@ -33,17 +34,17 @@ abbrev pub IsKeptOf : {A B : Type 0} → (A → B) → (A → Type 0) → B → 
 IsKeptOf keep Holds kept = (whole : _) × Holds whole × (kept ≡ keep whole)
 
 -- a pass over a state, whose schools a picker chose and told of
-pub record IsPassBy (s : State) (orders : List CallOrder) (ceilings : List ℕ)
-    (choice : List ℕ → List ℕ → ℕ) (told told_after : List ℕ) (pass : PassRecord) : Type 0 where
+pub record IsPassBy (s : State) (orders : List CallOrder) (ceilings : List ℕ) (telling : Telling)
+    (pass : PassRecord) : Type 0 where
   pub is_pass : IsPass s orders ceilings pass
-  pub told_of : told_after ≡ told ++ schools_of pass.falls
-  pub chosen : AreChosen (boarding s orders ceilings) choice told ceilings pass.falls
+  pub told_of : telling.after ≡ telling.before ++ schools_of pass.falls
+  pub chosen : AreChosen (boarding s orders ceilings) telling.choice telling.before ceilings
+      pass.falls
 
 -- the same, with the state that the offers of the pass led to; the pass keeps the laws of passes
 pub record IsPassOffered (s new : State) (orders : List CallOrder) (ceilings : List ℕ)
-    (stamp : Stamp) (choice : List ℕ → List ℕ → ℕ) (told told_after : List ℕ)
-    (pass : PassRecord) : Type 0 where
-  pub by : IsPassBy s orders ceilings choice told told_after pass
+    (stamp : Stamp) (telling : Telling) (pass : PassRecord) : Type 0 where
+  pub by : IsPassBy s orders ceilings telling pass
   pub offers : new ≡ offered s orders pass.bars stamp
   pub laws : KeepsPassLaws s new ceilings pass
 

@@ -1,3 +1,4 @@
 pub mod KeptFalls
 pub mod PassLaws
 pub mod Picks
+pub mod Telling

@@ -87,8 +87,11 @@ pub fn pass_keeping(
     requires ceilings { length ceilings.now ≡ length state.old.dossier.schools }
 
     ensures pass { IfOk result (IsKeptOf (kept_pass (are_kept falls))
-        (IsPassOffered state.old state.new roster.now.orders ceilings.now stamp
-        (choice picker.old) (told picker.old) (told picker.new))) }
+        (IsPassOffered state.old state.new roster.now.orders ceilings.now stamp (record {
+          before = told picker.old;
+          after = told picker.new;
+          choice = choice picker.old;
+        }))) }
     ensures told_by_then { OnErr result (TellsOfFalls
         (boarding state.old roster.now.orders ceilings.now)
         (choice picker.old) (told picker.old) (told picker.new)) }
@@ -121,8 +124,11 @@ fn find<L: Ledger>(
     requires ceilings { length ceilings.now ≡ length state.now.dossier.schools }
 
     ensures pass { IfOk result (IsKeptOf (kept_pass (are_kept falls))
-        (IsPassBy state.now roster.now.orders ceilings.now
-        (choice picker.old) (told picker.old) (told picker.new))) }
+        (IsPassBy state.now roster.now.orders ceilings.now (record {
+          before = told picker.old;
+          after = told picker.new;
+          choice = choice picker.old;
+        }))) }
     ensures told_by_then { OnErr result (TellsOfFalls
         (boarding state.now roster.now.orders ceilings.now)
         (choice picker.old) (told picker.old) (told picker.new)) }

@@ -13,7 +13,7 @@ offer_all-requires g c =
     let s = c.args.state.now in
     let orders = c.args.roster.now.orders in
     let offers : c.as_slice.result.now ≡ proposed s orders c.in_ok-found.found.bars =
-    c.as_slice.ensures ∙ kept_offers _ _ _ _ _ _ _ _ c.in_ok-found.ensures.pass in
+    c.as_slice.ensures ∙ kept_offers _ c.in_ok-found.ensures.pass in
     rw offers (proposed_are_wishes s orders c.in_ok-found.found.bars)
 
 pub returns-clause-pass : goal.returns-clause-pass
@@ -22,10 +22,9 @@ returns-clause-pass g c =
     let orders = c.args.roster.now.orders in
     let made : c.offer_all.new.self ≡ offered s orders c.in_ok-found.found.bars c.args.stamp =
     offers_recorded s c.offer_all.new.self orders c.in_ok-found.found.bars c.as_slice.result.now c.args.stamp
-    (c.as_slice.ensures ∙ kept_offers _ _ _ _ _ _ _ _ c.in_ok-found.ensures.pass) c.offer_all.ensures.offered
+    (c.as_slice.ensures ∙ kept_offers _ c.in_ok-found.ensures.pass) c.offer_all.ensures.offered
     c.offer_all.ensures.marks in
     let valid : IsValid s.dossier = subst IsValid (c.dossier.view_is ∙ c.dossier-dossier.ensures) c.dossier.invariant in
     let called : AreCallOrders s.dossier.groups orders =
     subst (λ (d : DossierRows). AreCallOrders d.groups orders) c.requires.same c.orders.ensures.right in
-    kept_made _ _ _ _ _ _ _ _ c.in_ok-found.ensures.pass c.offer_all.new.self c.args.stamp made valid called
-    c.requires.ceilings
+    kept_made _ c.in_ok-found.ensures.pass c.offer_all.new.self c.args.stamp made valid called c.requires.ceilings
