@@ -1,17 +1,15 @@
 -- Days that keep the falls of their passes, and days that keep none.
-use Rattle.std.specs.Prelude.{◌≡◌, ℕ, ◌++◌, Bool, List, map, Option, Result, Ok, Err}
+use Rattle.std.specs.Prelude.{◌≡◌, ℕ, ◌++◌, Bool, List, map, Result, Ok, Err}
 use Rattle.admit_core.specs.declared.ranking.CallOrder.{CallOrder}
 use Rattle.admit_core.specs.declared.records.DayRecord.{DayRecord}
 use Rattle.admit_core.specs.declared.records.PassEnd.{PassEnd}
-use Rattle.admit_core.specs.declared.records.Terms.{Terms}
 use Rattle.admit_core.specs.declared.state.Stamp.{Stamp}
 use Rattle.admit_core.specs.Boarding.{boarding}
 use Rattle.admit_core.specs.State.{State}
 use Rattle.bar_fixpoint.specs.Chosen.{AreChosen}
 use Rattle.bar_fixpoint.specs.Runs.{schools_of}
-use Rattle.round.specs.KeptFalls.{IsKeptOf, kept_pass}
+use Rattle.round.specs.KeptFalls.{kept_pass}
 use Rattle.desk_day.specs.DayPasses.{AreChosenPasses, schools_of_passes}
-use Rattle.desk_day.specs.RunDay.{EndsDay, Moment}
 use Rattle.desk_day.specs.Running.{ArePassesMade, IsPassMade, RunningStates}
 use Rattle.desk_day.specs.Telling.{Telling}
 use Rattle.desk_day.specs.declared.refusal.DayRefusal.{DayRefusal}
@@ -51,9 +49,3 @@ pub record ArePassesPicked (orders : List CallOrder) (ceilings : List ℕ) (day 
   pub made : ArePassesMade orders ceilings day morning ends after
   pub told_of : telling.after ≡ telling.before ++ schools_of_passes ends
   pub chosen : AreChosenPasses orders ceilings day 1 morning telling.choice telling.before ends
-
--- how a day ends on a desk of which the falls are kept or left out
-abbrev pub EndsDayKept : Bool → Option Terms → List CallOrder → List ℕ → ℕ → Moment → Moment
-    → Result DayRecord DayRefusal → Type 0
-EndsDayKept keeps terms orders ceilings day before after =
-    IsKeptOf (kept_result keeps) (EndsDay terms orders ceilings day before after)

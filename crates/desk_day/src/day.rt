@@ -5,7 +5,7 @@ ghost use Rattle.admit_core.specs.Ranges.{IsDay as IsDayNumber};
 ghost use Rattle.admit_core.specs.Days.{lapsed_on, morning, unfit_on};
 ghost use Rattle.admit_core.specs.Lapses.{AreTermsFor};
 ghost use Rattle.desk_day.specs.AnswersOn.{IsUnfitOf};
-ghost use Rattle.desk_day.specs.KeptDays.{EndsDayKept, kept_day};
+ghost use Rattle.desk_day.specs.KeptDays.{kept_day, kept_result};
 ghost use Rattle.desk_day.specs.RunDay.{EndsDay, IsDayDone};
 ghost use Rattle.desk_day.specs.Running.{IsUndone, moment_on};
 ghost use Rattle.desk_day.specs.Who.{Moves};
@@ -66,10 +66,10 @@ pub fn run_day_by(
     requires before { AreTermsFor desk.old.present.dossier (option_copied plan.terms) }
     requires day { IsDayNumber plan.day }
 
-    ensures { EndsDayKept (are_kept plan.entry.falls) (option_copied plan.entry.terms)
-        roster.now.orders plan.entry.ceilings.now plan.entry.day
+    ensures { IsKeptOf (kept_result (are_kept plan.entry.falls)) (EndsDay
+        (option_copied plan.entry.terms) roster.now.orders plan.entry.ceilings.now plan.entry.day
         (record { desk = desk.old; told = told picker.old; choice = choice picker.old })
-        (record { desk = desk.new; told = told picker.new; choice = choice picker.new }) result }
+        (record { desk = desk.new; told = told picker.new; choice = choice picker.new })) result }
 {
     let _ = desk.now().marks(); // one for each wish
     take_over(&mut desk.evening, desk.running.now(), &desk.moved);

@@ -16,7 +16,7 @@ use Rattle.desk_day.proofs.ToldPasses.{told_nothing}
 use Rattle.desk_day.specs.AnswersOn.{IsUnfitOf}
 use Rattle.desk_day.specs.DayPasses.{TellsOfPasses}
 use Rattle.desk_day.specs.DeskStates.{DeskStates}
-use Rattle.desk_day.specs.KeptDays.{EndsDayKept, kept_day, kept_result}
+use Rattle.desk_day.specs.KeptDays.{kept_day, kept_result}
 use Rattle.desk_day.specs.RunDay.{EndsDay, IsDayDone, Moment, TellsNoneUnfit}
 use Rattle.desk_day.specs.declared.refusal.DayRefusal.{DayRefusal}
 use Rattle.desk_day.specs.declared.refusal.DayRefusal.TheVariants as refusals
@@ -70,7 +70,7 @@ ends_with terms orders ceilings d before after r same ends = record {
 
 pub ends_with_kept : (keeps : Bool) (terms : Option Terms) (orders : List CallOrder) (ceilings : List ℕ) (d : ℕ)
     (before after : Moment) (r : Result DayRecord DayRefusal) → ceilings ≡ ceilings_of before.desk.present.dossier d
-    → EndsDayKept keeps terms orders ceilings d before after r
+    → IsKeptOf (kept_result keeps) (EndsDay terms orders ceilings d before after) r
     → IsKeptOf (kept_result keeps) (DayEndsWith orders terms d before after) r
 ends_with_kept keeps terms orders ceilings d before after r same ends =
     (ends.0, ends_with terms orders ceilings d before after ends.0 same ends.1, ends.2)
