@@ -14,14 +14,14 @@ use std::marker::Model;
 /// of the last pass.
 ///
 /// `moved` are those whose wishes may have changed since the evening. So an evening is kept along
-/// their wishes, and nothing is copied after a day on which nothing happened.
+/// their wishes alone, and nothing is copied after a day on which nothing happened.
 pub struct Desk<'d> {
     pub(crate) running: Running<'d>,
     pub(crate) evening: DayState<'d>,
     pub(crate) moved: Who,
 }
 
-// Not derived: so a desk is dropped in one step where it is held, and not state by state.
+// Not derived, so that a desk is dropped in one step where it is held, and not state by state.
 impl Drop for Desk<'_> {
     fn drop(self) {
         let Desk {

@@ -49,7 +49,7 @@ fn lapses_on(
     Ok(lapsed)
 }
 
-/// A number of few digits, in fewer bits.
+/// The same number, in 32 bits.
 fn narrow(number: i64) -> i32
     requires low { negsuc 2147483647 ≤ℤ number }
     requires high { number ≤ℤ pos 2147483647 }

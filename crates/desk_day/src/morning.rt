@@ -49,9 +49,10 @@ pub fn make_morning(
     answer(state, day)
 }
 
-/// The same, with the offers that lapsed, and one wish of each whom the lapse and the answers may
-/// have changed: so whoever goes along them looks at each candidate once. Whether the answers fit
-/// is found without memory: one that does not is never told as want of it.
+/// The same, with the offers that lapsed, and one wish of each candidate whom the lapse and the
+/// answers may have changed. So whoever goes along these wishes looks at each candidate once.
+/// Whether an answer fits is found without taking memory, so one that does not is never told as
+/// want of memory.
 pub(crate) fn touch_morning(
     alloc: Global,
     state: &mut DayState<'_>,

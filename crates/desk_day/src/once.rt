@@ -41,8 +41,8 @@ pub(crate) fn keep_once(places: &mut Vec<u32>, state: &DayState<'_>)
     places.dedup();
 }
 
-/// Adds the offers of a pass to the wishes of those whom it asks. One wish of each candidate is
-/// left.
+/// Adds the offers of a pass to the wishes of those who are asked after it, and leaves one wish of
+/// each candidate.
 pub(crate) fn beside_offers(
     places: Vec<u32>,
     state: &DayState<'_>,

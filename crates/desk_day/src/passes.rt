@@ -26,8 +26,8 @@ impl Running<'_> {
     /// Makes passes from the present state on, up to the first whose automatic answers free
     /// nothing. Those whom they move are added to `moved`.
     ///
-    /// A pass that is not the last refuses a live wish, and none comes back to life: so there are
-    /// at most as many passes as wishes, and one more.
+    /// After each pass but the last a live wish is given up, and none comes back to life. So there
+    /// is at most one pass more than there are wishes.
     pub(crate) fn make_passes(
         &mut self,
         alloc: Global,
@@ -122,8 +122,8 @@ impl Running<'_> {
 }
 
 /// Brings the opening of a pass that freed something up to its closing, with which the next pass
-/// opens. Where those who were asked are known, it repeats the steps that the pass took, and so
-/// looks at few wishes.
+/// opens. Where those who were asked are known, it repeats the steps of the pass, and so looks at
+/// few wishes.
 fn follow<'d>(
     opening: &mut DayState<'d>,
     closing: &DayState<'d>,
@@ -156,8 +156,8 @@ pub fn frees_nothing(freed: Freed) -> bool
     freed.seats == 0 && freed.beds == 0
 }
 
-/// What the automatic answers after a pass changed. Where those who were asked are known, it is
-/// looked for among their wishes.
+/// What the automatic answers after a pass changed. Where those who were asked are known, only
+/// their wishes are looked at.
 fn changes_after(
     alloc: Global,
     opening: &DayState<'_>,

@@ -27,8 +27,8 @@ use std::alloc::{AllocError, Global};
 use std::marker::Model;
 use std::mem;
 
-/// The present state of a dossier's wishes, with who has been answered for in it. So the answers
-/// after a pass ask those alone who have not been, and those with an offer.
+/// The present state of a dossier's wishes, and who has been answered for in it. So the answers
+/// after a pass ask only those who have not been, and those with an offer.
 ///
 /// Nobody is known to have been answered for while a day begins or a pass is made, nor after a
 /// refusal.
@@ -37,7 +37,7 @@ pub struct Present<'d> {
     pub(crate) unanswered: Who,
 }
 
-// Not derived: so it is dropped in one step where it is held, and not part by part.
+// Not derived, so that it is dropped in one step where it is held, and not part by part.
 impl Drop for Present<'_> {
     fn drop(self) {
         let Present {
@@ -95,9 +95,9 @@ impl<'d> Present<'d> {
         self.unanswered.is_nobody()
     }
 
-    /// Makes the lapse, where terms are given, and the answers of a day, and gives the offers that
-    /// lapsed. A refusal may come in the midst of the answers. Whether they fit is found without
-    /// memory: one that does not is never told as want of it.
+    /// Makes the lapse of a day, where terms are given, and its answers, and returns the offers that
+    /// lapsed. A refusal may come in the midst of the answers. Whether an answer fits is found
+    /// without taking memory, so one that does not is never told as want of memory.
     pub fn begin_day(
         &mut self,
         alloc: Global,
@@ -117,7 +117,7 @@ impl<'d> Present<'d> {
         self.touch_morning(alloc, terms, day, &mut touched)
     }
 
-    /// The same, and adds those whom the day touches to `moved`.
+    /// Begins a day as [`Present::begin_day`] does, and adds those whom it touches to `moved`.
     pub(crate) fn touch_morning(
         &mut self,
         alloc: Global,
@@ -144,8 +144,8 @@ impl<'d> Present<'d> {
         Ok(lapsed)
     }
 
-    /// Why a day does not come about for which there is no memory. Its lapse and its answers are
-    /// tried, and the state may be left in their midst.
+    /// Why a day for which memory ran out does not come about. Its lapse and its answers are tried,
+    /// and the state may be left in their midst.
     pub(crate) fn refuse(&mut self, terms: Option<&Terms>, day: u32) -> DayRefusal
         requires { AreTermsFor self.old.dossier (option_copied terms) }
         ensures refusal { IsUnfitOf self.old.dossier day
@@ -211,7 +211,7 @@ impl<'d> Present<'d> {
         Ok((pass, asked))
     }
 
-    /// Answers for those who are asked, and so for all.
+    /// Answers for those who are asked. By then all have been answered for.
     pub(crate) fn answer(&mut self, alloc: Global, asked: &Who, stamp: Stamp) -> Freed
         requires { ChangesOnly asked.now self.old (auto_all self.old stamp) }
         ensures state { self.new ≡ auto_all self.old stamp }

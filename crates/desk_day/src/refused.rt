@@ -1,4 +1,4 @@
-//! Days for which there is no memory.
+//! Days for which memory ran out.
 ghost use Rattle.std.specs.Prelude.{◌≡◌};
 ghost use Rattle.std.specs.Option.{option_copied};
 ghost use Rattle.admit_core.specs.Days.{unfit_on};
@@ -12,8 +12,8 @@ use crate::who::{Who, take_over};
 use admit_core::Terms;
 
 impl Running<'_> {
-    /// Why a day does not come about for which there is no memory. Its lapse and its answers are
-    /// tried on the present state, which may be left in their midst.
+    /// Why a day for which memory ran out does not come about. Its lapse and its answers are tried
+    /// on the present state, which may be left in their midst.
     fn refuse(&mut self, terms: Option<&Terms>, day: u32) -> DayRefusal
         requires { AreTermsFor self.old.present.dossier (option_copied terms) }
         ensures refusal { IsUnfitOf self.old.present.dossier day
@@ -27,8 +27,8 @@ impl Running<'_> {
 }
 
 impl Desk<'_> {
-    /// Why a day does not come about for which there is no memory: its first answer that does not
-    /// fit, and want of memory only where each fits. The state stays as it is.
+    /// Why a day for which memory ran out does not come about: its first answer that does not fit,
+    /// and want of memory only where each fits. The state stays as it is.
     pub fn refused(&mut self, terms: Option<&Terms>, day: u32) -> DayRefusal
         requires { AreTermsFor self.old.present.dossier (option_copied terms) }
         ensures refusal { IsUnfitOf self.old.present.dossier day

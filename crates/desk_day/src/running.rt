@@ -13,14 +13,15 @@ use std::marker::Model;
 /// The present state of a dossier's wishes, and the opening of the last pass.
 ///
 /// `moved` are those whose wishes may have changed since the opening: those whom the answers after
-/// that pass asked, and whom the day touched that begins now. While a pass is made, it is anyone.
+/// that pass asked, and those whom the morning of a day that has begun since touched. While a pass
+/// is made, it is anyone.
 pub(crate) struct Running<'d> {
     pub(crate) present: Present<'d>,
     pub(crate) opening: DayState<'d>,
     pub(crate) moved: Who,
 }
 
-// Not derived: so it is dropped in one step where it is held, and not state by state.
+// Not derived, so that it is dropped in one step where it is held, and not state by state.
 impl Drop for Running<'_> {
     fn drop(self) {
         let Running {

@@ -1,4 +1,4 @@
-//! Who may not have been answered for, or may have changed.
+//! Which candidates may still have to be answered for, or may have changed.
 ghost use Rattle.std.specs.Prelude.{◌≡◌, IfOk, OnErr, if◌then◌else◌, true};
 ghost use Rattle.desk_day.specs.DayPlaces.{AreWishesOf};
 ghost use Rattle.desk_day.specs.Unanswered.{AreAsked};
@@ -13,16 +13,16 @@ use day_state::DayState;
 use std::alloc::{AllocError, Global};
 use std::mem;
 
-/// Candidates of whom something may be: that they have not been answered for, or that their wishes
-/// have other marks than in another state. Of everybody else it is not.
+/// The candidates of whom something may be true: that they have yet to be answered for, or that
+/// their wishes have other marks than in another state. It is true of nobody else.
 pub(crate) enum Who {
-    /// Of nobody is it known.
+    /// It may be true of any candidate.
     Anyone,
-    /// The candidates of these wishes.
+    /// It may be true of the candidates of these wishes alone.
     CandidatesOf(Vec<u32>),
 }
 
-// Not derived: so it is dropped in one step where it is held.
+// Not derived, so that it is dropped in one step where it is held.
 impl Drop for Who {
     fn drop(self) {
         match self {
@@ -50,8 +50,8 @@ impl Who {
         }
     }
 
-    /// Whom the automatic answers after these offers ask: those and whoever has an offer, each
-    /// candidate once.
+    /// Whom the automatic answers after these offers ask: these candidates and all who have an
+    /// offer, each of them once.
     pub(crate) fn with_offered(
         self,
         state: &DayState<'_>,
@@ -70,7 +70,7 @@ impl Who {
         }
     }
 
-    /// Adds others to them. Where there is no room for the list, it is anyone.
+    /// Adds others to these. Where there is no room for the longer list, it is anyone.
     pub(crate) fn add(&mut self, others: &Who)
         ensures { Joins self.old others.now self.new }
     {
@@ -98,14 +98,15 @@ impl Who {
     }
 }
 
-/// Who is left after a morning: whom it touched, where all had been answered for.
+/// Who has yet to be answered for after a morning: whom it touched, where all had been answered
+/// for before it.
 pub(crate) fn left_by_morning(was_settled: bool, touched: Who) -> Who
     ensures { result ≡ (if was_settled then touched else who.Anyone) }
 {
     if was_settled { touched } else { Who::Anyone }
 }
 
-/// Answers for those who are asked, and so for all.
+/// Answers for those who are asked. By then all have been answered for.
 pub(crate) fn answer_for(state: &mut DayState<'_>, asked: &Who, stamp: Stamp) -> Freed
     requires { ChangesOnly asked.now state.old (auto_all state.old stamp) }
     ensures state { state.new ≡ auto_all state.old stamp }
@@ -117,8 +118,8 @@ pub(crate) fn answer_for(state: &mut DayState<'_>, asked: &Who, stamp: Stamp) ->
     }
 }
 
-/// Makes a state another one of the same dossier, in which the wishes of these alone may have other
-/// marks.
+/// Sets a state to another one of the same dossier, in which only the wishes of these candidates
+/// may have other marks.
 pub(crate) fn take_over<'d>(state: &mut DayState<'d>, other: &DayState<'d>, moved: &Who)
     requires same { state.old.dossier ≡ other.now.dossier }
     requires moved { ChangesOnly moved.now state.old other.now }
