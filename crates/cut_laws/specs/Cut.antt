@@ -63,16 +63,14 @@ StandAlike a (Some terms) s (Some others) t =
 StandAlike a None s (Some others) t = ⊥
 StandAlike a (Some terms) s None t = ⊥
 
--- a day that is numbered a days earlier leads from this state to one with the statuses and the open
--- offers of the evening
-abbrev pub LeadsOnAlike : ℕ → Option Terms → Option Terms → List CallOrder → List ℕ → State
-    → DayRecord → State → Type 0
-LeadsOnAlike a terms others orders ceilings t day evening =
-    (other : State) × HaveEqualStatuses evening other × StandAlike a terms evening others other
-    × IsDay others orders ceilings t (earlier a day) other
+-- there is a state with the same statuses and open offers, of which this holds
+abbrev pub HasAlike : ℕ → Option Terms → Option Terms → State → (State → Type 0) → Type 0
+HasAlike a terms others s Holds =
+    (other : State) × HaveEqualStatuses s other × StandAlike a terms s others other × Holds other
 
 -- where offers have deadlines, of the stamps those of the open offers alone count, and of these
--- the day of the offer: so a day is one of any state with the same statuses and open offers
+-- the day of the offer. So a day is one of any state with the same statuses and open offers, and
+-- leads to one with those of its evening
 abbrev pub OpenOffersDecide : Type 0
 OpenOffersDecide =
     (a : ℕ) (terms others : Option Terms) (orders : List CallOrder) (ceilings : List ℕ)
@@ -85,7 +83,7 @@ OpenOffersDecide =
     → a < day.day
     → undated (answers_of s.dossier day.day) ≡ undated (answers_of t.dossier (day.day - a))
     → IsDay terms orders ceilings s day evening
-    → LeadsOnAlike a terms others orders ceilings t day evening
+    → HasAlike a terms others evening (IsDay others orders ceilings t (earlier a day))
 
 -- from day a + 1 on the first dossier has the ceilings and answers that the second one has a days
 -- earlier
@@ -98,8 +96,7 @@ pub record IsGivenAlike (a : ℕ) (d c : DossierRows) : Type 0 where
 abbrev pub FollowAlike : ℕ → Option Terms → Option Terms → List CallOrder → State → List DayRecord
     → State → Type 0
 FollowAlike a terms others orders t days last =
-    (other : State) × HaveEqualStatuses last other × StandAlike a terms last others other
-    × Days others orders 1 t (map (earlier a) days) other
+    HasAlike a terms others last (Days others orders 1 t (map (earlier a) days))
 
 -- so it is of any two states with the same statuses and open offers, whichever way the ceilings and
 -- answers of the days to come are said
@@ -120,10 +117,9 @@ AlikeStatesGoOnAlike =
 abbrev pub GoesOnAlike :
     Option Terms → List CallOrder → ℕ → State → List DayRecord → State → Type 0
 GoesOnAlike terms orders a evening days last =
-    (other : State) × HaveEqualStatuses last other
-    × StandAlike a terms last (terms_at a terms evening) other
-    × Days (terms_at a terms evening) orders 1 (first_evening (cut_at a evening))
-    (map (earlier a) days) other
+    HasAlike a terms (terms_at a terms evening) last
+    (Days (terms_at a terms evening) orders 1 (first_evening (cut_at a evening))
+    (map (earlier a) days))
 
 -- so a campaign may be cut at the evening of any day a: day k of the new one is day a + k of the
 -- old one

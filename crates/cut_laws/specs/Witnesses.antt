@@ -10,8 +10,8 @@ use Rattle.admit_core.specs.OwnWishes.{IsOneAccepted}
 use Rattle.admit_core.specs.State.{State}
 use Rattle.admit_core.specs.Validity.{IsValid}
 use Rattle.cut_laws.specs.Alike.{HaveEqualStatuses, undated}
-use Rattle.cut_laws.specs.Cut.{AreTheRest, FollowAlike, GoesOnAlike, IsGivenAlike, LeadsOnAlike, StandAlike, cut_at}
-use Rattle.cut_laws.specs.Cut.{terms_at}
+use Rattle.cut_laws.specs.Cut.{AreTheRest, FollowAlike, GoesOnAlike, HasAlike, IsGivenAlike, StandAlike, cut_at}
+use Rattle.cut_laws.specs.Cut.{earlier, terms_at}
 use Rattle.cut_laws.specs.StampsDecideNothing.{LeadsAlike}
 use Rattle.cut_laws.specs.WorkedCampaign.{call_orders, cut_days, cut_night, first_night, one_day_more, other_morning}
 use Rattle.cut_laws.specs.WorkedCampaign.{other_night, second_day, second_night, small_night, third_day, third_night}
@@ -51,7 +51,7 @@ OpenOffersDecideWitness =
     × (a < day.day)
     × (undated (answers_of s.dossier day.day) ≡ undated (answers_of t.dossier (day.day - a)))
     × IsDay terms orders ceilings s day evening
-    × LeadsOnAlike a terms others orders ceilings t day evening
+    × HasAlike a terms others evening (IsDay others orders ceilings t (earlier a day))
 
 -- ---- days 2 and 3 are days 1 and 2 of the campaign that is cut in the evening of day 1
 abbrev pub CampaignsMayBeCutWitness : Type 0
