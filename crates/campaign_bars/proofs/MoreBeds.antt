@@ -127,7 +127,8 @@ AreRoomy terms orders number h n old (day ∷ days) =
 
 days_with : (terms : Option Terms) (orders : List CallOrder) (number : ℕ) (old : State)
     (days : List DayRecord) (new : State) (h n : ℕ) → Days terms orders number old days new
-    → AreRoomy terms orders number h n old days → HasSameDays terms orders number old days new h n
+    → AreRoomy terms orders number h n old days
+    → HasSameDays terms orders number (with_beds old h n) days (with_beds new h n)
 days_with terms orders number old [] new h n are roomy =
     record { others = []; same = tt; are_days = ap (λ (s : State). with_beds s h n) are }
 days_with terms orders number old (day ∷ days) new h n are roomy =
@@ -205,7 +206,7 @@ roomy_with_few terms orders d number old (day ∷ days) new h n valid of are sta
 pub more_beds_change_nothing : (terms : Option Terms) (orders : List CallOrder) (d : ℕ) (old : State)
     (days : List DayRecord) (new : State) (h n : ℕ) → Days terms orders d old days new
     → All (StandsAtCeiling old.dossier h) days → beds_of old.dossier h ≤ n
-    → HasSameDays terms orders d old days new h n
+    → HasSameDays terms orders d (with_beds old h n) days (with_beds new h n)
 more_beds_change_nothing terms orders d old days new h n are stands enough =
     days_with terms orders d old days new h n are
     (roomy_with_more terms orders old.dossier d old days new h n refl are
@@ -214,7 +215,7 @@ more_beds_change_nothing terms orders d old days new h n are stands enough =
 pub beds_ever_held_would_do : (terms : Option Terms) (orders : List CallOrder) (d : ℕ) (old : State)
     (days : List DayRecord) (new : State) (h n : ℕ) → IsValid old.dossier → Days terms orders d old days new
     → All (StandsAtCeiling old.dossier h) days → All (NoMoreThan h n) (moments terms orders old days)
-    → HasSameDays terms orders d old days new h n
+    → HasSameDays terms orders d (with_beds old h n) days (with_beds new h n)
 beds_ever_held_would_do terms orders d old days new h n valid are stands few =
     days_with terms orders d old days new h n are
     (roomy_with_few terms orders old.dossier d old days new h n valid refl are

@@ -4,6 +4,7 @@ use Rattle.admit_core.specs.declared.ranking.CallOrder.{CallOrder}
 use Rattle.admit_core.specs.declared.records.DayRecord.{DayRecord}
 use Rattle.admit_core.specs.declared.records.Terms.{Terms}
 use Rattle.admit_core.specs.Days.{Days}
+use Rattle.admit_core.specs.LeastBeds.{with_beds}
 use Rattle.admit_core.specs.State.{State, bed_holders}
 use Rattle.admit_core.specs.Validity.{IsValid}
 use Rattle.campaign_laws.specs.Moments.{moments}
@@ -22,4 +23,4 @@ BedsEverHeldWouldDo =
     → Days terms orders d old days new
     → All (StandsAtCeiling old.dossier h) days
     → All (NoMoreThan h n) (moments terms orders old days)
-    → HasSameDays terms orders d old days new h n
+    → HasSameDays terms orders d (with_beds old h n) days (with_beds new h n)

@@ -18,14 +18,14 @@ StandsAtCeiling d h day =
 abbrev pub IsSameButForBeds : DayRecord → DayRecord → Type 0
 IsSameButForBeds day other = record other { free = day.free } ≡ day
 
--- the same days of a dossier in which the school at a place has n beds
+-- from day d on these days, but for the free beds, lead from the first state to the second
 pub record HasSameDays (terms : Option Terms) (orders : List CallOrder) (d : ℕ) (old : State)
-    (days : List DayRecord) (new : State) (h n : ℕ) : Type 0 where
+    (days : List DayRecord) (new : State) : Type 0 where
   pub others : List DayRecord
   pub same : AllZip IsSameButForBeds days others
-  pub are_days : Days terms orders d (with_beds old h n) others (with_beds new h n)
+  pub are_days : Days terms orders d old others new
 
--- where its bar never fell, more beds change nothing
+-- where the bar of a school never fell, the days are the same with more beds there
 abbrev pub MoreBedsChangeNothing : Type 0
 MoreBedsChangeNothing =
     (terms : Option Terms) (orders : List CallOrder) (d : ℕ) (old : State) (days : List DayRecord)
@@ -33,4 +33,4 @@ MoreBedsChangeNothing =
     → Days terms orders d old days new
     → All (StandsAtCeiling old.dossier h) days
     → beds_of old.dossier h ≤ n
-    → HasSameDays terms orders d old days new h n
+    → HasSameDays terms orders d (with_beds old h n) days (with_beds new h n)

@@ -14,6 +14,7 @@ use Rattle.admit_core.specs.DossierRows.{DossierRows, beds_of}
 use Rattle.admit_core.specs.EveningLaws.{last_bars}
 use Rattle.admit_core.specs.Falls.{Fits, IsAtMost, IsGreatest}
 use Rattle.admit_core.specs.Lapses.{AreTermsFor}
+use Rattle.admit_core.specs.LeastBeds.{with_beds}
 use Rattle.admit_core.specs.Proposals.{ahead}
 use Rattle.admit_core.specs.State.{State, entries, is_waiting, seat_holders}
 use Rattle.admit_core.specs.Validity.{IsValid}
@@ -229,7 +230,7 @@ MoreBedsChangeNothingWitness =
     Days terms orders d old days new
     × All (StandsAtCeiling old.dossier h) days
     × (beds_of old.dossier h ≤ n)
-    × HasSameDays terms orders d old days new h n
+    × HasSameDays terms orders d (with_beds old h n) days (with_beds new h n)
 
 -- ---- of five beds one was ever held, so one would do
 abbrev pub roomy : DossierRows
@@ -255,4 +256,4 @@ BedsEverHeldWouldDoWitness =
     × Days terms orders d old days new
     × All (StandsAtCeiling old.dossier h) days
     × All (NoMoreThan h n) (moments terms orders old days)
-    × HasSameDays terms orders d old days new h n
+    × HasSameDays terms orders d (with_beds old h n) days (with_beds new h n)
