@@ -1,4 +1,4 @@
--- Who may not have been answered for.
+-- Who may still have to be answered for.
 use Rattle.std.specs.Prelude.{◌≡◌, ◌++◌, ℕ, List, ⊤}
 use Rattle.admit_core.specs.AutoAnswer.{auto_all}
 use Rattle.admit_core.specs.DossierRows.{DossierRows}

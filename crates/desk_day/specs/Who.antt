@@ -1,4 +1,4 @@
--- Candidates who are not known: anyone, or those who have one of some wishes.
+-- Candidates of whom something may be true: anyone, or those who have one of some wishes.
 use Rattle.std.specs.Prelude.{◌≡◌, ◌<◌, ◌+◌, ◌++◌, ℕ, Bool, false, List, length, nat_eq, vec_capacity, vec_len, ⊤}
 use Rattle.admit_core.specs.DossierRows.{DossierRows}
 use Rattle.admit_core.specs.State.{State}
@@ -27,8 +27,8 @@ abbrev pub LacksRoomFor : List ℕ → Who → Type 0
 LacksRoomFor more Anyone = ⊥
 LacksRoomFor more (CandidatesOf places) = vec_capacity places < vec_len places + length more
 
--- these and others together: the wishes of both, or anyone where both are not known or there was
--- too little room
+-- these and others together: the wishes of both, or anyone, where either is anyone or there was too
+-- little room
 abbrev pub Joins : Who → Who → Who → Type 0
 Joins (CandidatesOf places) (CandidatesOf more) (CandidatesOf all) =
     all.items ≡ places.items ++ more.items
@@ -37,8 +37,8 @@ Joins (CandidatesOf places) (CandidatesOf more) Anyone =
 Joins (CandidatesOf places) Anyone all = all ≡ Anyone
 Joins Anyone others all = all ≡ Anyone
 
--- a step led from one state to another. Whoever may have changed since some state before it, and
--- whoever the step may have changed, are known as those after it
+-- a step led from one state to another. Where no wishes but those of the first had changed since
+-- some state before it, no wishes but those of the second have changed since then
 abbrev pub Moves : State → State → Who → Who → Type 0
 Moves s t before after =
     (start : State) → start.dossier ≡ s.dossier → ChangesOnly before start s

@@ -95,8 +95,8 @@ impl<'d> Present<'d> {
         self.unanswered.is_nobody()
     }
 
-    /// Makes the lapse of a day, where terms are given, and its answers, and returns the offers that
-    /// lapsed. A refusal may come in the midst of the answers. Whether an answer fits is found
+    /// Makes the lapse of a day, where terms are given, and its answers, and returns the offers
+    /// that lapsed. A refusal may come in the midst of the answers. Whether an answer fits is found
     /// without taking memory, so one that does not is never told as want of memory.
     pub fn begin_day(
         &mut self,
