@@ -37,7 +37,7 @@ kept_more keep whole one kept more last are is pushed =
 pub record PickedSoFar (orders : List CallOrder) (ceilings : List ℕ) (day number : ℕ) (start now : State)
     (choice : List ℕ → List ℕ → ℕ) (told told_now : List ℕ) (passes : List PassEnd) : Type 0 where
   pub so_far : SoFar orders ceilings day number start now passes
-  pub chosen : AreChosenPasses orders ceilings day 1 start choice told passes
+  pub chosen : AreChosenPasses orders ceilings (stamp_of day 1) start choice told passes
   pub told_of : told_now ≡ told ++ schools_of_passes passes
 
 -- none is made yet
@@ -74,7 +74,7 @@ module _ (keeps : Bool) {orders : List CallOrder} {ceilings : List ℕ} {day num
   frees : frees_nothing pass.freed ≡ frees_nothing end.freed
   frees = ap (λ (e : PassEnd). frees_nothing e.freed) (sym picked.2)
 
-  chosen : AreChosenPasses orders ceilings day 1 start choice told (passes ++ pass ∷ [])
+  chosen : AreChosenPasses orders ceilings (stamp_of day 1) start choice told (passes ++ pass ∷ [])
   chosen = chosen_more orders ceilings day number start choice choice_now told told_now passes (passes ++ pass ∷ [])
       now pass so_far.1.so_far so_far.1.chosen so_far.1.told_of same picked.1.chosen refl
 

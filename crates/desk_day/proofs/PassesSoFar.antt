@@ -125,10 +125,11 @@ told_more first told next passes ends pass so_far more ends_is =
 chosen_on : (orders : List CallOrder) (ceilings : List ℕ) (day k : ℕ) (s : State) (choice : List ℕ → List ℕ → ℕ)
     (first told : List ℕ)
     (passes : List PassEnd) (now : State) (pass : PassEnd)
-    → Earlier orders ceilings day k s passes now → AreChosenPasses orders ceilings day k s choice first passes
+    → Earlier orders ceilings day k s passes now
+    → AreChosenPasses orders ceilings (stamp_of day k) s choice first passes
     → told ≡ first ++ schools_of_passes passes
     → AreChosen (boarding now orders ceilings) choice told ceilings pass.pass.falls
-    → AreChosenPasses orders ceilings day k s choice first (passes ++ pass ∷ [])
+    → AreChosenPasses orders ceilings (stamp_of day k) s choice first (passes ++ pass ∷ [])
 chosen_on orders ceilings day k s choice first told [] now pass so_far chosen told_is is =
     (rw (so_far, told_is ∙ append-nil first) at is, tt)
 chosen_on orders ceilings day k s choice first told (p ∷ ps) now pass so_far chosen told_is is = (
@@ -142,17 +143,17 @@ chosen_on orders ceilings day k s choice first told (p ∷ ps) now pass so_far c
 pub chosen_none : (orders : List CallOrder) (ceilings : List ℕ) (day k : ℕ) (s : State) (choice : List ℕ → List ℕ → ℕ)
     (first : List ℕ)
     (passes : List PassEnd) → passes ≡ []
-    → AreChosenPasses orders ceilings day k s choice first passes
+    → AreChosenPasses orders ceilings (stamp_of day k) s choice first passes
 chosen_none orders ceilings day k s choice first passes none = rw none tt
 
 pub chosen_more : (orders : List CallOrder) (ceilings : List ℕ) (day number : ℕ) (s : State)
     (choice choice_now : List ℕ → List ℕ → ℕ)
     (first told : List ℕ) (passes ends : List PassEnd)
     (now : State) (pass : PassEnd) → SoFar orders ceilings day number s now passes
-    → AreChosenPasses orders ceilings day 1 s choice first passes
+    → AreChosenPasses orders ceilings (stamp_of day 1) s choice first passes
     → told ≡ first ++ schools_of_passes passes → choice_now ≡ choice
     → AreChosen (boarding now orders ceilings) choice_now told ceilings pass.pass.falls
-    → ends ≡ passes ++ pass ∷ [] → AreChosenPasses orders ceilings day 1 s choice first ends
+    → ends ≡ passes ++ pass ∷ [] → AreChosenPasses orders ceilings (stamp_of day 1) s choice first ends
 chosen_more orders ceilings day number s choice choice_now first told passes ends now pass so_far chosen told_is same is
     ends_are =
     rw ends_are (chosen_on orders ceilings day 1 s choice first told passes now pass so_far.earlier chosen told_is

@@ -53,7 +53,8 @@ module _ (orders : List CallOrder) (ceilings : List ℕ) (day : ℕ) (choice : L
 
   -- of the passes so far and of falls of the next one
   pub told_on : (k : ℕ) (s : State) (first told told_after : List ℕ) (passes : List PassEnd) (now : State)
-      → Earlier orders ceilings day k s passes now → AreChosenPasses orders ceilings day k s choice first passes
+      → Earlier orders ceilings day k s passes now
+      → AreChosenPasses orders ceilings (stamp_of day k) s choice first passes
       → told ≡ first ++ schools_of_passes passes
       → TellsOfFalls (boarding now orders ceilings) choice told told_after
       → TellsAlong orders ceilings (stamp_of day k) s (from_to first told_after) passes
@@ -71,7 +72,8 @@ module _ (orders : List CallOrder) (ceilings : List ℕ) (day : ℕ) (choice : L
 
   -- of all passes of a day
   told_all : (k : ℕ) (s : State) (told : List ℕ) (passes : List PassEnd) (evening : State)
-      → Passes orders ceilings day k s passes evening → AreChosenPasses orders ceilings day k s choice told passes
+      → Passes orders ceilings day k s passes evening
+      → AreChosenPasses orders ceilings (stamp_of day k) s choice told passes
       → (front : List PassEnd)
       × TellsAlong orders ceilings (stamp_of day k) s (from_to told (told ++ schools_of_passes passes)) front
   told_all k s told [] evening are chosen = absurd are
@@ -95,7 +97,8 @@ module _ (orders : List CallOrder) (ceilings : List ℕ) (day : ℕ) (choice : L
   told_nothing s told = ([], none_told (boarding s orders ceilings) choice told)
 
   pub told_to_the_end : (s : State) (told told_after : List ℕ) (passes : List PassEnd) (evening : State)
-      → Passes orders ceilings day 1 s passes evening → AreChosenPasses orders ceilings day 1 s choice told passes
+      → Passes orders ceilings day 1 s passes evening
+      → AreChosenPasses orders ceilings (stamp_of day 1) s choice told passes
       → told_after ≡ told ++ schools_of_passes passes
       → TellsOfPasses orders ceilings day s choice told told_after
   told_to_the_end s told told_after passes evening are chosen told_of =

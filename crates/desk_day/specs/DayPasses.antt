@@ -48,15 +48,15 @@ open_wishes s = count_by (λ m. is_live m || is_waiting m) s.marks
 abbrev pub stamp_of : ℕ → ℕ → Stamp
 stamp_of day k = record { day = day; pass = k }
 
--- in the passes that begin with the opening s and the number k, each school that fell was chosen
--- from all that were overfilled
-abbrev pub AreChosenPasses : List CallOrder → List ℕ → ℕ → ℕ → State → (List ℕ → List ℕ → ℕ)
+-- in the passes that begin with the opening s, and of which the first has this stamp, each school
+-- that fell was chosen from all that were overfilled
+abbrev pub AreChosenPasses : List CallOrder → List ℕ → Stamp → State → (List ℕ → List ℕ → ℕ)
     → List ℕ → List PassEnd → Type 0
-AreChosenPasses orders ceilings day k s choice told [] = ⊤
-AreChosenPasses orders ceilings day k s choice told (pass ∷ rest) =
+AreChosenPasses orders ceilings stamp s choice told [] = ⊤
+AreChosenPasses orders ceilings stamp s choice told (pass ∷ rest) =
     AreChosen (boarding s orders ceilings) choice told ceilings pass.pass.falls
-    × AreChosenPasses orders ceilings day (k + 1) (closing s orders pass.pass.bars (stamp_of day k))
-    choice (told ++ schools_of pass.pass.falls) rest
+    × AreChosenPasses orders ceilings (stamp_of stamp.day (stamp.pass + 1))
+    (closing s orders pass.pass.bars stamp) choice (told ++ schools_of pass.pass.falls) rest
 
 -- each of these passes keeps the laws of passes
 abbrev pub PassesKeepLaws : List CallOrder → List ℕ → ℕ → ℕ → State → List PassEnd → Type 0

@@ -9,7 +9,7 @@ use Rattle.admit_core.specs.State.{State}
 use Rattle.bar_fixpoint.specs.Chosen.{AreChosen}
 use Rattle.bar_fixpoint.specs.Runs.{schools_of}
 use Rattle.round.specs.KeptFalls.{kept_pass}
-use Rattle.desk_day.specs.DayPasses.{AreChosenPasses, schools_of_passes}
+use Rattle.desk_day.specs.DayPasses.{AreChosenPasses, schools_of_passes, stamp_of}
 use Rattle.desk_day.specs.Running.{ArePassesMade, IsPassMade, RunningStates}
 use Rattle.desk_day.specs.Telling.{Telling}
 use Rattle.desk_day.specs.declared.refusal.DayRefusal.{DayRefusal}
@@ -48,4 +48,5 @@ pub record ArePassesPicked (orders : List CallOrder) (ceilings : List ℕ) (day 
     (telling : Telling) (after : RunningStates) (ends : List PassEnd) : Type 0 where
   pub made : ArePassesMade orders ceilings day morning ends after
   pub told_of : telling.after ≡ telling.before ++ schools_of_passes ends
-  pub chosen : AreChosenPasses orders ceilings day 1 morning telling.choice telling.before ends
+  pub chosen : AreChosenPasses orders ceilings (stamp_of day 1) morning telling.choice
+      telling.before ends

@@ -12,8 +12,8 @@ use Rattle.admit_core.specs.State.{State, free_beds, seats_left}
 use Rattle.admit_core.specs.Days.{IsDay, morning, unfit_on}
 use Rattle.desk_day.specs.AnswersOn.{IsUnfitOf}
 use Rattle.desk_day.specs.DayLaws.{KeepsLaws}
-use Rattle.desk_day.specs.DayPasses.{schools_of_passes, last_opening, AreChosenPasses, TellsMore}
-use Rattle.desk_day.specs.DayPasses.{TellsOfPasses}
+use Rattle.desk_day.specs.DayPasses.{AreChosenPasses, TellsMore, TellsOfPasses}
+use Rattle.desk_day.specs.DayPasses.{last_opening, schools_of_passes, stamp_of}
 use Rattle.desk_day.specs.DayPlaces.{IsDayIn}
 use Rattle.desk_day.specs.DeskStates.{DeskStates}
 use Rattle.desk_day.specs.declared.refusal.DayRefusal.{DayRefusal}
@@ -55,8 +55,8 @@ pub record IsDayByRule (terms : Option Terms) (orders : List CallOrder) (ceiling
   pub opening : after.desk.opening
       ≡ last_opening orders day 1 (morning terms day before.desk.present) done.passes
   pub told : after.told ≡ before.told ++ schools_of_passes done.passes
-  pub chosen : AreChosenPasses orders ceilings day 1 (morning terms day before.desk.present)
-      before.choice before.told done.passes
+  pub chosen : AreChosenPasses orders ceilings (stamp_of day 1)
+      (morning terms day before.desk.present) before.choice before.told done.passes
 
 -- what follows from the rule over a valid dossier: the day keeps the laws of days, has at most one
 -- pass more than wishes, is recorded by places of the dossier, and stamps no mark later than itself

@@ -28,7 +28,7 @@ use Rattle.desk_day.proofs.DayPlaces.{day_in}
 use Rattle.desk_day.proofs.LastBars.{length-ceilings_of}
 use Rattle.desk_day.proofs.SameDossier.{evening_dossier}
 use Rattle.desk_day.proofs.Stamps.{stamps_kept}
-use Rattle.desk_day.specs.DayPasses.{AreChosenPasses, last_opening, schools_of_passes}
+use Rattle.desk_day.specs.DayPasses.{AreChosenPasses, last_opening, schools_of_passes, stamp_of}
 use Rattle.desk_day.specs.DeskStates.{DeskStates}
 use Rattle.desk_day.specs.RunDay.{KeepsStamps}
 use Rattle.dossier_csv.specs.Columns.{added_number, flag, number, optional_date, optional_number, word}
@@ -99,7 +99,7 @@ next_of : (orders : List CallOrder) (who : PickerChoice) (d : ℕ) (old : DeskSt
     (evening : State) → IsValid old.present.dossier → AreCallOrders old.present.dossier.groups orders → day.day ≡ d
     → IsDay None orders (ceilings_of old.present.dossier d) old.present day evening
     → (lent_after who day before).told (picker_on who d) ≡ before.told (picker_on who d) ++ schools_of_passes day.passes
-    → AreChosenPasses orders (ceilings_of old.present.dossier d) d 1 (morning None d old.present)
+    → AreChosenPasses orders (ceilings_of old.present.dossier d) (stamp_of d 1) (morning None d old.present)
     (before.choice (picker_on who d)) (before.told (picker_on who d)) day.passes
     → length day.passes ≤ length old.present.dossier.wishes + 1
     → IsNext (record { orders = orders; terms = None; who = who }) d old before day
@@ -184,7 +184,8 @@ told_two Turn = refl
 
 -- the one school that is overfilled is the choice of each of them
 chosen_one : (name : PickerName)
-    → AreChosenPasses orders_of_both (ceilings_of realistic 1) 1 1 (morning None 1 (first_evening realistic))
+    → AreChosenPasses orders_of_both (ceilings_of realistic 1) (stamp_of 1 1)
+    (morning None 1 (first_evening realistic))
     (chosen_by name) [] day_one.passes
 chosen_one First = (tt, ((refl, tt), tt))
 chosen_one Last = (tt, ((refl, tt), tt))

@@ -7,7 +7,7 @@ use Rattle.admit_core.specs.Days.{IsDay, Passes}
 use Rattle.admit_core.specs.DossierRows.{DossierRows}
 use Rattle.admit_core.specs.State.{State}
 use Rattle.admit_core.specs.Validity.{IsValid}
-use Rattle.desk_day.specs.DayPasses.{AreChosenPasses, last_opening}
+use Rattle.desk_day.specs.DayPasses.{AreChosenPasses, last_opening, stamp_of}
 use Rattle.desk_day.specs.RunDay.{recorded}
 use Rattle.desk_day.proofs.DayEnds.{not_begun, ran_out}
 use Rattle.desk_day.proofs.DayLaws.{laws_kept}
@@ -105,8 +105,8 @@ returns-clause-done g c =
           is_day = is;
           opening = made.opening ∙ ap (λ (m : State). last_opening orders day 1 m passes) morning;
           told = picked.told_of;
-          chosen = subst (λ (m : State). AreChosenPasses orders ceilings day 1 m (first.choice c.args.picker.now.1)
-              (first.told c.args.picker.now.1) passes) morning picked.chosen;
+          chosen = subst (λ (m : State). AreChosenPasses orders ceilings (stamp_of day 1) m
+              (first.choice c.args.picker.now.1) (first.told c.args.picker.now.1) passes) morning picked.chosen;
         };
         follows = record {
           laws = laws_kept terms orders ceilings s done evening valid called c.requires.ceilings is;
