@@ -33,18 +33,19 @@ kept_more keep whole one kept more last are is pushed =
     pushed ∙ ap (λ xs. xs ++ last ∷ []) are ∙ ap (λ x. map keep whole ++ x ∷ []) is
     ∙ sym (map-append keep whole (one ∷ []))
 
--- the passes so far, none of which was the last, and what the picker was asked and told
-pub record PickedSoFar (orders : List CallOrder) (ceilings : List ℕ) (day number : ℕ) (start now : State)
-    (choice : List ℕ → List ℕ → ℕ) (told told_now : List ℕ) (passes : List PassEnd) : Type 0 where
-  pub so_far : SoFar orders ceilings day number start now passes
-  pub chosen : AreChosenPasses orders ceilings (stamp_of day 1) start choice told passes
-  pub told_of : told_now ≡ told ++ schools_of_passes passes
+-- the passes before the one with this stamp, none of which was the last, and what the picker was asked and told
+pub record PickedSoFar (orders : List CallOrder) (ceilings : List ℕ) (next : Stamp) (start now : State)
+    (telling : Telling) (passes : List PassEnd) : Type 0 where
+  pub so_far : SoFar orders ceilings next.day next.pass start now passes
+  pub chosen : AreChosenPasses orders ceilings (stamp_of next.day 1) start telling.choice telling.before passes
+  pub told_of : telling.after ≡ telling.before ++ schools_of_passes passes
 
 -- none is made yet
 pub picked_none : (keeps : Bool) (orders : List CallOrder) (ceilings : List ℕ) (day : ℕ) (s : State)
     (choice : List ℕ → List ℕ → ℕ) (told : List ℕ) (kept : List PassEnd) → kept ≡ []
     → length s.marks ≡ length s.dossier.wishes → open_wishes s ≤ length s.dossier.wishes
-    → IsKeptOf (map (kept_end keeps)) (PickedSoFar orders ceilings day 1 s s choice told told) kept
+    → IsKeptOf (map (kept_end keeps)) (PickedSoFar orders ceilings (stamp_of day 1) s s
+    (record { before = told; after = told; choice = choice })) kept
 picked_none keeps orders ceilings day s choice told kept none long few = (
   [],
   record {
@@ -60,7 +61,8 @@ module _ (keeps : Bool) {orders : List CallOrder} {ceilings : List ℕ} {day num
     {choice choice_now : List ℕ → List ℕ → ℕ} {told told_now told_next : List ℕ} {kept more : List PassEnd}
     {end : PassEnd} {after : RunningStates}
     (so_far : IsKeptOf (map (kept_end keeps))
-    (PickedSoFar orders ceilings day number start now choice told told_now) kept)
+    (PickedSoFar orders ceilings (stamp_of day number) start now
+    (record { before = told; after = told_now; choice = choice })) kept)
     (picked : IsKeptOf (kept_end keeps)
     (IsPassPicked orders ceilings (stamp_of day number) now
     (record { before = told_now; after = told_next; choice = choice_now }) after) end)
@@ -97,7 +99,8 @@ module _ (keeps : Bool) {orders : List CallOrder} {ceilings : List ℕ} {day num
 
   pub picked_more : frees_nothing end.freed ≡ false → after.present.dossier ≡ now.dossier
       → IsKeptOf (map (kept_end keeps))
-      (PickedSoFar orders ceilings day (number + 1) start after.present choice told told_next) more
+      (PickedSoFar orders ceilings (stamp_of day (number + 1)) start after.present
+      (record { before = told; after = told_next; choice = choice })) more
   picked_more none there = (
     passes ++ pass ∷ [],
     record {

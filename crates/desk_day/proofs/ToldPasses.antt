@@ -130,7 +130,8 @@ told_there same {orders} {ceilings} {day} {choice} {told} {told_after} =
 module _ (keeps : Bool) {orders : List CallOrder} {ceilings : List ℕ} {day number : ℕ} {start now : State}
     {choice choice_now : List ℕ → List ℕ → ℕ} {told told_now told_after : List ℕ} {kept : List PassEnd}
     (so_far : IsKeptOf (map (kept_end keeps))
-    (PickedSoFar orders ceilings day number start now choice told told_now) kept)
+    (PickedSoFar orders ceilings (stamp_of day number) start now
+    (record { before = told; after = told_now; choice = choice })) kept)
     (same : choice_now ≡ choice) where
   pub told_in_pass : TellsOfFalls (boarding now orders ceilings) choice_now told_now told_after
       → TellsOfPasses orders ceilings day start choice told told_after

@@ -5,6 +5,7 @@ use Rattle.admit_core.specs.declared.state.Mark.{Mark}
 use Rattle.admit_core.specs.DossierRows.{DossierRows}
 use Rattle.admit_core.specs.State.{State}
 use Rattle.round.specs.KeptFalls.{IsKeptOf, are_kept}
+use Rattle.desk_day.specs.DayPasses.{stamp_of}
 use Rattle.desk_day.specs.KeptDays.{kept_end}
 use Rattle.desk_day.proofs.KeptPasses.{PickedSoFar, picked_all, picked_fewer, picked_more, picked_none, picked_opening}
 use Rattle.desk_day.specs.Who.{Moves}
@@ -26,7 +27,8 @@ passes-init g c =
     let ceilings = c.args.plan.ceilings.now in
     record {
       so_far = subst (λ (t : State). IsKeptOf (map (kept_end (are_kept c.args.plan.falls)))
-          (PickedSoFar orders ceilings c.args.plan.day 1 s t choice told told) c.new-ends.result.items)
+          (PickedSoFar orders ceilings (stamp_of c.args.plan.day 1) s t
+          (record { before = told; after = told; choice = choice })) c.new-ends.result.items)
           (sym c.open.ensures.present)
           (picked_none _ orders ceilings c.args.plan.day s choice told c.new-ends.result.items
           c.new-ends.ensures.items long (open_at_most s long));

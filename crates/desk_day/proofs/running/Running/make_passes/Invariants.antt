@@ -1,7 +1,7 @@
 use Rattle.std.proofs.Common.{◌≡◌, map}
 use Rattle.round.specs.KeptFalls.{IsKeptOf, are_kept}
 use Rattle.desk_day.proofs.KeptPasses.{PickedSoFar}
-use Rattle.desk_day.specs.DayPasses.{open_wishes}
+use Rattle.desk_day.specs.DayPasses.{open_wishes, stamp_of}
 use Rattle.desk_day.specs.KeptDays.{kept_end}
 use Rattle.desk_day.specs.Who.{Moves}
 use Rattle.desk_day.proofs.running.Running.make_passes.Given as goal
@@ -12,8 +12,12 @@ invariant-passes g l =
     let now = goal.Picker-dyn g l.picker.now in
     record {
       so_far : IsKeptOf (map (kept_end (are_kept l.plan.falls)))
-          (PickedSoFar l.roster.orders l.plan.ceilings.now l.plan.day l.number l.fn.self.present l.self.present
-          (first.choice l.fn.picker.now.1) (first.told l.fn.picker.now.1) (now.told l.picker.now.1)) l.ends.items;
+          (PickedSoFar l.roster.orders l.plan.ceilings.now (stamp_of l.plan.day l.number) l.fn.self.present
+          l.self.present (record {
+            before = first.told l.fn.picker.now.1;
+            after = now.told l.picker.now.1;
+            choice = first.choice l.fn.picker.now.1;
+          })) l.ends.items;
       opening : l.self.opening ≡ l.self.present;
       moved : Moves l.fn.self.present l.self.present l.fn.moved l.moved;
       choice : now.choice l.picker.now.1 ≡ first.choice l.fn.picker.now.1;
