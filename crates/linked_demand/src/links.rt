@@ -217,8 +217,8 @@ impl<'a, 'd> SeatLinks<'a, 'd> {
         waits(self.state, item.wish) && !has_item_bed(self.state, item)
     }
 
-    /// Whether the wish of an item demands a bed: it waits and is proposed, and its candidate has no
-    /// bed in its school. Hardly any wish is proposed on a busy day, so that is asked first.
+    /// Whether the wish of an item demands a bed: it waits and is proposed, and its candidate has
+    /// none in its school. The seat is asked first, since the item and a small table tell it.
     pub fn demands(&self, item: RowWish) -> bool
         requires item { IsItem self.now.state.dossier self.now.orders item }
         requires open { needs_bed self.now.state item ≡ true → IsOpenItem self.now item }
