@@ -160,6 +160,66 @@ def check_formulas(tally: Tally) -> None:
             tally.check(f"{name}: {last}", expected in found and made.exists() == (ended.status == 0), found)
 
 
+MERGED_LINES = (("formation", "groupe", "places", "rang limite", "ville"), ("7", "1", "2", "3", "Lyon"),
+                ("8", "1", "4", "", ""))
+
+
+def write_merged_xlsx(path: Path, area: str) -> None:
+    """Two programmes in a workbook by hand, of which these cells are merged."""
+    rows = "".join("<row>" + "".join(f'<c t="str"><v>{text}</v></c>' for text in line) + "</row>" for line in MERGED_LINES)
+    write_xlsx(path, "")
+    with zipfile.ZipFile(path) as archive:
+        parts = {part: archive.read(part) for part in archive.namelist()}
+    parts["xl/worksheets/sheet1.xml"] = (f'<worksheet xmlns="{EXCEL}"><sheetData>{rows}</sheetData><mergeCells count="1">'
+                                         f'<mergeCell ref="{area}"/></mergeCells></worksheet>').encode()
+    write_parts(path, parts)
+
+
+def write_merged_ods(path: Path, area: str) -> None:
+    """The same; cells that are covered are written as such."""
+    first, last = ((ord(name[0]) - ord("A"), int(name[1:]) - 1) for name in area.split(":"))
+    rows = ""
+    for number, line in enumerate(MERGED_LINES):
+        rows += "<table:table-row>"
+        for column, text in enumerate(line):
+            cell = cell_of(text)
+            if (column, number) == first:
+                spans = (f'table:number-columns-spanned="{last[0] - first[0] + 1}" '
+                         f'table:number-rows-spanned="{last[1] - first[1] + 1}"')
+                cell = cell.replace("<table:table-cell", f"<table:table-cell {spans}", 1)
+            elif first[0] <= column <= last[0] and first[1] <= number <= last[1]:
+                cell = cell.replace("table:table-cell", "table:covered-table-cell")
+            rows += cell
+        rows += "</table:table-row>"
+    with zipfile.ZipFile(path, "w") as archive:
+        archive.writestr("content.xml", f'<office:document {SPACES}><table:table table:name="Formations">{rows}'
+                                        "</table:table></office:document>")
+
+
+def check_merged(tally: Tally) -> None:
+    """A merged cell is a fault where a value is wanted of one that it covers, be that an optional one or one that has
+    a text which nobody sees. Elsewhere it is none."""
+    tally.begin("prepare, workbooks by hand: merged cells")
+    told = "rang limite: the cell is merged with another.\n    What to do: unmerge"
+    for write, name in ((write_merged_xlsx, "x.xlsx"), (write_merged_ods, "x.ods")):
+        for area, expected in (("D2:D3", f"Formations, row 3: 8 | 1 | 4 |     | \n    {told}"), ("E2:E3", ""), ("D3:E3", ""),
+                               ("C2:D2", f"Formations, row 2: 7 | 1 | 2 |     | Lyon\n    {told}"), ("D2:D9", told)):
+            with scratch() as place:
+                shutil.copytree(EXAMPLES / "blank", place / "sheets")
+                (place / "sheets/programmes.csv").unlink()
+                (place / "sheets/groups.csv").write_text("group,scholar_pct,resident_pct\n1,2,3\n")
+                write(place / "sheets" / name, area)
+                ended = run(TOOLS / "prepare", place / "sheets", place / "slots", "--lang", "en", "--leave-out", "ville")
+                made = place / "slots/programmes.csv"
+                found = made.read_bytes() if made.exists() else b""
+                tally.check(f"{name}: {area}", expected in ended.complaint if expected else
+                            found.endswith(b"\n7,1,2,3\n8,1,4,0\n"), (ended, found))
+                tally.equal(f"{name}: {area}: status", (ended.status, made.exists()), (1, False) if expected else (0, True))
+    with scratch() as place:
+        write_merged_xlsx(place / "x.xlsx", 'A1:XFD1048576"/><mergeCell ref="A1:E3')
+        tally.equal("merged cells that overlap", what_ends(place / "x.xlsx"), "")
+
+
 def check_damaged(tally: Tally) -> None:
     """Workbooks with bytes that are others, in the archive and in its parts, are read or told."""
     tally.begin("prepare, workbooks with other bytes")

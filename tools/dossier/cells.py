@@ -11,11 +11,12 @@ from .faults import shown
 from .headers import fold
 from .messages import (BECAME_DATE, CORRECT_DATE, CORRECT_NUMBER, CORRECT_RATE, DATE_READINGS, DIGITS_ALONE,
                        DIGITS_LOST, EMPTY, ENTER_ANEW, EXPORT_VALUES, FAR_YEAR, FILL_IN, FORMAT_NUMBER, FORMAT_TEXT,
-                       FORMAT_TEXT_AGAIN, FORMULA, HIDDEN_LETTER, LEAVE_EMPTY, MEND_FORMULA, NO_DAY, NOT_DATE, NOT_DAY,
-                       NOT_FLAG, NOT_WHOLE, OUT_OF_RANGE, PART_OF_PERCENT, RATE_READINGS, SAY_ORDER, SHEET_ERROR,
-                       SIGN_RATE, THOUSANDS, TWO_WORDS, UNKNOWN_WORD, WITHOUT_POINTS, WRITE_DATE, WRITE_DAY, WRITE_FLAG,
-                       WRITE_WORD, WRITE_ZERO, ZERO_ID)
+                       FORMAT_TEXT_AGAIN, FORMULA, HIDDEN_LETTER, LEAVE_EMPTY, MEND_FORMULA, MERGED_CELL, NO_DAY, NOT_DATE,
+                       NOT_DAY, NOT_FLAG, NOT_WHOLE, OUT_OF_RANGE, PART_OF_PERCENT, RATE_READINGS, SAY_ORDER,
+                       SHEET_ERROR, SIGN_RATE, THOUSANDS, TWO_WORDS, UNKNOWN_WORD, UNMERGE, WITHOUT_POINTS, WRITE_DATE,
+                       WRITE_DAY, WRITE_FLAG, WRITE_WORD, WRITE_ZERO, ZERO_ID)
 from .slots import GREATEST_NUMBER, Column, Content
+from .sources import MERGED
 from .texts import NoReading
 
 BLANKS = " \t\u00a0\u2007\u2009\u202f"
@@ -124,6 +125,8 @@ Value = int | bool | str | Id | None
 
 def read_cell(text: str, column: Column, dates: DateOrder | None, rates: Rates | None = None) -> Value:
     """The value of a cell of this column. A rate of 1 has one reading by `rates` alone."""
+    if text == MERGED:
+        raise Unclear(MERGED_CELL.of(), UNMERGE.of())
     trimmed = text.strip(BLANKS + "\r\n")
     if trimmed == "":
         return _empty(column)

@@ -72,6 +72,8 @@ EMPTY = Text("the cell is empty.", "la cellule est vide.")
 FILL_IN = Text("fill in the cell.", "remplissez la cellule.")
 WRITE_ZERO = Text("write 0 where the candidate answers for themselves.",
                   "écrivez 0 si le candidat répond lui-même.")
+MERGED_CELL = Text("the cell is merged with another.", "la cellule est fusionnée avec une autre.")
+UNMERGE = Text("unmerge the cells, and fill in each of them.", "défusionnez les cellules, et remplissez chacune.")
 HIDDEN_LETTER = Text("{text} has a letter that cannot be seen ({code}).",
                      "{text} contient un caractère invisible ({code}).")
 ENTER_ANEW = Text("enter the cell anew.", "saisissez de nouveau la cellule.")

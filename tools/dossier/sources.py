@@ -14,6 +14,9 @@ from .texts import Text
 SEPARATORS = {";": Text("semicolons", "points-virgules"), ",": Text("commas", "virgules"),
               "\t": Text("tabs", "tabulations"), "|": Text("bars", "barres")}
 FIRST_LINE = "sep="
+# What stands for a cell of a workbook that a merged one covers. It is blank, so that where no value is wanted it is as
+# an empty cell; no text of a workbook has these letters.
+MERGED = "\x1c\x1f\x1c"
 CHUNK = 4_000
 
 

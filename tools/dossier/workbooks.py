@@ -8,11 +8,12 @@ from collections.abc import Iterator
 from datetime import datetime, timedelta
 from decimal import Decimal, InvalidOperation
 from pathlib import Path
+from typing import NamedTuple
 from xml.etree import ElementTree
 
 from .decoding import Unreadable
 from .messages import BROKEN_WORKBOOK, SAVE_WORKBOOK
-from .sources import WorkbookSheet
+from .sources import MERGED, WorkbookSheet
 
 WORKBOOK_ENDINGS = (".xlsx", ".xlsm", ".ods")
 # A workbook repeats its last empty cells and rows up to its edge.
@@ -26,6 +27,7 @@ TEXT = "{urn:oasis:names:tc:opendocument:xmlns:text:1.0}"
 MAIN = "{http://schemas.openxmlformats.org/spreadsheetml/2006/main}"
 STRICT = "{http://purl.oclc.org/ooxml/spreadsheetml/main}"
 LINK = re.compile(r"\{[^}]*\}id")
+AREA = re.compile(r"([A-Z]{1,3})([1-9][0-9]{0,7}):([A-Z]{1,3})([1-9][0-9]{0,7})")
 # What reading a workbook that is damaged ends with.
 BROKEN = (zipfile.BadZipFile, zlib.error, ElementTree.ParseError, LookupError, ValueError, RuntimeError, EOFError)
 
@@ -79,23 +81,65 @@ def whole_rows(rows: list[list[str]]) -> list[list[str]]:
     return [row if len(row) == width else row + [""] * (width - len(row)) for row in rows]
 
 
+class Area(NamedTuple):
+    """Cells that are merged into the first of them: from a row and a column up to others, which do not belong to it."""
+
+    top: int
+    left: int
+    bottom: int
+    right: int
+
+
+def without_merged(rows: list[list[str]], areas: list[Area]) -> list[list[str]]:
+    """Whole rows, in which each cell that a merged one covers is marked, where one of the two has a text. Which rows a
+    text in merged cells is of cannot be told; an empty cell would be read as none."""
+    if not areas or not rows:
+        return rows
+    parted = [list(row) for row in rows]
+    height, width = len(rows), len(rows[0])
+    left_over = height * width
+    for area in areas:
+        bottom, right = min(area.bottom, height), min(area.right, width)
+        left_over -= max(0, bottom - area.top) * max(0, right - area.left)
+        if left_over < 0:
+            raise ValueError("merged cells overlap")
+        for row in range(area.top, bottom):
+            for column in range(area.left, right):
+                if (row, column) != area[:2] and (rows[row][column] or rows[area.top][area.left]):
+                    parted[row][column] = MERGED
+    return parted
+
+
 def sheets_of_ods(archive: zipfile.ZipFile) -> Iterator[tuple[str, list[list[str]]]]:
     with archive.open("content.xml") as file:
         name = ""
         rows: list[list[str]] = []
+        areas: list[Area] = []
         for event, element in ElementTree.iterparse(file, events=("start", "end")):
             if event == "start":
                 if element.tag == f"{TABLE}table":
-                    name, rows = element.get(f"{TABLE}name", ""), []
+                    name, rows, areas = element.get(f"{TABLE}name", ""), [], []
             elif element.tag == f"{TABLE}table-row":
+                areas += areas_of_ods(element, len(rows))
                 cells = cells_of_ods(element)
                 repeated = int(element.get(f"{TABLE}number-rows-repeated", "1"))
                 if any(cells) or repeated < MOST_COLUMNS:
                     rows += [cells] * min(repeated, MOST_ROWS)
                 element.clear()
             elif element.tag == f"{TABLE}table":
-                yield name, whole_rows(rows)
+                yield name, without_merged(whole_rows(rows), areas)
                 element.clear()
+
+
+def areas_of_ods(row: ElementTree.Element, number: int) -> Iterator[Area]:
+    """What is merged from a row on that has this number, from 0 on."""
+    place = 0
+    for cell in row:
+        if cell.tag in (f"{TABLE}table-cell", f"{TABLE}covered-table-cell"):
+            rows, columns = (int(cell.get(f"{TABLE}number-{name}-spanned", "1")) for name in ("rows", "columns"))
+            if rows > 1 or columns > 1:
+                yield Area(number, place, number + rows, place + columns)
+            place += int(cell.get(f"{TABLE}number-columns-repeated", "1"))
 
 
 def cells_of_ods(row: ElementTree.Element) -> list[str]:
@@ -144,7 +188,9 @@ def sheets_of_xlsx(archive: zipfile.ZipFile) -> Iterator[tuple[str, list[list[st
         target = next((links[value] for key, value in sheet.attrib.items() if LINK.fullmatch(key)), "")
         place = target.removeprefix("/") if target.startswith("/") else f"xl/{target}"
         if "worksheets/" in place:
-            yield sheet.get("name", ""), whole_rows(list(rows_of_xlsx(archive, place, shared, kinds, is_from_1904)))
+            areas: list[Area] = []
+            rows = whole_rows(list(rows_of_xlsx(archive, place, shared, kinds, is_from_1904, areas)))
+            yield sheet.get("name", ""), without_merged(rows, areas)
 
 
 def plain(data: bytes) -> ElementTree.Element:
@@ -189,11 +235,16 @@ def kind_of_format(code: str) -> str:
 
 
 def rows_of_xlsx(archive: zipfile.ZipFile, place: str, shared: list[str], kinds: list[str],
-                 is_from_1904: bool) -> Iterator[list[str]]:
+                 is_from_1904: bool, areas: list[Area]) -> Iterator[list[str]]:
+    """The rows, behind which it adds what is merged."""
     number = 0
     with archive.open(place) as file:
         for _, element in ElementTree.iterparse(file):
-            if element.tag.rpartition("}")[2] != "row":
+            kind = element.tag.rpartition("}")[2]
+            if kind == "mergeCell" and (found := AREA.fullmatch(element.get("ref", ""))):
+                left, top, right, bottom = found.groups()
+                areas.append(Area(int(top) - 1, column_of(left), int(bottom), column_of(right) + 1))
+            if kind != "row":
                 continue
             here = int(element.get("r") or number + 1)
             if not number < here <= MOST_ROWS:
