@@ -186,7 +186,14 @@ def check_words(tally: Tally, campaign: Path, place: Path) -> None:
     says("a day that is no number", 2, "usage: audit_day", campaign, "one")
     says("no folder", 3, "no such record", place / "missing", "1")
     says("a program that is not there", 0, "chain      not tested: ", campaign, "1", program=str(place / "none"))
-    says("a program that is none", 1, "chain      WRONG", campaign, "1", program="/bin/false")
+    for name, text in (("is none", "exit 1"), ("says nothing", "exit 0"), ("has no memory", "echo refused; exit 5"),
+                       ("is killed", "echo proved 1; kill -9 $$")):
+        other = executable(place / "other", f"#!/bin/sh\n{text}\n")
+        says(f"a program that {name}", 0, f"chain      not tested: {other} did not", campaign, "1", program=other)
+    other = executable(place / "other", "#!/bin/sh\necho not proved row 3 reason 4 StillOver 5; exit 6\n")
+    says("a program that says so", 1, "chain      WRONG: ", campaign, "1", program=other)
+    says("a folder to keep that cannot be made", 3, f"audit_day: {place}/none/kept: No such file", campaign, "1",
+         "--keep", place / "none/kept")
     closed = subprocess.run(["/bin/sh", "-c", '{ "$0" "$1" 1; echo $? >&2; } | head -n 1', AUDIT, campaign],
                             check=False, capture_output=True, text=True)
     tally.equal("a reader that has gone", (closed.stdout.splitlines()[0].split(" of ")[0], closed.stderr),
