@@ -224,8 +224,8 @@ def check_said(tally: Tally, program: str) -> None:
         says("a start alone", 2, "together", days, report, "--start", "2026-06-02")
         says("a date that is none", 2, "--start", days, report, "--start", "2026-02-30", "--term", "1")
         says("a term that is none", 2, "--term", days, report, "--start", "2026-06-02", "--term", "367")
-        says("a report that is missing", 3, "No such file", days, report)
-        says("a report that is a folder", 3, "directory", days, folder)
+        says("a report that is missing", 3, f"recheck: {report}: No such file or directory\n", days, report)
+        says("a report that is a folder", 3, f"recheck: {folder}: Is a directory\n", days, folder)
         report.write_bytes(b"")
         says("a folder that is missing", 3, "No such file", folder / "missing", report)
         dated = ("replay", "--days", "2", "--start", "2026-06-02", "--term", "0")
@@ -243,6 +243,10 @@ def check_said(tally: Tally, program: str) -> None:
         for name, text, sentence in (("line ends of another system", right.replace(b"\n", b"\r\n"), "104\\x0d\n"),
                                      ("a blank at an end", right.replace(b"offer 7\n", b"offer 7 \n"), "7\\x20\n"),
                                      ("a mark", b"\xef\xbb\xbf" + right, "\\xef\\xbb\\xbforder 1"),
+                                     ("a mark is told", b"\xef\xbb\xbf" + right, "who saved it anew?"),
+                                     ("UTF-16", right.decode().encode("utf-16"), "who saved it anew?"),
+                                     ("a cut within a line", right[:-4], "8,wait\n"),
+                                     ("a cut is told", right[:100], "\n  the report ends within this line: was it cut?"),
                                      ("no line feed at the end", right[:-1], "waiting (no line feed ends it)\n")):
             report.write_bytes(text)
             says(f"what cannot be seen: {name}", 1, sentence, days, report)
