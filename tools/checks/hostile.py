@@ -119,6 +119,21 @@ def check_folders(tally: Tally) -> None:
         tally.equal("a folder whose name looks like an option", run(sample, "5", "-v", folder=folder).status, 0)
 
 
+def check_taken_meanwhile(tally: Tally) -> None:
+    """A folder that another call makes meanwhile is told as such, is left as it is, and is called nobody else's."""
+    tally.begin("new folders that another call makes meanwhile")
+    makes = "import os, sys; from dossier import {module} as tool, writing; rename = os.rename\n" \
+        "def late(fresh, folder): os.mkdir(folder); open(f'{{folder}}/other', 'w').close(); rename(fresh, folder)\n" \
+        "writing.os.rename = late; sys.exit(tool.main(sys.argv[1:]))"
+    with scratch() as place:
+        for tool, module, source in (("prepare", "preparing", BLANK), ("tables", "tabling", EXAMPLES / "kept")):
+            ended = run(sys.executable, "-B", "-c", makes.format(module=module), source, place / tool,
+                        environment={"PYTHONPATH": str(TOOLS)})
+            tally.equal(tool, ended, Ended(3, b"", f"{tool}: {place / tool} is there already; name a new folder.\n"))
+            tally.equal(f"{tool}: it is the other's", contents(place / tool), {"other": b""})
+        tally.equal("nothing else is left", sorted(path.name for path in place.iterdir()), ["prepare", "tables"])
+
+
 def check_names(tally: Tally) -> None:
     """Names that a terminal cannot show are no reason to end oddly; files of a system are passed over."""
     tally.begin("names of files that are odd")

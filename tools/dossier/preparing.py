@@ -24,7 +24,7 @@ from .tables import PROGRESS, Choices, Table
 from .texts import Counted, Filled, Language, OfName, Text, said
 from .values import ANSWER_WORDS, NOTHING, QUIT, STATUS_WORDS
 from .wording import Words, language_here, one_of
-from .writing import Told, csv_bytes, is_folder, named_folder, say, stop_cleanly, write_folder
+from .writing import Taken, Told, csv_bytes, is_folder, named_folder, say, stop_cleanly, write_folder
 
 DONE, FAULTY, BAD_WORDS, NOT_WRITTEN = range(4)
 CHUNK = 4_000
@@ -178,14 +178,19 @@ def left(folder: Path) -> str:
     return "the dossier is written whole." if os.path.exists(folder) else "nothing is written."
 
 
+def is_taken(folder: Path) -> int:
+    """Says that there is something where the new folder was to be."""
+    print(f"prepare: {folder} is there already; name a new folder.", file=sys.stderr)
+    return NOT_WRITTEN
+
+
 def main(arguments: list[str]) -> int:
     given = words().of(arguments)
     if not is_folder(given.exports):
         print(f"prepare: there is no folder {given.exports}; name the folder of the exports.", file=sys.stderr)
         return NOT_WRITTEN
     if os.path.lexists(given.folder):
-        print(f"prepare: {given.folder} is there already; name a new folder.", file=sys.stderr)
-        return NOT_WRITTEN
+        return is_taken(given.folder)
     if not is_folder(given.folder.parent):
         print(f"prepare: there is no folder {given.folder.parent}; make it first.", file=sys.stderr)
         return NOT_WRITTEN
@@ -199,6 +204,8 @@ def main(arguments: list[str]) -> int:
     except Stopped as stop:
         print(f"prepare: {stop.said(given.lang or language_here())}", file=sys.stderr)
         return stop.status
+    except Taken:
+        return is_taken(given.folder)
     except OSError as error:
         print(f"prepare: {error.filename or given.folder}: {error.strerror}; {left(given.folder)}", file=sys.stderr)
         return NOT_WRITTEN

@@ -17,7 +17,7 @@ from .slots import BOARDING, PROGRAMMES, RANKINGS, SCHOOLS, Thing
 from .stops import NO_CAMPAIGN, Stopped
 from .texts import Language, Text
 from .wording import Words, language_here
-from .writing import Told, is_folder, named_folder, say, stop_cleanly, write_folder
+from .writing import Taken, Told, is_folder, named_folder, say, stop_cleanly, write_folder
 
 DONE, FAULTY = 0, 1
 LONGEST_NAME, MOST_BYTES = 80, 200
@@ -160,6 +160,9 @@ def main(arguments: list[str]) -> int:
     except Unreadable as error:
         print(f"tables: {error.what.said(given.lang)}", file=sys.stderr)
         return FAULTY
+    except Taken:
+        print(f"tables: {given.out} is there already; name a new folder.", file=sys.stderr)
+        return program.READ_FAULT
     except OSError as error:
         if is_of_new(error, given.out):
             print(f"tables: {error.filename or given.out}: {error.strerror}; nothing is written.", file=sys.stderr)

@@ -84,9 +84,13 @@ def fresh_folder(prefix: str, place: Path) -> Iterator[Path]:
         raise
 
 
+class Taken(Exception):
+    """While a new folder was made, something else came to stand in its place."""
+
+
 def write_folder(folder: Path, files: Mapping[str, bytes | Iterable[bytes]], is_kept: bool = True) -> None:
     """Makes a folder with these files; it appears when all of them are whole. What can be made anew need not outlast a
-    power cut."""
+    power cut. Raises Taken where another call made the folder meanwhile."""
     with fresh_folder(f".{folder.name}.", folder.parent) as fresh:
         for name, data in files.items():
             if is_kept:
@@ -94,7 +98,12 @@ def write_folder(folder: Path, files: Mapping[str, bytes | Iterable[bytes]], is_
             else:
                 write_file(fresh / name, data, is_kept)
         settle(fresh)
-        os.rename(fresh, folder)
+        try:
+            os.rename(fresh, folder)
+        except OSError:
+            if os.path.lexists(folder):
+                raise Taken from None
+            raise
     settle(folder.parent)
 
 
