@@ -7,11 +7,15 @@ import subprocess
 import sys
 import time
 from collections.abc import Callable
+from contextlib import suppress
 from pathlib import Path
 
 from .harness import EXAMPLES, TOOLS, Tally, contents, executable, run, scratch, stopped_once_begun
+from .runs import put
+from .samples import sample_slots
 
 AUDIT = TOOLS / "audit_day"
+MANY = 20_000  # candidates, of whom a report is tested for a second or more
 
 
 def replaced(name: str, old: bytes, new: bytes) -> Callable[[Path], None]:
@@ -151,6 +155,13 @@ def check_alone(tally: Tally) -> None:
             tally.check(f"a kept day {day}", status == 0 and is_told, text)
 
 
+def has_opened(process: int, path: Path) -> bool:
+    """Whether a process has a file open."""
+    with suppress(OSError):
+        return any(os.path.realpath(handle) == os.path.realpath(path) for handle in Path(f"/proc/{process}/fd").iterdir())
+    return False
+
+
 def check_stopped(tally: Tally) -> None:
     """Told to stop, they say so in a line, and nothing is left."""
     tally.begin("recheck and audit_day, told to stop")
@@ -164,13 +175,14 @@ def check_stopped(tally: Tally) -> None:
             tally.equal(f"audit_day, {number.name}", (ended.status, ended.complaint),
                         (128 + number, "audit_day: stopped\n"))
             tally.equal(f"audit_day, {number.name}: what is left", list((place / "temporary").iterdir()), [])
-        os.mkfifo(place / "report")
-        with subprocess.Popen([TOOLS / "recheck", EXAMPLES / "two-days", place / "report"], stderr=subprocess.PIPE,
+        put(sample_slots(MANY), place / "slots")
+        (place / "report").write_bytes(b"order 1: 1\nrule 1: -\nday 1\n")
+        with subprocess.Popen([TOOLS / "recheck", place / "slots", place / "report"], stderr=subprocess.PIPE,
                               preexec_fn=lambda: signal.signal(signal.SIGINT, signal.default_int_handler)) as call:
-            with open(place / "report", "wb"):  # it has begun, and waits for the text
-                time.sleep(0.1)
-                call.send_signal(signal.SIGINT)
-                complaint = call.communicate()[1]
+            while call.poll() is None and not has_opened(call.pid, place / "report"):
+                time.sleep(0.01)
+            call.send_signal(signal.SIGINT)
+            complaint = call.communicate()[1]
         tally.equal("recheck, SIGINT", (call.returncode, complaint), (130, b"recheck: stopped\n"))
 
 

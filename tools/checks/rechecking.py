@@ -8,6 +8,7 @@ import argparse
 import ast
 import importlib.machinery
 import importlib.util
+import os
 import re
 import shutil
 import sys
@@ -226,6 +227,12 @@ def check_said(tally: Tally, program: str) -> None:
         says("a term that is none", 2, "--term", days, report, "--start", "2026-06-02", "--term", "367")
         says("a report that is missing", 3, f"recheck: {report}: No such file or directory\n", days, report)
         says("a report that is a folder", 3, f"recheck: {folder}: Is a directory\n", days, folder)
+        os.mkfifo(folder / "pipe")
+        says("a report that is a pipe", 3, f"recheck: {folder}/pipe is no file, but a device or a pipe", days, folder / "pipe")
+        (folder / "slots").mkdir()
+        os.mkfifo(folder / "slots/groups.csv")
+        report.write_bytes(b"order 1: 1\nrule 1: -\n")
+        says("a slot that is a pipe", 3, "groups.csv is no file, but a device or a pipe", folder / "slots", report)
         report.write_bytes(b"")
         says("a folder that is missing", 3, "No such file", folder / "missing", report)
         dated = ("replay", "--days", "2", "--start", "2026-06-02", "--term", "0")
