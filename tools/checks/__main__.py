@@ -59,7 +59,7 @@ def topics(program: str) -> dict[str, list[Checks]]:
         "cutting": given(cutting.check_two_days, cutting.check_random, cutting.check_finds, cutting.check_written),
         "installing": [installing.check_installed, installing.check_version],
         "workbooks": [workbooks.check_workbooks, workbooks.check_formulas, workbooks.check_merged,
-                      workbooks.check_damaged],
+                      workbooks.check_protected, workbooks.check_damaged],
         "answered": [answered.check_taken, answered.check_faults, answered.check_broken_slots,
                      *given(answered.check_random)],
         "tabled": [tabled.check_lycee, tabled.check_names, tabled.check_other_wishes, tabled.check_other_ids,

@@ -220,6 +220,27 @@ def check_merged(tally: Tally) -> None:
         tally.equal("merged cells that overlap", what_ends(place / "x.xlsx"), "")
 
 
+def check_protected(tally: Tally) -> None:
+    """A workbook with a password is told as such, with its file, and by each tool that reads sheets."""
+    tally.begin("workbooks with a password")
+    with scratch() as place:
+        shutil.copytree(LYCEE, place / "dossier")
+        tally.equal("a day is made", run(TOOLS / "next_day", place / "dossier").status, 0)
+        (place / "sheets").mkdir()
+        for name in ("x.xlsx", "x.ods"):
+            sheet = place / "sheets" / name
+            if name == "x.xlsx":
+                sheet.write_bytes(b"\xd0\xcf\x11\xe0\xa1\xb1\x1a\xe1" + bytes(600))
+            else:
+                write_parts(sheet, {"META-INF/manifest.xml": b"<manifest:encryption-data/>", "content.xml": b"\x8f\x01"})
+            for words in (("prepare", "sheets", "new", "--lang", "en"), ("take_in", "dossier", sheet, "--lang", "en"),
+                          ("tables", "dossier", "new", "--names", sheet, "--lang", "en")):
+                ended = run(TOOLS / words[0], *words[1:], folder=place)
+                told = name in ended.complaint and "it is protected by a password, or of an older kind.\n" in ended.complaint
+                tally.check(f"{words[0]}: {name}", ended.status == 1 and told and "What to do: save it" in ended.complaint, ended)
+            sheet.unlink()
+
+
 def check_damaged(tally: Tally) -> None:
     """Workbooks with bytes that are others, in the archive and in its parts, are read or told."""
     tally.begin("prepare, workbooks with other bytes")

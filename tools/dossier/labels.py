@@ -1,13 +1,13 @@
 """The names of people, programmes and schools, where a sheet has them beside their ids."""
 
-from collections.abc import Iterator, Sequence
+from collections.abc import Sequence
 from pathlib import Path
 
 from .cells import Unclear, read_id
 from .decoding import Unreadable
 from .faults import shown
 from .headers import candidates_for, fold
-from .messages import CORRECT_EITHER, NAME_COLUMNS, NO_NAMES, TWO_NAMES
+from .messages import CORRECT_EITHER, IN_FILE, NAME_COLUMNS, NO_NAMES, TWO_NAMES
 from .naming import Names
 from .slots import WISHES, Thing
 from .sources import AnySheet, first_row, likeliest, readings_of, records_of
@@ -36,13 +36,14 @@ def id_place(titles: Sequence[str]) -> tuple[Thing, int] | None:
     return None
 
 
-def sheets_of(path: Path) -> Iterator[AnySheet]:
-    """The sheets of a file, each in its likeliest reading with names."""
-    if path.suffix.lower() in WORKBOOK_ENDINGS:
-        yield from sheets_of_workbook(path)
-        return
-    readings = [sheet for sheet in readings_of(path) if has_names(first_row(sheet)[1])]
-    yield from likeliest(readings)[:1]
+def sheets_of(path: Path) -> list[AnySheet]:
+    """The sheets of a file, each in its likeliest reading with names. What cannot be read is told with the file."""
+    try:
+        if path.suffix.lower() in WORKBOOK_ENDINGS:
+            return [*sheets_of_workbook(path)]
+        return [*likeliest([sheet for sheet in readings_of(path) if has_names(first_row(sheet)[1])])[:1]]
+    except Unreadable as error:
+        raise Unreadable(IN_FILE.of(file=shown(path.name), what=error.what), error.to_do) from None
 
 
 def has_names(titles: Sequence[str]) -> bool:

@@ -8,6 +8,11 @@ SAVE_WORKBOOK = Text("save it as .ods or .xlsx, or each of its sheets as CSV, an
                      "enregistrez-le en .ods ou .xlsx, ou chacune de ses feuilles en CSV, et retirez-le du dossier.")
 WORKBOOK_AS_EXPORT = Text("it is a workbook under the name of an export.", "c'est un classeur sous le nom d'un export.")
 BROKEN_WORKBOOK = Text("it is no whole workbook ({why}).", "ce n'est pas un classeur entier ({why}).")
+PROTECTED = Text("it is protected by a password, or of an older kind.",
+                 "il est protégé par un mot de passe, ou d'un genre plus ancien.")
+SAVE_OPEN = Text("save it as .ods or .xlsx without a password, or each of its sheets as CSV.",
+                 "enregistrez-le sans mot de passe, en .ods ou .xlsx, ou chacune de ses feuilles en CSV.")
+IN_FILE = Text("{file}: {what}", "{file} : {what}")
 ZERO_BYTES = Text("it has zero bytes and is no text.", "il contient des octets nuls : ce n'est pas un texte.")
 TWO_MARKS = Text("it begins with two byte order marks.", "il commence par deux marques d'ordre des octets.")
 BROKEN_CODE = Text("it begins as {code} and is none from byte {byte} on.",

@@ -9,6 +9,7 @@ from pathlib import Path
 from . import program
 from .campaign import test_file, test_files, unread
 from .decoding import Unreadable
+from .faults import TO_DO
 from .labels import Labels, read_labels
 from .naming import Names, names_in
 from .outputs import DIALECTS, Campaign, Dialect, Ranked, Row, Tables
@@ -158,7 +159,8 @@ def main(arguments: list[str]) -> int:
         print(f"tables: {stop.said(given.lang)}", file=sys.stderr)
         return stop.status
     except Unreadable as error:
-        print(f"tables: {error.what.said(given.lang)}", file=sys.stderr)
+        what, to_do = error.what.said(given.lang), TO_DO.of(to_do=error.to_do).said(given.lang)
+        print(f"tables: {what}\n{to_do}", file=sys.stderr)
         return FAULTY
     except Taken:
         print(f"tables: {given.out} is there already; name a new folder.", file=sys.stderr)

@@ -118,8 +118,9 @@ def main(arguments: list[str]) -> int:
         print(f"take_in: {stop.said(here)}", file=sys.stderr)
         return stop.status
     except Unreadable as error:
-        print(f"{shown(str(given.sheet))}\n    {error.what.said(here)}\n    {error.to_do.said(here)}",
-              file=sys.stderr)
+        faults = Faults()
+        faults.in_file(str(given.sheet), error.what, error.to_do)
+        print(faults.told([], here), file=sys.stderr)
         return FAULTY
     except OSError as error:
         is_written = os.path.basename(str(error.filename)) == f".{ANSWERS.file}.new" or not error.filename

@@ -12,7 +12,7 @@ from typing import NamedTuple
 from xml.etree import ElementTree
 
 from .decoding import Unreadable
-from .messages import BROKEN_WORKBOOK, SAVE_WORKBOOK
+from .messages import BROKEN_WORKBOOK, PROTECTED, SAVE_OPEN, SAVE_WORKBOOK
 from .sources import MERGED, WorkbookSheet
 
 WORKBOOK_ENDINGS = (".xlsx", ".xlsm", ".ods")
@@ -20,6 +20,9 @@ WORKBOOK_ENDINGS = (".xlsx", ".xlsm", ".ods")
 MOST_COLUMNS = 1000
 MOST_ROWS = 17_000_000
 MOST_BYTES = 1 << 31
+MANIFEST = "META-INF/manifest.xml"
+# With these begins a workbook that is older, or that a password protects.
+OF_OLE = b"\xd0\xcf\x11\xe0"
 
 OFFICE = "{urn:oasis:names:tc:opendocument:xmlns:office:1.0}"
 TABLE = "{urn:oasis:names:tc:opendocument:xmlns:table:1.0}"
@@ -34,11 +37,16 @@ BROKEN = (zipfile.BadZipFile, zlib.error, ElementTree.ParseError, LookupError, V
 
 def sheets_of_workbook(path: Path) -> list[WorkbookSheet]:
     """The sheets of a workbook; raises Unreadable where it is none, or is cut."""
+    with open(path, "rb") as file:
+        if file.read(len(OF_OLE)) == OF_OLE:
+            raise Unreadable(PROTECTED.of(), SAVE_OPEN.of())
     try:
         with zipfile.ZipFile(path) as archive:
             if sum(entry.file_size for entry in archive.infolist()) > MOST_BYTES:
                 raise Unreadable(BROKEN_WORKBOOK.of(why="it is too large"), SAVE_WORKBOOK.of())
             names = set(archive.namelist())
+            if MANIFEST in names and b"encryption-data" in archive.read(MANIFEST):
+                raise Unreadable(PROTECTED.of(), SAVE_OPEN.of())
             if "content.xml" in names:
                 found = list(sheets_of_ods(archive))
             elif "xl/workbook.xml" in names:
