@@ -54,7 +54,7 @@ def topics(program: str) -> dict[str, list[Checks]]:
         "exporting": [exporting.check_round_trips, *given(exporting.check_acceptance)],
         "days": [*given(days.check_seven_days), days.check_answers_that_do_not_fit, days.check_unfit_in_the_midst,
                  days.check_stopped_days, days.check_changes_after_a_stop, days.check_days_anew,
-                 days.check_each_day_anew, days.check_told_changes, days.check_rights,
+                 days.check_each_day_anew, days.check_told_changes, days.check_rights, days.check_last_year,
                  days.check_killed_while_running, days.check_full_disk],
         "cutting": given(cutting.check_two_days, cutting.check_random, cutting.check_finds, cutting.check_written),
         "installing": [installing.check_installed, installing.check_version],

@@ -344,6 +344,22 @@ def check_rights(tally: Tally) -> None:
         tally.check("a slot that cannot be read", ended.status == 3 and "answers.csv" in ended.complaint, ended)
 
 
+def check_last_year(tally: Tally) -> None:
+    """Behind the last year in which a run may begin no day is made, and no answer of one taken in; that is told."""
+    tally.begin("next_day, the end of the last year")
+    with scratch() as place:
+        folder = place / "dossier"
+        shutil.copytree(EXAMPLES / "two-days", folder)
+        (place / "sheet.csv").write_text("answer,wish\naccept,1\n")
+        tally.equal("its last day", run(TOOLS / "next_day", folder, "--start", "2298-12-31", "--term", "3").status, 0)
+        before = contents(folder)
+        for tool, *words in (("next_day", folder), ("take_in", folder, place / "sheet.csv")):
+            ended = run(TOOLS / tool, *words)
+            is_told = "is 2299-01-01, and a run can only begin in the years 1901 to 2298" in ended.complaint
+            tally.check(tool, ended.status == 2 and is_told and "bad words" not in ended.complaint, ended)
+            tally.equal(f"{tool}: nothing has changed", contents(folder), before)
+
+
 def check_killed_while_running(tally: Tally) -> None:
     tally.begin("next_day, killed while the program runs; two calls at once")
     with scratch() as place:

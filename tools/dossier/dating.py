@@ -6,9 +6,14 @@ from collections.abc import Callable
 from dataclasses import dataclass
 from datetime import date, timedelta
 
+from . import program
+from .stops import TOO_LATE, Stopped
 from .writing import csv_bytes
 
 Rows = list[list[str]]
+
+# Of these years a run may begin.
+FIRST_YEAR, LAST_YEAR = 1901, 2298
 
 
 def _redated(slot: bytes, change: Callable[[Rows], Rows]) -> bytes:
@@ -50,7 +55,9 @@ class Calendar:
         return Calendar(self.day + 1, self.today and self.today + timedelta(days=1), self.term)
 
     def words(self) -> list[str]:
-        """The words of the program by which it runs this day as day 1."""
+        """The words of the program by which it runs this day as day 1; raises Stopped where it does not run it."""
+        if self.today and self.today.year > LAST_YEAR:
+            raise Stopped(program.BAD_WORDS, TOO_LATE.of(day=self.today, first=FIRST_YEAR, last=LAST_YEAR))
         return ["--start", self.today.isoformat(), "--term", str(self.term)] if self.today else []
 
     def to_bytes(self) -> bytes:

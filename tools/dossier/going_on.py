@@ -10,14 +10,13 @@ from pathlib import Path
 
 from . import program
 from .campaign import CALENDAR, next_day
-from .dating import Calendar
+from .dating import FIRST_YEAR, LAST_YEAR, Calendar
 from .faults import shown
 from .stops import NO_DOSSIER, Stopped
 from .texts import Filled, Text
 from .wording import Words, language_here
 from .writing import Told, is_folder, named_folder, say, stop_cleanly
 
-FIRST_YEAR, LAST_YEAR = 1901, 2298
 LONGEST_TERM = 366
 PLAIN_DATE = re.compile(r"[0-9]{4}-[0-9]{2}-[0-9]{2}")
 GO_ON = Text("Nothing is lost: {day}, and the next call makes it.",

@@ -65,6 +65,10 @@ COMING = Text("its coming day is {day} with a term of {term}", "son jour à veni
 NO_DEADLINES = Text("it has no deadlines", "elle n'a pas d'échéances")
 BUSY = Text("another call runs a day in this folder; wait until it has ended.",
             "un autre appel joue un jour dans ce dossier ; attendez qu'il ait fini.")
+TOO_LATE = Text("the coming day is {day}, and a run can only begin in the years {first} to {last}; no further day can "
+                "be made here.",
+                "le jour qui vient est {day}, et une exécution ne peut commencer que de {first} à {last} ; aucun autre "
+                "jour ne peut être joué ici.")
 DATES = Text("the dates", "les dates")
 IS_THERE = Text("{kept} is there already, and since then {changed} changed; put back what {before} has, delete {kept}, "
                 "and call again.",
