@@ -228,7 +228,8 @@ def check_said(tally: Tally, program: str) -> None:
         says("a report that is missing", 3, f"recheck: {report}: No such file or directory\n", days, report)
         says("a report that is a folder", 3, f"recheck: {folder}: Is a directory\n", days, folder)
         os.mkfifo(folder / "pipe")
-        says("a report that is a pipe", 3, f"recheck: {folder}/pipe is no file, but a device or a pipe", days, folder / "pipe")
+        pipe = folder / "pipe"
+        says("a report that is a pipe", 3, f"recheck: {pipe} is no file, but a device or a pipe", days, pipe)
         (folder / "slots").mkdir()
         os.mkfifo(folder / "slots/groups.csv")
         report.write_bytes(b"order 1: 1\nrule 1: -\n")
@@ -253,7 +254,7 @@ def check_said(tally: Tally, program: str) -> None:
                                      ("a mark is told", b"\xef\xbb\xbf" + right, "who saved it anew?"),
                                      ("UTF-16", right.decode().encode("utf-16"), "who saved it anew?"),
                                      ("a cut within a line", right[:-4], "8,wait\n"),
-                                     ("a cut is told", right[:100], "\n  the report ends within this line: was it cut?"),
+                                     ("a cut is told", right[:100], "  the report ends within this line: was it cut?"),
                                      ("no line feed at the end", right[:-1], "waiting (no line feed ends it)\n")):
             report.write_bytes(text)
             says(f"what cannot be seen: {name}", 1, sentence, days, report)
