@@ -54,6 +54,9 @@ def check_refusals(tally: Tally, folder: Path, place: Path) -> None:
     (place / "none.csv").write_text("Ville\nLyon\n")
     for words, status, sentence in (
         ((folder, place / "fr"), 3, "is there already"), ((folder, place / "no/new"), 3, "no folder to be in"),
+        ((folder, place / "fr", "--lang", "fr"), 3, "est déjà là"),
+        ((folder, place / "no/new", "--lang", "fr"), 3, "le dossier qui doit contenir"),
+        ((folder, place / ("x" * 300), "--lang", "fr"), 4, "rien n'est écrit"),
         ((place / "no", place / "new"), 3, "there is no folder"),
         ((LYCEE / "slots", place / "new"), 3, "no day has been"),
         ((folder, place / "new", "--names", place / "none.csv"), 1, "no sheet with ids"),

@@ -86,6 +86,15 @@ CHANGED_SINCE = Text("{changed} changed since day {day} was made, so what the pr
                      "put it back as it was, or make the next day.",
                      "ceci a changé depuis que le jour {day} est joué : {changed}. On ne peut donc plus rien dire de "
                      "ce jour ; remettez-le comme il était, ou jouez le jour suivant.")
+TAKEN = Text("{folder} is there already; name a new folder.", "{folder} est déjà là ; nommez un nouveau dossier.")
+NO_PARENT = Text("{folder} has no folder to be in; make it first.",
+                 "le dossier qui doit contenir {folder} n'existe pas ; créez-le d'abord.")
+UNWRITTEN = Text("{file}: {error}; nothing is written.", "{file} : {error} ; rien n'est écrit.")
+STOPPED = Text("stopped; nothing is written.", "arrêté ; rien n'est écrit.")
+AS_THEY_WERE = Text("{file}: {error}; the answers are as they were.",
+                    "{file} : {error} ; les réponses sont comme avant.")
+TAKING_STOPPED = Text("stopped; the answers are as they were, or all taken in.",
+                      "arrêté ; les réponses sont comme avant, ou toutes prises en compte.")
 NO_DAY_MADE = Text("no day has been made in {dossier}: make one with next_day, and call again.",
                    "aucun jour n'est encore joué dans {dossier} : jouez-en un avec next_day, et relancez.")
 HALF_MADE = Text("day {day} was not made to its end, or its slots were put back; call next_day first.",

@@ -15,8 +15,8 @@ from .naming import Names, names_in
 from .outputs import DIALECTS, Campaign, Dialect, Ranked, Row, Tables
 from .records import Wish, made_days, rows_of, wishes_in
 from .slots import BOARDING, PROGRAMMES, RANKINGS, SCHOOLS, Thing
-from .stops import NO_CAMPAIGN, Stopped
-from .texts import Language, Text
+from .stops import NO_CAMPAIGN, NO_PARENT, STOPPED, TAKEN, UNWRITTEN, Stopped
+from .texts import Filled, Language, Text
 from .wording import Words, language_here
 from .writing import Taken, Told, is_folder, named_folder, say, stop_cleanly, write_folder
 
@@ -143,34 +143,36 @@ def is_of_new(error: OSError, out: Path) -> bool:
 
 def main(arguments: list[str]) -> int:
     given = words().of(arguments)
+
+    def complain(why: Filled) -> None:
+        print(f"tables: {why.said(given.lang)}", file=sys.stderr)
+
     if os.path.lexists(given.out) or not is_folder(given.out.parent):
-        why = "is there already; name a new folder" if os.path.lexists(given.out) else \
-            "has no folder to be in; make it first"
-        print(f"tables: {given.out} {why}.", file=sys.stderr)
+        complain((TAKEN if os.path.lexists(given.out) else NO_PARENT).of(folder=given.out))
         return program.READ_FAULT
     if not is_folder(given.folder):
-        print(f"tables: {NO_CAMPAIGN.of(folder=given.folder).said(given.lang)}", file=sys.stderr)
+        complain(NO_CAMPAIGN.of(folder=given.folder))
         return program.READ_FAULT
     try:
         stop_cleanly()
         gc.disable()
         return tabulate(given.folder, given.out, given.names, DIALECTS[given.dialect], given.lang)
     except Stopped as stop:
-        print(f"tables: {stop.said(given.lang)}", file=sys.stderr)
+        complain(stop.why)
         return stop.status
     except Unreadable as error:
         what, to_do = error.what.said(given.lang), TO_DO.of(to_do=error.to_do).said(given.lang)
         print(f"tables: {what}\n{to_do}", file=sys.stderr)
         return FAULTY
     except Taken:
-        print(f"tables: {given.out} is there already; name a new folder.", file=sys.stderr)
+        complain(TAKEN.of(folder=given.out))
         return program.READ_FAULT
     except OSError as error:
         if is_of_new(error, given.out):
-            print(f"tables: {error.filename or given.out}: {error.strerror}; nothing is written.", file=sys.stderr)
+            complain(UNWRITTEN.of(file=error.filename or given.out, error=error.strerror))
             return program.WRITE_FAULT
-        print(f"tables: {unread(error).said(given.lang)}", file=sys.stderr)
+        complain(unread(error).why)
         return program.READ_FAULT
     except Told as stop:
-        print("tables: stopped; nothing is written.", file=sys.stderr)
+        complain(STOPPED.of())
         return stop.status

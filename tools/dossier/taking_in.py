@@ -17,7 +17,7 @@ from .naming import names_in
 from .preparing import chosen_column, columns_left_out
 from .records import wishes_in
 from .slots import ANSWER_SHEET, ANSWERS
-from .stops import NO_DOSSIER, Stopped
+from .stops import AS_THEY_WERE, NO_DOSSIER, TAKING_STOPPED, Stopped
 from .tables import Choices, Table
 from .texts import Language, OfName, Text
 from .values import things
@@ -124,11 +124,11 @@ def main(arguments: list[str]) -> int:
         return FAULTY
     except OSError as error:
         is_written = os.path.basename(str(error.filename)) == f".{ANSWERS.file}.new" or not error.filename
-        told = f"{error.filename or given.folder}: {error.strerror}; the answers are as they were."
-        print(f"take_in: {told if is_written else unread(error).said(here)}", file=sys.stderr)
+        told = AS_THEY_WERE.of(file=error.filename or given.folder, error=error.strerror)
+        print(f"take_in: {(told if is_written else unread(error).why).said(here)}", file=sys.stderr)
         return program.WRITE_FAULT if is_written else program.READ_FAULT
     except Told as stop:
-        print("take_in: stopped; the answers are as they were, or all taken in.", file=sys.stderr)
+        print(f"take_in: {TAKING_STOPPED.of().said(here)}", file=sys.stderr)
         return stop.status
 
 
