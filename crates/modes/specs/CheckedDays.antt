@@ -6,6 +6,8 @@ use Rattle.admit_core.specs.declared.ranking.CallOrder.{CallOrder}
 use Rattle.admit_core.specs.declared.records.Terms.{Terms}
 use Rattle.certificate.specs.ProvedDays.{evening_after, evening_by}
 use Rattle.certificate.specs.Verdicts.{KeepsSchool}
+use Rattle.certificate.specs.declared.stop.CheckStop.{CheckStop}
+use Rattle.certificate.specs.declared.stop.CheckStop.TheVariants as stops
 use Rattle.desk_day.specs.RunDay.{IsStampedBy, KeepsStamps}
 use Rattle.desk_day.specs.declared.refusal.DayRefusal.{DayRefusal}
 use Rattle.desk_day.specs.declared.refusal.DayRefusal.TheVariants as refusals
@@ -17,6 +19,10 @@ use Rattle.modes.specs.declared.unproved.Why.TheVariants.{NoChain, Unfit, Reject
 abbrev pub why_of : DayRefusal → Unproved
 why_of (refusals.Unfit refusal) = Refused (Unfit refusal)
 why_of refusals.OutOfMemory = OutOfMemory
+
+abbrev pub why_stopped : CheckStop → Unproved
+why_stopped (stops.Rejected found) = Refused (Rejected found)
+why_stopped stops.OutOfMemory = OutOfMemory
 
 -- a test that stopped tells why, unless memory ran out
 abbrev pub StopsBy : Unproved → Option Why → Type 0

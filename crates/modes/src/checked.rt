@@ -21,7 +21,7 @@ use crate::replay::push_final_lines;
 use crate::reply::{Reply, StopLine, done, told};
 use crate::unproved::{Unproved, Why};
 use admit_core::{CheckReason, DayChain, Dossier, OutOfMemory, Terms};
-use certificate::{ChainRefusal, CheckStop, Grounds, Rejection, check_day_on, read_chain};
+use certificate::{ChainRefusal, Grounds, Rejection, check_day_on, read_chain};
 use day_state::{DayState, MarkedWishes};
 use desk_day::{DayRefusal, Present, ceilings_on};
 use intake::{DatedTerms, Input};
@@ -47,11 +47,8 @@ fn check_morning(
         chain.now present.new) }
     ensures school { IfErr result (KeepsIn (length present.old.dossier.schools)) }
 {
-    match check_day_on(alloc, grounds, present, ceilings, day, chain) {
-        Ok(()) => Ok(()),
-        Err(CheckStop::Rejected(found)) => Err(Unproved::Refused(Why::Rejected(found))),
-        Err(CheckStop::OutOfMemory) => Err(Unproved::OutOfMemory),
-    }
+    check_day_on(alloc, grounds, present, ceilings, day, chain)?;
+    Ok(())
 }
 
 /// Why a day is refused whose chain has no pass: its first answer that does not fit, or else the

@@ -6,7 +6,7 @@ ghost use Rattle.modes.specs.CheckedDays.{NamesSchool};
 
 use crate::exit::Exit;
 use admit_core::{ChainFault, Dossier, OutOfMemory, Refusal};
-use certificate::{Rejection, push_verdict};
+use certificate::{CheckStop, Rejection, push_verdict};
 use desk_day::DayRefusal;
 use std::alloc::AllocError;
 
@@ -84,6 +84,20 @@ impl From<DayRefusal> for Unproved {
         match refusal {
             DayRefusal::Unfit(refusal) => Unproved::Refused(Why::Unfit(refusal)),
             DayRefusal::OutOfMemory => Unproved::OutOfMemory,
+        }
+    }
+}
+
+impl From<CheckStop> for Unproved {
+    ghost use Rattle.std.specs.Prelude.{◌≡◌};
+    ghost use Rattle.modes.specs.CheckedDays.{why_stopped};
+
+    ghost from_gives = { λ stop why. why ≡ why_stopped stop };
+
+    fn from(stop: CheckStop) -> Unproved {
+        match stop {
+            CheckStop::Rejected(found) => Unproved::Refused(Why::Rejected(found)),
+            CheckStop::OutOfMemory => Unproved::OutOfMemory,
         }
     }
 }

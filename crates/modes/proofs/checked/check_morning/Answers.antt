@@ -1,4 +1,4 @@
 use Rattle.modes.proofs.checked.check_morning.Goals as goal
 
-pub returns-in-Ok-clause-valid : goal.returns-in-Ok-clause-valid
-returns-in-Ok-clause-valid c = c.in-Ok.ensures.proved.valid
+pub returns-clause-valid : goal.returns-clause-valid
+returns-clause-valid c = c.in_ok-check_day_on.ensures.proved.valid
