@@ -25,12 +25,14 @@ use Rattle.certificate.specs.Checked.{state_after}
 use Rattle.certificate.specs.ProvedDays.{AreProvedDays, evening_after, evening_by}
 use Rattle.desk_day.proofs.SameDossier.{morning_dossier}
 use Rattle.desk_day.proofs.Stamps.{stamps_kept}
-use Rattle.desk_day.specs.AnswersOn.{unfit_refusal}
+use Rattle.desk_day.specs.AnswersOn.{IsUnfitOf, unfit_refusal}
 use Rattle.desk_day.specs.RunDay.{IsStampedBy, KeepsStamps}
+use Rattle.desk_day.specs.declared.refusal.DayRefusal.{DayRefusal}
+use Rattle.desk_day.specs.declared.refusal.DayRefusal.TheVariants as refusals
 use Rattle.intake.specs.Dated.{AreDatedFor}
 use Rattle.intake.specs.declared.terms.DatedTerms.{DatedTerms}
 use Rattle.modes.proofs.Writable.{finals_dated, first_known}
-use Rattle.modes.specs.CheckedDays.{IsEveningOfDay, StopsBy, TellsWhy}
+use Rattle.modes.specs.CheckedDays.{IsEveningOfDay, StopsBy, TellsWhy, why_of}
 use Rattle.modes.specs.Checking.{EndsProof, IsRefused, IsReply, Replies, rejected_at, why_none, why_not, why_without}
 use Rattle.modes.specs.Replay.{CanBeDated, CanBeWritten}
 use Rattle.modes.specs.declared.exit.Exit.{Exit}
@@ -80,6 +82,24 @@ pub has_pass : (terms : Option Terms) (orders : List CallOrder) (day : ℕ) (old
     → why_not terms orders day old chain ≡ None → chain.passes ≢ []
 has_pass terms orders day old chain proved none =
     never_none _ _ (sym (without_pass terms orders day old chain none) ∙ proved)
+
+none_first : {A : Type 0} (f : A → Why) (u : Option A) (o : Option Why) → option_or (option_map f u) o ≡ None
+    → u ≡ None
+none_first f None o e = refl
+none_first f (Some x) o e = cc
+
+-- each answer of a day that is proved fits
+pub has_fit : (terms : Option Terms) (orders : List CallOrder) (day : ℕ) (old : State) (chain : DayChain)
+    → why_not terms orders day old chain ≡ None → unfit_on terms day old ≡ None
+has_fit terms orders day old chain proved =
+    none_first (λ (x : ℕ × Status). Unfit (unfit_refusal old.dossier day x)) (unfit_on terms day old)
+    (rejected_at (day_fault orders (ceilings_of old.dossier day) day (morning terms day old) chain)) proved
+
+-- so does each of a day whose beginning ran out of memory
+pub fits_begun : (d : DossierRows) (day : ℕ) (unfit : Option (ℕ × Status)) (refusal : DayRefusal)
+    → IsUnfitOf d day unfit refusal → why_of refusal ≡ unproved.OutOfMemory → unfit ≡ None
+fits_begun d day unfit (refusals.Unfit refusal) is e = cc
+fits_begun d day unfit refusals.OutOfMemory is e = is
 
 -- where all answers fit, the chain's first fault tells why
 module _ (terms : Option Terms) (orders : List CallOrder) (day : ℕ) (old dawn : State) (ceilings : List ℕ)

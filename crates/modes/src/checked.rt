@@ -1,7 +1,7 @@
 //! The mode `check`: the days of a chain, tested one after another.
-ghost use Rattle.std.specs.Prelude.{◌≡◌, ◌≢◌, ◌≤◌, ◌<◌, ◌^◌, [], All, Err, IfErr, IfOk, IfSome, Some, OnErr, OnOk, length, option_copied};
+ghost use Rattle.std.specs.Prelude.{◌≡◌, ◌≢◌, ◌≤◌, ◌<◌, ◌^◌, [], All, Err, IfErr, IfOk, IfSome, None, Some, OnErr, OnOk, length, option_copied};
 ghost use Rattle.admit_core.specs.Chains.{IsDayChain, day_fault};
-ghost use Rattle.admit_core.specs.Days.{first_evening};
+ghost use Rattle.admit_core.specs.Days.{first_evening, unfit_on};
 ghost use Rattle.admit_core.specs.Lapses.{AreTermsFor};
 ghost use Rattle.admit_core.specs.Ranges.{IsDay as IsDayNumber};
 ghost use Rattle.certificate.specs.Checked.{ids_in};
@@ -75,7 +75,7 @@ fn refuse_day(
 }
 
 /// Tests the chain of a day from the evening before, and leaves the evening of the day. A day whose
-/// chain has no pass is refused whatever memory there is.
+/// chain has no pass, or with an answer that does not fit, is refused whatever memory there is.
 fn check_next(
     alloc: Global,
     grounds: &Grounds<'_, '_>,
@@ -94,13 +94,15 @@ fn check_next(
     ensures evening { OnOk result (IsEveningOfDay (option_copied terms.entry) grounds.now.orders day
         present.old chain.now present.new) }
     ensures memory { result ≡ Err unproved.OutOfMemory → chain.now.passes ≢ [] }
+    ensures fits { result ≡ Err unproved.OutOfMemory
+        → unfit_on (option_copied terms.entry) day present.old ≡ None }
     ensures school { IfErr result (KeepsIn (length present.old.dossier.schools)) }
 {
     if chain.passes.is_empty() {
         return Err(Unproved::Refused(refuse_day(alloc, present, terms, day, chain)));
     }
-    let ceilings = ceilings_on(alloc, present.now().dossier(), day)?;
     let _ = present.begin_day(alloc, terms, day)?;
+    let ceilings = ceilings_on(alloc, present.now().dossier(), day)?;
     check_morning(alloc, grounds, &ceilings, present, day, chain)
 }
 
@@ -123,6 +125,8 @@ fn check_days(
         present.old days.now present.new) }
     ensures school { IfErr result (KeepsIn (length present.old.dossier.schools)) }
     ensures memory { result ≡ Err unproved.OutOfMemory → BeginsWithPass days.now }
+    ensures fits { result ≡ Err unproved.OutOfMemory
+        → unfit_on (option_copied terms.entry) 1 present.old ≡ None }
 {
     for (place, chain) in days.iter().enumerate() {
         check_next(alloc, grounds, terms, present, place as u32 + 1, chain)?;

@@ -8,7 +8,7 @@ use Rattle.admit_core.specs.State.{State}
 use Rattle.certificate.proofs.Lowering.{drop_item}
 use Rattle.certificate.specs.ProvedDays.{evening_after}
 use Rattle.modes.specs.Checking.{BeginsWithPass, why_none}
-use Rattle.modes.proofs.CheckedDay.{days_go_on, evening_goes_on, evening_stays, has_pass}
+use Rattle.modes.proofs.CheckedDay.{days_go_on, evening_goes_on, evening_stays, has_fit, has_pass}
 use Rattle.modes.proofs.checked.check_days.Goals as goal
 
 pub check_next-requires-clause-same : goal.check_next-requires-clause-same
@@ -43,6 +43,7 @@ loop-place-preserved c =
       stamped = λ all. after.evening.stamps 366 within (inv.stamped all);
       begins = λ more. inv.begins (subst BeginsWithPass (sym here)
           (has_pass terms orders (i + 1) s chain after.found));
+      fits = λ _. inv.fits (has_fit terms orders (i + 1) s chain after.found);
     }
 
 pub returns-clause-evening : goal.returns-clause-evening
@@ -66,3 +67,9 @@ returns-in_err-check_next-clause-memory c =
     let told = err_from_is_err_and c.from_residual.result c.from_residual.ensures.1 in
     λ ended. c.loop-place.invariant.begins (subst BeginsWithPass (sym here)
     (c.in_err-check_next.ensures.memory (ap Err (sym told.2) ∙ sym told.1 ∙ ended)))
+
+pub returns-in_err-check_next-clause-fits : goal.returns-in_err-check_next-clause-fits
+returns-in_err-check_next-clause-fits c =
+    let told = err_from_is_err_and c.from_residual.result c.from_residual.ensures.1 in
+    λ ended. c.loop-place.invariant.fits
+    (c.in_err-check_next.ensures.fits (ap Err (sym told.2) ∙ sym told.1 ∙ ended))

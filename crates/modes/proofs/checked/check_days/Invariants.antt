@@ -1,5 +1,6 @@
-use Rattle.std.proofs.Common.{◌≡◌, ◌+◌, All, drop}
+use Rattle.std.proofs.Common.{◌≡◌, ◌+◌, All, None, drop}
 use Rattle.std.specs.Option.{option_copied}
+use Rattle.admit_core.specs.Days.{unfit_on}
 use Rattle.certificate.specs.ProvedDays.{evening_after}
 use Rattle.desk_day.specs.RunDay.{IsStampedBy}
 use Rattle.modes.specs.Checking.{BeginsWithPass, why_none}
@@ -17,4 +18,5 @@ invariant-loop-place l =
       dossier : l.present.dossier ≡ l.fn.present.dossier;
       stamped : All (IsStampedBy 366) l.fn.present.marks → All (IsStampedBy 366) l.present.marks;
       begins : BeginsWithPass rest → BeginsWithPass l.days;
+      fits : unfit_on terms (l.place + 1) l.present ≡ None → unfit_on terms 1 l.fn.present ≡ None;
     }

@@ -1,11 +1,12 @@
-use Rattle.std.proofs.Common.{◌∙◌, IfErr, ap, length, subst, sym}
+use Rattle.std.proofs.Common.{◌≡◌, ◌∙◌, IfErr, ap, length, subst, sym}
 use Rattle.std.specs.Option.{option_copied}
-use Rattle.std.proofs.lemmas.Result.{on_ok_weaker}
+use Rattle.std.proofs.lemmas.Result.{err_from_is_err_and, on_ok_weaker}
 use Rattle.admit_core.specs.Days.{ceilings_of}
 use Rattle.admit_core.specs.DossierRows.{DossierRows}
 use Rattle.admit_core.specs.State.{State}
 use Rattle.modes.specs.CheckedDays.{KeepsIn}
-use Rattle.modes.proofs.CheckedDay.{chain_tells, is_evening}
+use Rattle.modes.specs.declared.unproved.Unproved.TheVariants as unproved
+use Rattle.modes.proofs.CheckedDay.{chain_tells, fits_begun, is_evening}
 use Rattle.modes.proofs.checked.check_next.Goals as goal
 
 pub check_morning-requires-clause-same : goal.check_morning-requires-clause-same
@@ -15,13 +16,13 @@ pub check_morning-requires-clause-ceilings : goal.check_morning-requires-clause-
 check_morning-requires-clause-ceilings c =
     ap length c.deref.ensures.value ∙ c.in_ok-ceilings.ensures.one_each
     ∙ ap (λ (d : DossierRows). length d.schools)
-    (c.dossier.ensures ∙ ap (λ (t : State). t.dossier) c.now.ensures ∙ sym c.begin_day.ensures.dossier)
+    (c.dossier.ensures ∙ ap (λ (t : State). t.dossier) c.now.ensures)
 
 pub returns-clause-found : goal.returns-clause-found
 returns-clause-found c =
     let under = c.deref.ensures.value ∙ c.in_ok-ceilings.ensures.ceilings
     ∙ ap (λ (d : DossierRows). ceilings_of d c.args.day)
-    (c.dossier.ensures ∙ ap (λ (t : State). t.dossier) c.now.ensures) in
+    (c.dossier.ensures ∙ ap (λ (t : State). t.dossier) c.now.ensures ∙ c.begin_day.ensures.dossier) in
     chain_tells (option_copied c.args.terms) c.args.grounds.now.orders c.args.day c.args.present.now
     c.begin_day.new.self
     c.deref.result.now c.args.chain.now
@@ -38,9 +39,18 @@ pub returns-clause-evening : goal.returns-clause-evening
 returns-clause-evening c =
     let under = c.deref.ensures.value ∙ c.in_ok-ceilings.ensures.ceilings
     ∙ ap (λ (d : DossierRows). ceilings_of d c.args.day)
-    (c.dossier.ensures ∙ ap (λ (t : State). t.dossier) c.now.ensures) in
+    (c.dossier.ensures ∙ ap (λ (t : State). t.dossier) c.now.ensures ∙ c.begin_day.ensures.dossier) in
     on_ok_weaker c.check_morning.result
     (is_evening (option_copied c.args.terms) c.args.grounds.now.orders c.args.day c.args.present.now
     c.begin_day.new.self c.deref.result.now c.args.chain.now
     c.in_ok-begin_day.ensures.begun.fits c.in_ok-begin_day.ensures.begun.state under c.check_morning.new.present)
     c.check_morning.ensures.valid
+
+pub returns-in_err-begin_day-clause-fits : goal.returns-in_err-begin_day-clause-fits
+returns-in_err-begin_day-clause-fits c =
+    let told = err_from_is_err_and c.from_residual.result c.from_residual.ensures.1 in
+    λ ended. let none : told.0 ≡ unproved.OutOfMemory = cc (sym told.1 ∙ ended) in
+    fits_begun c.args.present.now.dossier c.args.day _ _ c.in_err-begin_day.ensures.unfit (sym told.2 ∙ none)
+
+pub returns-clause-fits : goal.returns-clause-fits
+returns-clause-fits c = λ _. c.in_ok-begin_day.ensures.begun.fits
