@@ -11,7 +11,7 @@ use admit_core::{OutOfMemory, WishRow};
 use std::alloc::Global;
 
 /// The most wishes of a candidate that are compared with one another.
-const MOST: usize = 32;
+const MOST: usize = 64;
 
 /// Whether two wishes of one candidate are the same, or have the same preference.
 fn alike(row: &WishRow, other: &WishRow) -> bool
@@ -66,7 +66,7 @@ impl Run {
         requires within { place < length rows.now }
         ensures goes_on { IfSome result (λ next.
             IsRunUpTo rows.now self place → IsRunUpTo rows.now next (place + 1)) }
-        ensures short { IfSome result (λ next. place < next.from + 32) }
+        ensures short { IfSome result (λ next. place < next.from + 64) }
     {
         let row = wish_at(rows, place);
         let next = self.with(row.candidate, place)?;
