@@ -3,14 +3,15 @@
 -- RisingIds; keys of hashes: MixedNumbers; numbers in order: SortedNumbers; tags of rows in order:
 -- KeyAndPlace, DealtTags, TaggedRows.
 -- Scans of a slot: Scans, LastRow, AcceptedRows, Outcomes.
--- Faults shown to be none without a scan: Faultless, WishTests; ranks: DealtRows; wishes: Runs,
--- InOrder, TwiceWished, TwicePreferred, WhoIsRanked, MayNotWish.
+-- Faults shown to be none without a scan: Faultless, WishTests; ranks: DealtRows,
+-- BoardRanks; wishes: Runs, InOrder, TwiceWished, TwicePreferred, WhoIsRanked, MayNotWish.
 -- What tables without a fault are: FaultFree, NoFault, RowFacts, Pairs; wishes in another order:
 -- Reordered, which stands on WishesApart.
 -- What is made of them: MadeItems, Buckets, BuiltGroups, PutStatuses, Undated.
 -- The dossier is valid, part by part: ValidSizes, ValidItems, ValidRankings, ValidWishes,
 -- WishesApart, OneAccepted, ValidAnswers; Valid puts them together and is the end of it.
 pub mod AcceptedRows
+mod BoardRanks
 pub mod Buckets
 pub mod BuiltGroups
 pub mod DealtRows

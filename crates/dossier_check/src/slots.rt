@@ -1,5 +1,5 @@
 //! The tests of each slot that needs no test of its own.
-ghost use Rattle.std.specs.Prelude.{◌≡◌, ◌<◌, ◌^◌, ◌∷◌, [], length, map, nat_eq, IfOk};
+ghost use Rattle.std.specs.Prelude.{◌≡◌, ◌<◌, ◌^◌, ◌∷◌, ◌&&◌, [], AllPairs, false, length, map, nat_eq, true, IfOk};
 ghost use Rattle.admit_core.specs.declared.slot.Slot.TheVariants as slots;
 ghost use Rattle.admit_core.specs.Faults.{first_in, repeats};
 ghost use Rattle.admit_core.specs.Relations.{programme_tests, ranking_tests, boarding_tests, ceiling_tests, group_ids, programme_ids, school_ids};
@@ -9,13 +9,14 @@ use crate::day_falls::{DayFalls, ItsDay};
 use crate::hashing::hashing_of_ranks;
 use crate::noted::Key;
 use crate::row_ids::RowIds;
-use crate::row_tests::{NamesUnknown, NoTest, Repeats, RepeatsId, Shared, Then};
+use crate::row_tests::{NamesUnknown, NoTest, Repeats, RepeatsId, Shared, Then, Unless};
 use crate::rules::{
     DayAndSchool, GroupAndCandidate, GroupAndRank, ItsGroup, ItsSchool, OwnId, SchoolAndCandidate,
     SchoolAndRank,
 };
 use crate::scan::{scan, scanned};
-use admit_core::{InFault, Sequence, Slot, Tables};
+use crate::tag::Tag;
+use admit_core::{BoardRow, InFault, Sequence, Slot, Tables};
 use indexmap::IndexSet;
 use keyed_hash::Keyed;
 use std::alloc::Global;
@@ -122,6 +123,16 @@ pub(crate) fn find_rank_fault(
     scan(Slot::Rankings, &mut checks, rows)
 }
 
+/// Whether each row has a greater school than the one before it, or the same and a greater rank.
+fn ranks_rise(rows: &[BoardRow]) -> bool
+    ensures { result ≡ true → AllPairs (λ r row.
+        (nat_eq row.school r.school && nat_eq row.rank r.rank) ≡ false) rows.now }
+{
+    rows.is_sorted_by(|one, next| {
+        Tag::new(one.school, one.rank) < Tag::new(next.school, next.rank)
+    })
+}
+
 /// Checks the boarding ranks, and answers the pairs of school and candidate by place.
 pub(crate) fn check_boarding(
     alloc: Global,
@@ -152,10 +163,13 @@ pub(crate) fn check_boarding(
                 rule: ItsSchool,
             },
             rest: Then {
-                first: Repeats {
-                    keys: IndexSet::with_hasher(alloc, keyed),
-                    rule: SchoolAndRank,
-                    shared: Shared::Rank,
+                first: Unless {
+                    is_known: ranks_rise(rows),
+                    test: Repeats {
+                        keys: IndexSet::with_hasher(alloc, keyed),
+                        rule: SchoolAndRank,
+                        shared: Shared::Rank,
+                    },
                 },
                 rest: NoTest,
             },

@@ -1,15 +1,23 @@
-use Rattle.std.proofs.Common.{◌≡◌, List, map, None, ap, subst, ◌∙◌}
-use Rattle.admit_core.specs.declared.slot.Slot.TheVariants as slots
+use Rattle.std.proofs.Common.{List, map, ap, refl, subst, sym, ◌∙◌}
 use Rattle.admit_core.specs.declared.tables.BoardRow.{BoardRow}
-use Rattle.admit_core.specs.Faults.{first_in}
-use Rattle.admit_core.specs.Relations.{boarding_tests}
+use Rattle.dossier_check.specs.Outcome.{AnswersFault}
+use Rattle.dossier_check.proofs.BoardRanks.{found_same}
+use Rattle.dossier_check.proofs.Outcomes.{handed_on}
 use Rattle.dossier_check.proofs.slots.check_boarding.Goals as goal
+
+pub returns-in_err-checks-clause-fault : goal.returns-in_err-checks-clause-fault
+returns-in_err-checks-clause-fault c =
+    let e = c.from_residual-in_err-checks in
+    subst (AnswersFault e.result)
+    (found_same c.args.tables.now c.as_slice-rows.result.now c.ranks_rise.result _ c.ranks_rise.ensures
+    c.as_slice-rows.ensures (rw c.requires.schools refl))
+    (handed_on _ _ _ e.ensures.1 c.in_err-checks.ensures.fault)
 
 pub returns-clause-fault : goal.returns-clause-fault
 returns-clause-fault c =
-    let t = c.args.tables.now in
-    subst (λ (rows : List BoardRow). first_in slots.Boarding (boarding_tests t) rows ≡ None) c.as_slice-rows.ensures
-    (rw (← c.requires.schools) c.in_ok-checks.ensures.fault)
+    sym (found_same c.args.tables.now c.as_slice-rows.result.now c.ranks_rise.result _ c.ranks_rise.ensures
+    c.as_slice-rows.ensures (rw c.requires.schools refl))
+    ∙ c.in_ok-checks.ensures.fault
 
 pub returns-clause-pairs : goal.returns-clause-pairs
 returns-clause-pairs c =
