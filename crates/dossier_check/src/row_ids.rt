@@ -60,16 +60,12 @@ fn at_distance(ids: &[u32], id: u32) -> Option<usize>
     Some(place)
 }
 
-/// The place of an id among rising ones.
-fn place_among(ids: &[u32], id: u32) -> Option<usize>
+/// The place of an id among rising ones, found by halves.
+fn by_halves(ids: &[u32], id: u32) -> Option<usize>
     requires { Rises ids.now }
-    ensures place { result ≡ position (nat_eq id) ids.now }
-    ensures found { is_some result ≡ list_any (nat_eq id) ids.now }
+    ensures { result ≡ position (nat_eq id) ids.now }
 {
-    match at_distance(ids, id) {
-        Some(place) => Some(place),
-        None => ids.binary_search(&id).ok(),
-    }
+    ids.binary_search(&id).ok()
 }
 
 /// Whether an id is greater than the last of those before it.
@@ -138,7 +134,7 @@ fn row_among(ids: &[u32], id: u32) -> Option<u64>
     requires { Rises ids.now }
     ensures { result ≡ option_map row_number (position (nat_eq id) ids.now) }
 {
-    let place = place_among(ids, id)?;
+    let place = by_halves(ids, id)?;
     Some(place as u64 + FIRST_ROW)
 }
 
@@ -223,18 +219,6 @@ impl RowIds {
         self.note_any(alloc, keyed, rule, row)
     }
 
-    /// The place of an id.
-    pub(crate) fn get_index_of(&self, id: u32) -> Option<usize>
-        ensures index { result ≡ position (nat_eq id) self.now.keys }
-        ensures found { is_some result ≡ list_any (nat_eq id) self.now.keys }
-        ensures within { IfSome result (λ place. place < length self.now.keys) }
-    {
-        match &self.way {
-            Way::Rising(ids) => place_among(ids.as_slice(), id),
-            Way::Hashed(ids) => ids.get_index_of(&id),
-        }
-    }
-
     /// The place of an id among rising ones without gaps.
     #[inline(always)]
     fn at_distance(&self, id: u32) -> Option<usize>
@@ -246,14 +230,28 @@ impl RowIds {
         }
     }
 
-    /// The place of an id, as `get_index_of` has it. Where ids have no gaps, it calls nothing.
-    #[inline(always)]
-    pub(crate) fn index_at_once(&self, id: u32) -> Option<usize>
+    /// The place of an id, found by halves or by hash. This is not inlined: where ids have no gaps,
+    /// it is called only for one that is not there.
+    #[inline(never)]
+    fn search(&self, id: u32) -> Option<usize>
         ensures { result ≡ position (nat_eq id) self.now.keys }
+    {
+        match &self.way {
+            Way::Rising(ids) => by_halves(ids.as_slice(), id),
+            Way::Hashed(ids) => ids.get_index_of(&id),
+        }
+    }
+
+    /// The place of an id. Where ids have no gaps, it calls nothing.
+    #[inline(always)]
+    pub(crate) fn get_index_of(&self, id: u32) -> Option<usize>
+        ensures index { result ≡ position (nat_eq id) self.now.keys }
+        ensures found { is_some result ≡ list_any (nat_eq id) self.now.keys }
+        ensures within { IfSome result (λ place. place < length self.now.keys) }
     {
         match self.at_distance(id) {
             Some(place) => Some(place),
-            None => self.get_index_of(id),
+            None => self.search(id),
         }
     }
 

@@ -46,7 +46,7 @@ fn search(numbers: &[u32], number: u32) -> Option<usize>
     numbers.binary_search(&number).ok()
 }
 
-/// The same, looked for first where `near` says.
+/// A place of a number among ascending ones, looked for first where `near` says.
 #[inline(always)]
 fn search_near(numbers: &[u32], number: u32, near: usize) -> Option<usize>
     ensures { IsNonDecreasing numbers.now → is_some result ≡ list_any (nat_eq number) numbers.now }
@@ -72,7 +72,7 @@ fn is_there(numbers: &[u32], number: u32, near: &mut u32) -> bool
     }
 }
 
-/// The same, where a place of a list says where to look first.
+/// Whether a number is among ascending ones. The place of a list says where to look first.
 #[inline(always)]
 fn is_there_by(numbers: &[u32], number: u32, near: &mut [u32], place: usize) -> bool
     ensures { IsNonDecreasing numbers.now → result ≡ list_any (nat_eq number) numbers.now }
@@ -128,7 +128,7 @@ pub(crate) fn all_ranked(
         SaysWhoIsRanked t ranked.entry → result ≡ true → All (IsRanked t) rows.now }
 {
     for row in rows {
-        let Some(place) = programmes.index_at_once(row.programme) else {
+        let Some(place) = programmes.get_index_of(row.programme) else {
             return false;
         };
         if !ranked.has(row.candidate, near, place) {

@@ -66,12 +66,12 @@ fn rank_place(
 /// Where a wish has what it names, or why its candidate may not wish for that.
 #[inline(always)]
 fn places_named(
-    known: Known<'_>,
+    known: &Known<'_>,
     all_ranked: bool,
     near: &mut [u32],
     row: &WishRow,
 ) -> Result<NamedPlaces, Reason>
-    ensures { (t : Tables) (before : List WishRow) → IsKnown t known.entry →
+    ensures { (t : Tables) (before : List WishRow) → IsKnown t known.now →
         result_err result ≡ may_not_wish all_ranked t before row.now }
 {
     let Some(programme) = known.programmes.get_index_of(row.programme) else {
@@ -141,7 +141,7 @@ impl<'a> RowTest<WishRow> for MayNotWish<'a> {
     #[inline(always)]
     fn stands(&mut self, row: &WishRow, _number: u64) -> Result<Option<Reason>, OutOfMemory> {
         let near = self.near.as_mut_slice();
-        match places_named(self.known, self.all_ranked, near, row) {
+        match places_named(&self.known, self.all_ranked, near, row) {
             Ok(places) => {
                 self.places.push(places)?;
                 Ok(None)

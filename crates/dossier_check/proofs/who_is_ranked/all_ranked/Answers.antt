@@ -12,7 +12,7 @@ loop-row-preserved c t keys says =
     let i = c.loop-row.row-index in
     let none : WishRow = record { id = 0; candidate = 0; programme = 0; school = None; preference = 0 } in
     let row : WishRow = get_or rows i none in
-    let at = sym c.in-Some.is ∙ c.index_at_once.ensures ∙ ap (position (nat_eq row.programme)) keys
+    let at = sym c.in-Some.is ∙ c.get_index_of.ensures.index ∙ ap (position (nat_eq row.programme)) keys
     ∙ position-map (nat_eq row.programme) (λ p. p.id) t.programmes in
     AllWithin-more (IsRanked t) rows 0 i (c.loop-row.invariant t keys says)
     (read_ranked t rows i none c.loop-row-test.true
