@@ -84,7 +84,7 @@ fn place_in(ids: &RowIds, id: u32) -> u32
     ids.get_index_of(id).unwrap_or(ids.len()) as u32
 }
 
-/// The same for an id that may be missing.
+/// The place of an id that may be missing, as `place_in` has it of one that is there.
 fn place_in_any(ids: &RowIds, id: Option<u32>) -> Option<u32>
     requires { length ids.now.keys < 2 ^ 32 }
     ensures { result ≡ option_map (place_of ids.now.keys) id }

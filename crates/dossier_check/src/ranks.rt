@@ -36,7 +36,7 @@ fn candidates_of(alloc: Global, list: &[Ranked]) -> Result<Vec<u32>, OutOfMemory
     Ok(list.iter().map(|ranked| ranked.candidate).collect(alloc)?)
 }
 
-/// The same, ascending.
+/// The candidates of a group, in ascending order of their ids.
 fn ascending(alloc: Global, list: &[Ranked]) -> Result<Vec<u32>, OutOfMemory>
     ensures { IfOk result (λ ids. ids.items ≡ ascending list.now) }
 {

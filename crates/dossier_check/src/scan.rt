@@ -59,8 +59,8 @@ pub(crate) fn scan<R, C: RowChecks<R>>(
     Ok(())
 }
 
-/// The same, and answers the tests with what they know of all rows. They are moved in, so the
-/// caller holds nothing that a refusal would drop.
+/// Tests rows as `scan` does, and answers the tests with what they know of all rows. They are moved
+/// in, so the caller holds nothing that a refusal would drop.
 pub(crate) fn scanned<R, C: RowChecks<R> + Drop>(
     slot: Slot,
     mut checks: C,

@@ -120,7 +120,8 @@ pub(crate) fn kept_in(tests: OtherTests<'_>) -> Kept
 }
 
 impl Kept {
-    /// The same of wishes that were tested in another order, which their tags tell.
+    /// What is kept of wishes that were tested in another order, put in that of the file. Tags tell
+    /// the order.
     pub(crate) fn by_file(self, alloc: Global, tags: &[Tag]) -> Result<Kept, OutOfMemory>
         ensures { IfOk result (λ kept. kept.firsts ≡ self.firsts) }
     {
