@@ -220,7 +220,8 @@ def check_rates(tally: Tally) -> None:
         (("--rates", "fraction"), ("0,2", "0.50"), "20 50"), (("--rates", "fraction"), ("0,29", "7 %"), "29 7"),
         (("--rates", "fraction"), ("0,205", "0"), "not a whole number of per cent"),
         (("--rates", "fraction"), ("20", "0"), "2000 is not from 0 to 100"),
-        (("--rates", "percent"), ("0,2", "0"), "0,2 is not a whole number"),
+        (("--rates", "percent"), ("0,2", "0"), "0,2 is not a whole number of per cent"),
+        ((), ("7,5 %", "20"), "7,5 % is not a whole number of per cent"), ((), ("20,000 %", "1"), "20 1"),
     ):
         sheet = GROUPS + "".join(f"{number};{rate};5%\n" for number, rate in enumerate(rates, start=1))
         found, complaint = Sheets({"groups.csv": sheet.encode()}, words).prepared("groups.csv")

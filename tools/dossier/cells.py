@@ -11,10 +11,10 @@ from .faults import shown
 from .headers import fold
 from .messages import (BECAME_DATE, CORRECT_DATE, CORRECT_NUMBER, CORRECT_RATE, DATE_READINGS, DIGITS_ALONE,
                        DIGITS_LOST, EMPTY, ENTER_ANEW, EXPORT_VALUES, FAR_YEAR, FILL_IN, FORMAT_NUMBER, FORMAT_TEXT,
-                       FORMAT_TEXT_AGAIN, FORMULA, HIDDEN_LETTER, LEAVE_EMPTY, MEND_FORMULA, MERGED_CELL, NO_DAY,
-                       NOT_DATE, NOT_DAY, NOT_FLAG, NOT_WHOLE, OUT_OF_RANGE, PART_OF_PERCENT, RATE_READINGS, SAY_ORDER,
-                       SHEET_ERROR, SIGN_RATE, THOUSANDS, TWO_WORDS, UNKNOWN_WORD, UNMERGE, WITHOUT_POINTS, WRITE_DATE,
-                       WRITE_DAY, WRITE_FLAG, WRITE_WORD, WRITE_ZERO, ZERO_ID)
+                       FORMAT_TEXT_AGAIN, FORMULA, HIDDEN_LETTER, LEAVE_EMPTY, MEND_FORMULA, MERGED_CELL, NARROW,
+                       NOT_DATE, NOT_DAY, NOT_FLAG, NOT_WHOLE, NO_DAY, OUT_OF_RANGE, PART_OF_PERCENT, RATE_READINGS,
+                       SAY_ORDER, SHEET_ERROR, SIGN_RATE, THOUSANDS, TWO_WORDS, UNKNOWN_WORD, UNMERGE, WIDEN,
+                       WITHOUT_POINTS, WRITE_DATE, WRITE_DAY, WRITE_FLAG, WRITE_WORD, WRITE_ZERO, ZERO_ID)
 from .slots import GREATEST_NUMBER, Column, Content
 from .sources import MERGED
 from .texts import NoReading
@@ -29,6 +29,7 @@ NUMBER_LIKE = re.compile(rf"[+-]?[0-9][0-9.,'’{BLANKS}]*|[+-][0-9.,'’{BLANKS
 DAY_NUMBER = re.compile(r"[+-]?[0-9]{1,3}(?:[.,]0{1,2})?")
 DECIMAL = re.compile(r"[0-9]{1,6}(?:\.[0-9]{1,20})?")
 MOST_DIGITS = 1000
+NARROW_COLUMN = re.compile(r"##+")
 ERROR = re.compile(r"#.*|Err:[0-9]+", re.DOTALL)
 MONTH = "(?:jan|feb|fev|mar|apr|avr|may|mai|jun|juin|jul|juil|aug|aou|sep|oct|nov|dec)[a-z]{0,6}"
 NAMED_DATE = re.compile(rf"[0-9]{{1,2}} {MONTH}\.?(?: [0-9]{{2,4}})?|{MONTH}\.? [0-9]{{2}}")
@@ -155,6 +156,8 @@ def _test_letters(text: str) -> None:
         hidden = next((letter for letter in text if not (letter.isprintable() or letter.isspace())), None)
         if hidden is not None:
             raise Unclear(HIDDEN_LETTER.of(text=shown(text), code=f"U+{ord(hidden):04X}"), ENTER_ANEW.of())
+    if NARROW_COLUMN.fullmatch(text):
+        raise Unclear(NARROW.of(text=shown(text)), WIDEN.of())
     if ERROR.fullmatch(text):
         raise Unclear(SHEET_ERROR.of(text=shown(text)), MEND_FORMULA.of())
     if text.startswith("="):
@@ -194,17 +197,16 @@ def _is_above_one(text: str) -> bool:
 
 def read_rate(text: str, rates: Rates | None) -> int:
     """A rate in whole per cent."""
-    if text.endswith("%"):
-        return read_number(text.removesuffix("%").rstrip(BLANKS))
-    number = text.replace(",", ".")
-    if rates is Rates.FRACTION and DECIMAL.fullmatch(number):
-        hundredfold = Decimal(number) * 100
-        if hundredfold != int(hundredfold):
-            raise Unclear(PART_OF_PERCENT.of(text=shown(text)), CORRECT_RATE.of())
-        return int(hundredfold)
-    if rates is None and DECIMAL.fullmatch(number) and 0 < Decimal(number) <= 1:
+    plain = text.removesuffix("%").rstrip(BLANKS)
+    number = plain.replace(",", ".")
+    if not DECIMAL.fullmatch(number):
+        return read_number(plain)
+    if plain == text and rates is None and 0 < Decimal(number) <= 1:
         raise Unclear(RATE_READINGS.of(text=shown(text)), SIGN_RATE.of())
-    return read_number(text)
+    rate = Decimal(number) * 100 if plain == text and rates is Rates.FRACTION else Decimal(number)
+    if rate != int(rate):
+        raise Unclear(PART_OF_PERCENT.of(text=shown(text)), CORRECT_RATE.of())
+    return int(rate)
 
 
 def _in_range(value: int, column: Column) -> int:

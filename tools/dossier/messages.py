@@ -58,6 +58,14 @@ TWO_SLOTS = Text("it has the columns of {one} and of {other}.", "il a les colonn
 RENAME_COLUMNS = Text("leave in it the columns of one of the two.", "n'y laissez que les colonnes de l'un des deux.")
 SLOT_TWICE = Text("{other} has the columns of {slot} too.", "{other} a aussi les colonnes de {slot}.")
 LEAVE_ONE = Text("leave one of the two in the folder.", "ne laissez que l'un des deux dans le dossier.")
+SLOT_IN_SHEETS = Text("more than one sheet has the columns of {slot}: {sheets}.",
+                      "plusieurs feuilles ont les colonnes de {slot} : {sheets}.")
+HIDDEN_SHEET = Text(" (a hidden sheet)", " (une feuille masquée)")
+TWO_SHEETS = Text("more than one of its sheets has the columns of {slot}: {sheets}.",
+                  "plusieurs de ses feuilles ont les colonnes de {slot} : {sheets}.")
+ONE_SHEET = Text("leave one of them in the workbook, or save each as CSV and give one after another.",
+                 "n'en laissez qu'une dans le classeur, ou enregistrez chacune en CSV et donnez-les l'une après "
+                 "l'autre.")
 SLOTS_MISSING = Text("no export that can be read has the columns of {slots}.",
                      "aucun export lisible n'a les colonnes de {slots}.")
 EXPORT_MISSING = Text("export those sheets too; for one without rows copy its file of examples/blank, as {file}.",
@@ -85,6 +93,10 @@ ENTER_ANEW = Text("enter the cell anew.", "saisissez de nouveau la cellule.")
 SHEET_ERROR = Text("{text} is an error of the spreadsheet.", "{text} est une erreur du tableur.")
 MEND_FORMULA = Text("mend the formula, and export the sheet again.",
                     "corrigez la formule, et exportez de nouveau la feuille.")
+NARROW = Text("{text} stands where a column was too narrow to show its value.",
+              "{text} se trouve là où une colonne était trop étroite pour montrer sa valeur.")
+WIDEN = Text("widen the column, and export the sheet again.",
+             "élargissez la colonne, et exportez de nouveau la feuille.")
 FORMULA = Text("{text} is a formula and no value.", "{text} est une formule, et non une valeur.")
 EXPORT_VALUES = Text("export the sheet again with its values.", "exportez de nouveau la feuille, avec ses valeurs.")
 DIGITS_LOST = Text("{text} has lost digits.", "{text} a perdu des chiffres.")
