@@ -3,6 +3,7 @@
 import shutil
 import zipfile
 from collections import Counter
+from collections.abc import Callable
 from pathlib import Path
 from random import Random
 from xml.sax.saxutils import escape
@@ -222,6 +223,78 @@ def check_merged(tally: Tally) -> None:
     with scratch() as place:
         write_merged_xlsx(place / "x.xlsx", 'A1:XFD1048576"/><mergeCell ref="A1:E3')
         tally.equal("merged cells that overlap", what_ends(place / "x.xlsx"), "")
+
+
+def with_parts(write: Callable[[Path, str], None], path: Path, changes: dict[str, tuple[str, str]]) -> None:
+    """A workbook by hand, in some parts of which the first text is replaced by the second."""
+    write(path, "")
+    with zipfile.ZipFile(path) as archive:
+        parts = {part: archive.read(part).decode() for part in archive.namelist()}
+    write_parts(path, {part: text.replace(*changes.get(part, ("", ""))).encode() if part in changes else text.encode()
+                       for part, text in parts.items()})
+
+
+def in_ods(old: str, new: str) -> dict[str, tuple[str, str]]:
+    return {"content.xml": (old, new)}
+
+
+def in_xlsx(old: str, new: str) -> dict[str, tuple[str, str]]:
+    return {"xl/worksheets/sheet1.xml": (old, new)}
+
+
+SEVEN, SEVEN_ODS = "<c><v>7</v></c>", cell_of("#7")
+OTHERS_SHEET = ('</table:table><table:table table:name="\'file:///a.ods\'#$A"><table:table-source/><table:table-row>'
+                + "".join(map(cell_of, TITLES)) + "</table:table-row></table:table></office:document>")
+HIDDEN_ODS = ('<style:style style:name="h" style:family="table"><style:table-properties table:display="false"/>'
+              '</style:style><table:table table:style-name="h" table:name="Formations">')
+# What is changed in a workbook by hand, and what is then made of its second row, or told.
+KINDS = (
+    (write_xlsx, "x.xlsx", in_xlsx("<c><v>1</v></c>", "<c/>"), "groupe: the cell is empty"),
+    (write_xlsx, "x.xlsx", in_xlsx("</c></row></sheetData>", "</c><extLst/></row></sheetData>"), "7,1,2,0"),
+    (write_xlsx, "x.xlsx", in_xlsx(SEVEN, '<c t="str"><v>7_x000D_\n</v></c>'), "7,1,2,0"),
+    (write_xlsx, "x.xlsx", in_xlsx(SEVEN, '<c t="inlineStr"><is><t>A_x005F_x000D_</t></is></c>'), "A_x000D_"),
+    (write_xlsx, "x.xlsx", in_xlsx("<c><v>2</v></c>", '<c t="str"><v>###</v></c>'), "too narrow"),
+    (write_xlsx, "x.xlsx", {"xl/workbook.xml": ("<sheet ", '<sheet state="veryHidden" ')}, "Formations (a hidden sheet)"),
+    (write_ods, "x.ods", in_ods(SEVEN_ODS, '<table:table-cell office:value-type="string"><text:p>A<text:s/><text:span>'
+                                           "B<text:tab/></text:span>C</text:p></table:table-cell>"), "A B C"),
+    (write_ods, "x.ods", in_ods(SEVEN_ODS, '<table:table-cell office:value-type="string" office:string-value="7"/>'),
+     "7,1,2,0"),
+    (write_ods, "x.ods", in_ods("</table:table></office:document>", OTHERS_SHEET), "7,1,2,0"),
+    (write_ods, "x.ods", in_ods('<table:table table:name="Formations">', HIDDEN_ODS), "Formations (a hidden sheet)"),
+)
+
+
+def check_kinds(tally: Tally) -> None:
+    """Cells without a name stand where they stand in their row, letters that are written otherwise are those letters,
+    what a workbook keeps of another is no sheet of it, and a hidden sheet is told as such."""
+    tally.begin("prepare, workbooks by hand: cells, letters and sheets of other kinds")
+    for write, name, changes, expected in KINDS:
+        with scratch() as place:
+            shutil.copytree(EXAMPLES / "blank", place / "sheets")
+            (place / "sheets/programmes.csv").unlink()
+            (place / "sheets/groups.csv").write_text("group,scholar_pct,resident_pct\n1,2,3\n")
+            with_parts(write, place / "sheets" / name, changes)
+            ended = run(TOOLS / "prepare", place / "sheets", place / "slots", "--lang", "en")
+            made = b"".join(contents(place / "slots").values()).decode() if ended.status == 0 else ended.complaint
+            tally.check(f"{name}: {changes}", expected in made + ended.output.decode(), (ended, made))
+
+
+def check_two_sheets(tally: Tally) -> None:
+    """Where two sheets of a workbook may be the answers of a day, none of them is taken."""
+    tally.begin("take_in, workbooks by hand: two sheets of answers")
+    titles, cells = "".join(map(cell_of, ("vœu", "réponse"))), "".join(map(cell_of, ("V03", "accepter")))
+    rows = f"<table:table-row>{titles}</table:table-row><table:table-row>{cells}</table:table-row></table:table>"
+    for sheets, status in ((1, 0), (2, 1)):
+        with scratch() as place:
+            shutil.copytree(LYCEE, place / "dossier")
+            tables = "".join(f'<table:table table:name="Jour {sheet + 1}">{rows}' for sheet in range(sheets))
+            content = f"<office:document {SPACES}>{tables}</office:document>"
+            write_parts(place / "x.ods", {"content.xml": content.encode()})
+            before = contents(place / "dossier")
+            ended = run(TOOLS / "take_in", place / "dossier", place / "x.ods", "--lang", "en")
+            told = "x.ods, Jour 1 and x.ods, Jour 2" in ended.complaint
+            tally.check(f"{sheets}: told", (ended.status, told) == (status, sheets == 2), ended)
+            tally.equal(f"{sheets}: nothing is written", contents(place / "dossier") == before, sheets == 2)
 
 
 def check_protected(tally: Tally) -> None:

@@ -7,13 +7,13 @@ from pathlib import Path
 from .decoding import Unreadable
 from .faults import Faults, shown
 from .headers import Header, best_headers, differing
-from .messages import (EXPORT_MISSING, LEAVE_ONE, OLD_WORKBOOK, RENAME_COLUMNS, SAVE_AGAIN, SAVE_WORKBOOK, SLOT_TWICE,
-                       SLOTS_MISSING, TWO_READINGS, TWO_SLOTS)
+from .messages import (EXPORT_MISSING, HIDDEN_SHEET, LEAVE_ONE, OLD_WORKBOOK, ONE_SHEET, RENAME_COLUMNS, SAVE_AGAIN,
+                       SAVE_WORKBOOK, SLOT_IN_SHEETS, SLOT_TWICE, SLOTS_MISSING, TWO_READINGS, TWO_SHEETS, TWO_SLOTS)
 from .naming import IDS
 from .slots import SLOTS, Slot, Thing
-from .sources import SEPARATORS, AnySheet, TextSheet, first_row, likeliest, readings_of
+from .sources import SEPARATORS, AnySheet, TextSheet, WorkbookSheet, first_row, likeliest, readings_of
 from .tables import PROGRESS, Choices, Reading, Table
-from .texts import Language, said
+from .texts import Filled, Language, joined, said
 from .values import Spellings, things
 from .workbooks import WORKBOOK_ENDINGS, sheets_of_workbook
 
@@ -32,6 +32,23 @@ class Ways:
     def said(self, language: Language) -> str:
         return (" et " if language == "fr" else " and ").join(
             f"{reading.coding.name}, {said(SEPARATORS[reading.separator], language)}" for reading in self.readings)
+
+
+@dataclass(frozen=True)
+class Sheets:
+    """Sheets of a workbook by their names, of which those that are hidden are told as such."""
+
+    sheets: tuple[AnySheet, ...]
+
+    def said(self, language: Language) -> str:
+        return joined([f"{shown(sheet.label)}{said(HIDDEN_SHEET, language) if is_hidden(sheet) else ''}"
+                       for sheet in self.sheets], language)
+
+    def told_twice(self, slot: Slot) -> Filled:
+        """That the last one has the columns of a slot that another has."""
+        if any(map(is_hidden, self.sheets)):
+            return SLOT_IN_SHEETS.of(slot=slot.name, sheets=self)
+        return SLOT_TWICE.of(other=self.sheets[0].label, slot=slot.name)
 
 
 @dataclass(frozen=True)
@@ -110,7 +127,8 @@ def read_folder(folder: Path, choices: Choices, faults: Faults) -> Exports:
             if isinstance(named, list):
                 others.append((label, named))
             elif (slot := named.header.slot).name in found:
-                faults.in_file(label, SLOT_TWICE.of(other=found[slot.name].sheet.label, slot=slot.name), LEAVE_ONE.of())
+                both = Sheets((found[slot.name].sheet, named.sheet))
+                faults.in_file(label, both.told_twice(slot), LEAVE_ONE.of())
             else:
                 found[slot.name] = named
         except Unreadable as error:
@@ -118,6 +136,10 @@ def read_folder(folder: Path, choices: Choices, faults: Faults) -> Exports:
     read_tables(found, exports, choices, faults)
     tell_missing(folder, exports, others, found, choices, faults)
     return exports
+
+
+def is_hidden(sheet: AnySheet) -> bool:
+    return isinstance(sheet, WorkbookSheet) and sheet.is_hidden
 
 
 def read_tables(found: dict[str, Named], exports: Exports, choices: Choices, faults: Faults) -> None:
@@ -153,11 +175,16 @@ def one_table(path: Path, slot: Slot, choices: Choices, faults: Faults, spelling
     readings: list[list[AnySheet]] = [[sheet] for sheet in sheets_of_workbook(path)] \
         if path.suffix.lower() in WORKBOOK_ENDINGS else [[*readings_of(path)]]
     titles: list[str] = []
+    found: list[Named] = []
     for sheets in readings:
         named = named_sheet(sheets, (slot,), choices)
-        if not isinstance(named, list):
-            return Reading(named.sheet, named.header, named.number, choices, faults, spellings).run()
-        titles = titles or named
-    raise differing((slot,), titles, choices.columns)
-
-
+        if isinstance(named, list):
+            titles = titles or named
+        else:
+            found.append(named)
+    if not found:
+        raise differing((slot,), titles, choices.columns)
+    if len(found) > 1:
+        raise Unreadable(TWO_SHEETS.of(sheets=Sheets(tuple(each.sheet for each in found)), slot=slot.name),
+                         ONE_SHEET.of())
+    return Reading(found[0].sheet, found[0].header, found[0].number, choices, faults, spellings).run()

@@ -13,7 +13,7 @@ from .cells import DateOrder, Rates
 from .faults import Faults, shown
 from .folders import Exports, read_folder
 from .headers import fold
-from .messages import NUMBERS_OF_CAMPAIGN, PLURALS
+from .messages import HIDDEN_SHEET, NUMBERS_OF_CAMPAIGN, PLURALS
 from .naming import IDS, Names, names_of, read_names, table_of
 from .numbering import Numbers, number_ids, translated
 from .relations import Relations
@@ -131,7 +131,7 @@ def summary(exports: Exports, numbers: Numbers, folder: Path, language: Language
         table = exports.tables[slot.name]
         sheet = table.sheet
         how = f" ({sheet.coding.name}, {said(SEPARATORS[sheet.separator], language)})" \
-            if isinstance(sheet, TextSheet) else ""
+            if isinstance(sheet, TextSheet) else said(HIDDEN_SHEET, language) if sheet.is_hidden else ""
         lines.append(READ.of(slot=slot.file, rows=Counted(len(table), ROW, ROWS), how=how,
                              of_file=OfName(shown(sheet.label))))
         left_out += columns_left_out(table)

@@ -66,6 +66,7 @@ class WorkbookSheet:
 
     label: str
     rows: list[list[str]]
+    is_hidden: bool = False
 
     def chunks(self) -> Iterator[list[list[str]]]:
         """All rows at once."""

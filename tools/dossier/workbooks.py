@@ -27,10 +27,14 @@ OF_OLE = b"\xd0\xcf\x11\xe0"
 OFFICE = "{urn:oasis:names:tc:opendocument:xmlns:office:1.0}"
 TABLE = "{urn:oasis:names:tc:opendocument:xmlns:table:1.0}"
 TEXT = "{urn:oasis:names:tc:opendocument:xmlns:text:1.0}"
+STYLE = "{urn:oasis:names:tc:opendocument:xmlns:style:1.0}"
+BLANKS_OF_ODS = (f"{TEXT}s", f"{TEXT}tab", f"{TEXT}line-break")
 MAIN = "{http://schemas.openxmlformats.org/spreadsheetml/2006/main}"
 STRICT = "{http://purl.oclc.org/ooxml/spreadsheetml/main}"
 LINK = re.compile(r"\{[^}]*\}id")
 AREA = re.compile(r"([A-Z]{1,3})([1-9][0-9]{0,7}):([A-Z]{1,3})([1-9][0-9]{0,7})")
+# How a text of an `.xlsx` has a letter that XML cannot have.
+ESCAPED = re.compile(r"_x([0-9A-Fa-f]{4})_")
 # What reading a workbook that is damaged ends with.
 BROKEN = (zipfile.BadZipFile, zlib.error, ElementTree.ParseError, LookupError, ValueError, RuntimeError, EOFError)
 
@@ -59,7 +63,7 @@ def sheets_of_workbook(path: Path) -> list[WorkbookSheet]:
         if error.errno != errno.EINVAL:  # so it is where a part is said to stand before the file
             raise
         raise Unreadable(BROKEN_WORKBOOK.of(why=error), SAVE_WORKBOOK.of()) from None
-    return [WorkbookSheet(f"{path.name}, {name}", rows) for name, rows in found]
+    return [WorkbookSheet(f"{path.name}, {name}", rows, is_hidden) for name, rows, is_hidden in found]
 
 
 def numeral(text: str) -> str:
@@ -87,6 +91,14 @@ def whole_rows(rows: list[list[str]]) -> list[list[str]]:
         rows.pop()
     width = max(map(len, rows), default=0)
     return [row if len(row) == width else row + [""] * (width - len(row)) for row in rows]
+
+
+class Found(NamedTuple):
+    """A sheet of a workbook: its name, its rows, and whether it is hidden."""
+
+    name: str
+    rows: list[list[str]]
+    is_hidden: bool
 
 
 class Area(NamedTuple):
@@ -118,15 +130,23 @@ def without_merged(rows: list[list[str]], areas: list[Area]) -> list[list[str]]:
     return parted
 
 
-def sheets_of_ods(archive: zipfile.ZipFile) -> Iterator[tuple[str, list[list[str]]]]:
+def sheets_of_ods(archive: zipfile.ZipFile) -> Iterator[Found]:
+    """The sheets, without what the workbook keeps of the sheets of others that its formulas name."""
     with archive.open("content.xml") as file:
-        name = ""
+        name = style = ""
         rows: list[list[str]] = []
         areas: list[Area] = []
+        hiding: set[str] = set()
+        is_of_others = False
         for event, element in ElementTree.iterparse(file, events=("start", "end")):
             if event == "start":
                 if element.tag == f"{TABLE}table":
-                    name, rows, areas = element.get(f"{TABLE}name", ""), [], []
+                    name, style = element.get(f"{TABLE}name", ""), element.get(f"{TABLE}style-name", "")
+                    rows, areas, is_of_others = [], [], False
+            elif element.tag == f"{STYLE}style":
+                hiding |= hiding_style(element)
+            elif element.tag == f"{TABLE}table-source":
+                is_of_others = True
             elif element.tag == f"{TABLE}table-row":
                 areas += areas_of_ods(element, len(rows))
                 cells = cells_of_ods(element)
@@ -135,8 +155,15 @@ def sheets_of_ods(archive: zipfile.ZipFile) -> Iterator[tuple[str, list[list[str
                     rows += [cells] * min(repeated, MOST_ROWS)
                 element.clear()
             elif element.tag == f"{TABLE}table":
-                yield name, without_merged(whole_rows(rows), areas)
+                if not is_of_others:
+                    yield Found(name, without_merged(whole_rows(rows), areas), style in hiding)
                 element.clear()
+
+
+def hiding_style(style: ElementTree.Element) -> set[str]:
+    """The name of a style by which a sheet is not shown; of another none."""
+    is_hiding = any(part.get(f"{TABLE}display") == "false" for part in style)
+    return {style.get(f"{STYLE}name", "")} if is_hiding else set()
 
 
 def areas_of_ods(row: ElementTree.Element, number: int) -> Iterator[Area]:
@@ -176,7 +203,18 @@ def text_of_ods(cell: ElementTree.Element) -> str:
             return cell.get(f"{OFFICE}boolean-value", "").upper()
     if kind is None and (formula := cell.get(f"{TABLE}formula")):
         return as_formula(formula.partition(":")[2])
-    return " ".join("".join(part.itertext()) for part in cell if part.tag == f"{TEXT}p").strip()
+    text = " ".join("".join(texts_of_ods(part)) for part in cell if part.tag == f"{TEXT}p").strip()
+    return text or cell.get(f"{OFFICE}string-value", "").strip()
+
+
+def texts_of_ods(part: ElementTree.Element) -> Iterator[str]:
+    """The texts of a paragraph, in which blanks may be parts of their own."""
+    if part.tag in BLANKS_OF_ODS:
+        yield " "
+    yield part.text or ""
+    for inner in part:
+        yield from texts_of_ods(inner)
+        yield inner.tail or ""
 
 
 def as_formula(text: str) -> str:
@@ -184,7 +222,7 @@ def as_formula(text: str) -> str:
     return f"={text.removeprefix('=')}"
 
 
-def sheets_of_xlsx(archive: zipfile.ZipFile) -> Iterator[tuple[str, list[list[str]]]]:
+def sheets_of_xlsx(archive: zipfile.ZipFile) -> Iterator[Found]:
     workbook = plain(archive.read("xl/workbook.xml"))
     links = {link.get("Id"): link.get("Target", "") for link in
              ElementTree.fromstring(archive.read("xl/_rels/workbook.xml.rels"))}
@@ -198,7 +236,7 @@ def sheets_of_xlsx(archive: zipfile.ZipFile) -> Iterator[tuple[str, list[list[st
         if "worksheets/" in place:
             areas: list[Area] = []
             rows = whole_rows(list(rows_of_xlsx(archive, place, shared, kinds, is_from_1904, areas)))
-            yield sheet.get("name", ""), without_merged(rows, areas)
+            yield Found(sheet.get("name", ""), without_merged(rows, areas), sheet.get("state") in HIDDEN_STATES)
 
 
 def plain(data: bytes) -> ElementTree.Element:
@@ -215,9 +253,15 @@ def shared_texts(archive: zipfile.ZipFile) -> list[str]:
 def text_of_item(item: ElementTree.Element) -> str:
     """The text of an item with its parts, but without what only says how it is read aloud."""
     spoken = {id(text) for part in item.iter(f"{MAIN}rPh") for text in part.iter(f"{MAIN}t")}
-    return "".join(text.text or "" for text in item.iter(f"{MAIN}t") if id(text) not in spoken)
+    return unescaped("".join(text.text or "" for text in item.iter(f"{MAIN}t") if id(text) not in spoken))
 
 
+def unescaped(text: str) -> str:
+    """A text with the letters that stand in it by their numbers, as `_x000D_` for the end of a line."""
+    return ESCAPED.sub(lambda number: chr(int(number[1], 16)), text) if "_x" in text else text
+
+
+HIDDEN_STATES = ("hidden", "veryHidden")
 DATE_FORMATS = {*range(14, 18), 22, *range(27, 37), *range(50, 59)}
 PERCENT_FORMATS = {9, 10}
 
@@ -266,8 +310,11 @@ def rows_of_xlsx(archive: zipfile.ZipFile, place: str, shared: list[str], kinds:
 
 def cells_of_xlsx(row: ElementTree.Element, shared: list[str], kinds: list[str], is_from_1904: bool) -> list[str]:
     cells: list[str] = []
+    place = -1
     for cell in row:
-        place = column_of(cell.get("r", "")) if cell.get("r") else len(cells)
+        if not cell.tag.endswith("}c"):
+            continue
+        place = column_of(cell.get("r", "")) if cell.get("r") else place + 1
         text = text_of_xlsx(cell, shared, kinds, is_from_1904)
         if text and place < MOST_COLUMNS:
             cells += [""] * (place - len(cells)) + [text]
@@ -291,9 +338,9 @@ def text_of_xlsx(cell: ElementTree.Element, shared: list[str], kinds: list[str],
         case "s":
             return shared[int(value)].strip() if value else ""
         case "inlineStr":
-            return "".join(text.text or "" for text in cell.iter() if text.tag.endswith("}t")).strip()
+            return unescaped("".join(text.text or "" for text in cell.iter() if text.tag.endswith("}t"))).strip()
         case "str" | "e":
-            return value.strip()
+            return unescaped(value).strip()
         case "b":
             return "TRUE" if value == "1" else "FALSE" if value else ""
         case "d":
