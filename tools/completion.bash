@@ -30,7 +30,7 @@ _parcours_tool() {
     case ${COMP_WORDS[0]##*-}$word in
         prepare-*) mapfile -t COMPREPLY < <(compgen -W "--dates --rates --column --leave-out --ids --lang --help" -- "$word") ;;
         next_day-*) mapfile -t COMPREPLY < <(compgen -W "--start --term --lang --help" -- "$word") ;;
-        take_in-*) mapfile -t COMPREPLY < <(compgen -W "--replace --start --term --dates --column --lang --help" -- "$word") ;;
+        take_in-*) mapfile -t COMPREPLY < <(compgen -W "--replace --start --term --dates --column --leave-out --lang --help" -- "$word") ;;
         why-*) mapfile -t COMPREPLY < <(compgen -W "--candidate --help" -- "$word") ;;
         tables-*) mapfile -t COMPREPLY < <(compgen -W "--names --dialect --lang --help" -- "$word") ;;
         in_words*) mapfile -t COMPREPLY < <(compgen -W "en fr --help" -- "$word") ;;

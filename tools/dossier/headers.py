@@ -17,7 +17,7 @@ from .texts import Filled, Language, said
 
 # Words of a title that tell nothing of which column it is.
 FILLERS = frozenset(("n", "no", "num", "numero", "number", "code", "id", "identifiant", "nb", "nbre", "nombre", "of",
-                     "the", "de", "du", "des", "d", "la", "le", "les", "l", "a", "au", "total"))
+                     "the", "de", "du", "des", "d", "la", "le", "les", "l", "a", "au", "total", "votre", "vos", "your"))
 # What a folded title says of how its cells are written, as `boursier o/n`, `taux boursiers en %`, `secteur ?`.
 NOTES = {Content.FLAG: re.compile(r" (?:o/n|oui/non|y/n|yes/no|0/1|1/0|vrai/faux|true/false)$|[ :]*\?$"),
          Content.PERCENTAGE: re.compile(r" (?:en |in )?%$")}
@@ -150,7 +150,9 @@ def differing(slots: Sequence[Slot], titles: Sequence[str], chosen: Mapping[str,
         return Unreadable(NO_SLOT.of(names=shown(" | ".join(titles))), BEGIN_WITH_NAMES.of())
     found = [difference for column in slot.columns if (difference := difference_of(column, slot, titles, chosen))]
     parts = Parts(tuple(part for part, _ in found))
-    return Unreadable(NEAREST.of(slot=slot.name, parts=parts), found[0][1] if found else NAME_COLUMNS.of())
+    # What an optional column may be called is a question only where no other column is missing.
+    to_do = [advice for part, advice in found if part.text is not MAY_BE] + [advice for _, advice in found]
+    return Unreadable(NEAREST.of(slot=slot.name, parts=parts), to_do[0] if to_do else NAME_COLUMNS.of())
 
 
 def is_for_take_in(titles: Sequence[str], chosen: Mapping[str, str]) -> bool:

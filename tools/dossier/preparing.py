@@ -49,6 +49,11 @@ def chosen_column(text: str) -> tuple[str, str]:
     return fold(title), column
 
 
+def chosen_titles(left_out: list[str], columns: list[tuple[str, str]]) -> dict[str, str]:
+    """The titles that the words name, each with its column, or none where it is left out."""
+    return {fold(title): "" for title in left_out} | dict(columns)
+
+
 def words() -> Words:
     parser = Words(
         "prepare",
@@ -198,9 +203,8 @@ def main(arguments: list[str]) -> int:
         stop_cleanly()
         # Millions of rows come and go, and none of them is part of a ring.
         gc.disable()
-        columns = {fold(title): "" for title in given.leave_out} | dict(given.column)
-        return prepare(given.exports, given.folder, Choices(given.dates, given.rates, columns),
-                       earlier_names(given.ids, given.exports), given.lang)
+        choices = Choices(given.dates, given.rates, chosen_titles(given.leave_out, given.column))
+        return prepare(given.exports, given.folder, choices, earlier_names(given.ids, given.exports), given.lang)
     except Stopped as stop:
         print(f"prepare: {stop.said(given.lang or language_here())}", file=sys.stderr)
         return stop.status

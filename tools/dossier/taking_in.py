@@ -14,7 +14,7 @@ from .faults import Faults, Row, shown
 from .folders import one_table
 from .going_on import start_date, term_of_days
 from .naming import names_in
-from .preparing import chosen_column, columns_left_out
+from .preparing import chosen_column, chosen_titles, columns_left_out
 from .records import wishes_in
 from .slots import ANSWER_SHEET, ANSWERS
 from .stops import AS_THEY_WERE, NO_DOSSIER, TAKING_STOPPED, Stopped
@@ -51,6 +51,8 @@ def words() -> Words:
                         help="how dates such as 02/06/2025 are to be read")
     parser.add_argument("--column", action="append", default=[], type=chosen_column, metavar="TITLE=COLUMN",
                         help="which column a title names; may be given again")
+    parser.add_argument("--leave-out", action="append", default=[], metavar="TITLE",
+                        help="a title that names no column of answers; may be given again")
     parser.add_argument("--lang", choices=("en", "fr"), help="the language of faults; else that of the titles")
     return parser
 
@@ -112,7 +114,7 @@ def main(arguments: list[str]) -> int:
             test_files(given.folder)
             test_file(given.sheet)
             calendar = coming_day(given.folder, Calendar(1, given.start, given.term))
-            choices = Choices(given.dates, None, dict(given.column))
+            choices = Choices(given.dates, None, chosen_titles(given.leave_out, given.column))
             return take_in(given.folder, given.sheet, choices, calendar, given.replace, given.lang)
     except Stopped as stop:
         print(f"take_in: {stop.said(here)}", file=sys.stderr)
