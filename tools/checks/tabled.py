@@ -85,6 +85,11 @@ def check_names(tally: Tally) -> None:
         rows = table_in(place / "out", "wishes.csv", "plain")
         names = {row["Candidate"]: row["Name of the candidate"] for row in rows}
         tally.check("the name is that of the id", names["E03"] == "Ada" and set(names.values()) == {"", "Ada"}, ended)
+        titles = "N° candidat;Nom de naissance;Prénom(s);Nom du responsable 1;Nom établissement d'origine"
+        (place / "names.csv").write_text(f"{titles}\nE03;Durand;Zoé;Martin;Lycée Nord\n")
+        ended = tables(folder, place / "own", "--dialect", "plain", "--names", place / "names.csv")
+        rows = table_in(place / "own", "wishes.csv", "plain")
+        tally.equal("no name of others", {row["Name of the candidate"] for row in rows}, {"", "Durand Zoé"})
         (place / "names.csv").write_text("candidate,name,surname\nE03,Zoé,Durand\nE01,Ada,\nE03,DURAND,zoe\n")
         ended = tables(folder, place / "twice", "--names", place / "names.csv")
         tally.equal("one name, spelled in two ways", ended.status, 0)

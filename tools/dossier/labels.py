@@ -6,7 +6,7 @@ from pathlib import Path
 from .cells import Unclear, read_id
 from .decoding import Unreadable
 from .faults import shown
-from .headers import candidates_for, fold
+from .headers import FILLERS, candidates_for, core, fold
 from .messages import CORRECT_EITHER, IN_FILE, NAME_COLUMNS, NO_NAMES, TWO_NAMES
 from .naming import Names
 from .slots import WISHES, Thing
@@ -16,6 +16,11 @@ from .workbooks import WORKBOOK_ENDINGS, sheets_of_workbook
 NAMED = (Thing.CANDIDATE, Thing.PROGRAMME, Thing.SCHOOL)
 OF_A_NAME = frozenset(("nom", "prenom", "name", "surname", "firstname", "lastname", "libelle", "intitule",
                        "denomination"))
+# What else a title of a candidate's own name may have. Any other word may make it the name of somebody or something
+# else, as that of a parent or of the school that they come from.
+OF_THEIR_OWN = OF_A_NAME | FILLERS | frozenset((
+    "candidat", "candidate", "eleve", "applicant", "student", "e", "naissance", "usage", "usuel", "famille", "marital",
+    "complet", "s", "birth", "first", "last", "middle", "given", "family", "full", "et", "and", "1", "2"))
 
 Labels = dict[Thing, dict[int, str]]
 
@@ -36,6 +41,12 @@ def id_place(titles: Sequence[str]) -> tuple[Thing, int] | None:
     return None
 
 
+def label_places(titles: Sequence[str], thing: Thing) -> list[int]:
+    """The places of the columns that have names of such things: of candidates only those that are their own."""
+    return [place for place in name_places(titles)
+            if thing is not Thing.CANDIDATE or OF_THEIR_OWN.issuperset(core(fold(titles[place])).split())]
+
+
 def sheets_of(path: Path) -> list[AnySheet]:
     """The sheets of a file, each in its likeliest reading with names. What cannot be read is told with the file."""
     try:
@@ -47,7 +58,8 @@ def sheets_of(path: Path) -> list[AnySheet]:
 
 
 def has_names(titles: Sequence[str]) -> bool:
-    return id_place(titles) is not None and bool(name_places(titles))
+    place = id_place(titles)
+    return place is not None and bool(label_places(titles, place[0]))
 
 
 def read_labels(path: Path, names: Names, labels: Labels) -> None:
@@ -56,12 +68,11 @@ def read_labels(path: Path, names: Names, labels: Labels) -> None:
     is_named = False
     for sheet in sheets_of(path):
         number, titles = first_row(sheet)
-        place = id_place(titles)
-        parts = name_places(titles)
-        if place is None or not parts:
+        if not has_names(titles) or (place := id_place(titles)) is None:
             continue
         is_named = True
         thing, of_id = place
+        parts = label_places(titles, thing)
         known = labels.setdefault(thing, {})
         for count, cells in enumerate(records_of(sheet), start=1):
             if count > number and len(cells) > of_id and (wanted := number_of(cells[of_id], thing, names)) is not None:
