@@ -14,6 +14,7 @@ import shutil
 import sys
 import time
 from collections import Counter
+from collections.abc import Callable
 from datetime import date
 from pathlib import Path
 from random import Random
@@ -247,6 +248,7 @@ def check_said(tally: Tally, program: str) -> None:
         (folder / "broken/groups.csv").write_text("group\n")
         report.write_bytes(run_text(program, ("order",), folder / "broken")[1])
         says("a refusal", 0, "as the rules say: 0 days, 1 line\n", folder / "broken", report)
+        check_unread(says, program, report, folder / "broken")
         right = (days / "replay.txt").read_bytes()
         for name, text, sentence in (("line ends of another system", right.replace(b"\n", b"\r\n"), "104\\x0d\n"),
                                      ("a blank at an end", right.replace(b"offer 7\n", b"offer 7 \n"), "7\\x20\n"),
@@ -268,6 +270,17 @@ def check_said(tally: Tally, program: str) -> None:
                       ("check",), ("sample", "--number", "9"), ()):
             report.write_bytes(run_text(program, words, days)[1])
             says(f"a right text of {' '.join(words)} is not called wrong", 3, "this is no text of", days, report)
+
+
+def check_unread(says: Callable[..., None], program: str, report: Path, slots: Path) -> None:
+    """A refusal of one mode is right where another mode would first come to a slot that cannot be read."""
+    shutil.copy(EXAMPLES / "two-days/groups.csv", slots)
+    (slots / "schools.csv").write_text("school\n")
+    (slots / "rankings.csv").unlink()
+    report.write_bytes(run_text(program, ("replay",), slots)[1])
+    says("a refusal before a slot that cannot be read", 0, "as the rules say: 0 days, 1 line\n", slots, report)
+    report.write_bytes(b"refused schools row 2 reason 1 Header\n")
+    says("another refusal there", 3, "rankings.csv: No such file", slots, report)
 
 
 def main() -> int:
