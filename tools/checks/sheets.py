@@ -222,6 +222,7 @@ def check_rates(tally: Tally) -> None:
         (("--rates", "fraction"), ("20", "0"), "2000 is not from 0 to 100"),
         (("--rates", "percent"), ("0,2", "0"), "0,2 is not a whole number of per cent"),
         ((), ("7,5 %", "20"), "7,5 % is not a whole number of per cent"), ((), ("20,000 %", "1"), "20 1"),
+        ((), ("-5 %", "20"), "-5 % is not a whole number from 0 on"), ((), ("%", "20"), "% is not a whole"),
     ):
         sheet = GROUPS + "".join(f"{number};{rate};5%\n" for number, rate in enumerate(rates, start=1))
         found, complaint = Sheets({"groups.csv": sheet.encode()}, words).prepared("groups.csv")

@@ -200,7 +200,7 @@ def read_rate(text: str, rates: Rates | None) -> int:
     plain = text.removesuffix("%").rstrip(BLANKS)
     number = plain.replace(",", ".")
     if not DECIMAL.fullmatch(number):
-        return read_number(plain)
+        return read_number(plain if plain[:1].isdigit() else text)
     if plain == text and rates is None and 0 < Decimal(number) <= 1:
         raise Unclear(RATE_READINGS.of(text=shown(text)), SIGN_RATE.of())
     rate = Decimal(number) * 100 if plain == text and rates is Rates.FRACTION else Decimal(number)
