@@ -90,6 +90,8 @@ def check_names(tally: Tally) -> None:
         ended = tables(folder, place / "own", "--dialect", "plain", "--names", place / "names.csv")
         rows = table_in(place / "own", "wishes.csv", "plain")
         tally.equal("no name of others", {row["Name of the candidate"] for row in rows}, {"", "Durand Zoé"})
+        told = "names.csv: names are in Nom de naissance, Prénom(s)\n"
+        tally.check("where names are is said", ended.output.decode().startswith(told), ended)
         (place / "names.csv").write_text("candidate,name,surname\nE03,Zoé,Durand\nE01,Ada,\nE03,DURAND,zoe\n")
         ended = tables(folder, place / "twice", "--names", place / "names.csv")
         tally.equal("one name, spelled in two ways", ended.status, 0)

@@ -11,16 +11,18 @@ from .messages import CORRECT_EITHER, IN_FILE, NAME_COLUMNS, NO_NAMES, TWO_NAMES
 from .naming import Names
 from .slots import WISHES, Thing
 from .sources import AnySheet, first_row, likeliest, readings_of, records_of
+from .texts import Filled, Text
 from .workbooks import WORKBOOK_ENDINGS, sheets_of_workbook
 
 NAMED = (Thing.CANDIDATE, Thing.PROGRAMME, Thing.SCHOOL)
-OF_A_NAME = frozenset(("nom", "prenom", "name", "surname", "firstname", "lastname", "libelle", "intitule",
-                       "denomination"))
+OF_A_NAME = frozenset(("nom", "noms", "prenom", "prenoms", "name", "names", "surname", "forename", "firstname",
+                       "lastname", "libelle", "intitule", "denomination"))
 # What else a title of a candidate's own name may have. Any other word may make it the name of somebody or something
 # else, as that of a parent or of the school that they come from.
 OF_THEIR_OWN = OF_A_NAME | FILLERS | frozenset((
     "candidat", "candidate", "eleve", "applicant", "student", "e", "naissance", "usage", "usuel", "famille", "marital",
-    "complet", "s", "birth", "first", "last", "middle", "given", "family", "full", "et", "and", "1", "2"))
+    "complet", "patronymique", "s", "birth", "first", "last", "middle", "given", "family", "full", "et", "and", "ou", "or", "1", "2"))
+NAMES_OF = Text("{file}: names are in {names}", "{file} : les noms sont dans {names}")
 
 Labels = dict[Thing, dict[int, str]]
 
@@ -62,25 +64,26 @@ def has_names(titles: Sequence[str]) -> bool:
     return place is not None and bool(label_places(titles, place[0]))
 
 
-def read_labels(path: Path, names: Names, labels: Labels) -> None:
-    """Adds the names in a file by number; raises Unreadable where no sheet of it has ids and names, or where an id has
-    two names."""
-    is_named = False
+def read_labels(path: Path, names: Names, labels: Labels) -> list[Filled]:
+    """Adds the names in a file by number; what is said of each sheet with ids and names. Raises Unreadable where there
+    is none, or where an id has two names."""
+    told: list[Filled] = []
     for sheet in sheets_of(path):
         number, titles = first_row(sheet)
         if not has_names(titles) or (place := id_place(titles)) is None:
             continue
-        is_named = True
         thing, of_id = place
         parts = label_places(titles, thing)
+        told.append(NAMES_OF.of(file=shown(sheet.label), names=shown(", ".join(titles[part].strip() for part in parts))))
         known = labels.setdefault(thing, {})
         for count, cells in enumerate(records_of(sheet), start=1):
             if count > number and len(cells) > of_id and (wanted := number_of(cells[of_id], thing, names)) is not None:
                 label = " ".join(cells[part].strip() for part in parts if part < len(cells) and cells[part].strip())
                 if label:
                     add_label(known, wanted, label, path, cells[of_id])
-    if not is_named:
+    if not told:
         raise Unreadable(NO_NAMES.of(file=shown(path.name)), NAME_COLUMNS.of())
+    return told
 
 
 def add_label(known: dict[int, str], number: int, label: str, path: Path, spelled: str) -> None:

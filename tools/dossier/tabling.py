@@ -111,11 +111,11 @@ def files_of(campaign: Campaign, dialect: Dialect) -> dict[str, Iterator[bytes]]
     return files
 
 
-def labels_in(paths: list[Path], names: Names) -> Labels:
+def labels_in(paths: list[Path], names: Names) -> tuple[Labels, list[Filled]]:
+    """The names in the files, and what is said of where they are."""
     labels: Labels = {}
-    for path in paths:
-        read_labels(path, names, labels)
-    return labels
+    told = [line for path in paths for line in read_labels(path, names, labels)]
+    return labels, told
 
 
 def tabulate(folder: Path, out: Path, paths: list[Path], dialect: Dialect, language: Language) -> int:
@@ -123,10 +123,11 @@ def tabulate(folder: Path, out: Path, paths: list[Path], dialect: Dialect, langu
     for path in paths:
         test_file(path)
     names = names_in(folder)
-    campaign = campaign_of(folder, names, labels_in(paths, names), language)
+    labels, told = labels_in(paths, names)
+    campaign = campaign_of(folder, names, labels, language)
     files = files_of(campaign, dialect)
     write_folder(out, files, is_kept=False)
-    lines = [WRITTEN.of(count=len(files), day=campaign.last.number, folder=out)]
+    lines = [*told, WRITTEN.of(count=len(files), day=campaign.last.number, folder=out)]
     if changed := [str(day.number) for day in campaign.days if not day.had_wishes_of(campaign.last)]:
         lines.append(CHANGED.of(days=", ".join(changed)))
     if changed := [str(day.number) for day in campaign.days if not day.had_ids_of(campaign.last)]:
