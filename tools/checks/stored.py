@@ -181,6 +181,7 @@ def check_ids(tally: Tally) -> None:
         ("A;B", {"A": "1", "B": "2"}), ("7;B", {"B": "8"}),
         ("12345678901;012345678902", {"12345678901": "1", "012345678902": "2"}),
         ("1-MPSI;12-BTS", {"1-MPSI": "1", "12-BTS": "2"}), ("1 000;12,0", None), ("Été;Ete", "may be one or two"),
+        ("A – B;A - B", "may be one or two"), ("A\u2011B;A-B", "may be one or two"),
         ("7;07", "may be one or two"), ("a;A", "may be one or two"), ("1,5E+08;2", "lost digits"),
         ("3-mars;4", "became a date"),
         ("2026-06-02;4", "became a date"), ("#N/A;4", "error of the spreadsheet"), ("1.000;4", "two readings"),

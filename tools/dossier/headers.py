@@ -22,6 +22,9 @@ FILLERS = frozenset(("n", "no", "num", "numero", "number", "code", "id", "identi
 NOTES = {Content.FLAG: re.compile(r" (?:o/n|oui/non|y/n|yes/no|0/1|1/0|vrai/faux|true/false)$|[ :]*\?$"),
          Content.PERCENTAGE: re.compile(r" (?:en |in )?%$")}
 ALIKE = 0.8
+# How letters, dashes and quotes are typed for which a program may put others.
+TYPED = str.maketrans({"œ": "oe", "Œ": "oe", "’": "'", "‘": "'", "“": '"', "”": '"', "„": '"', "«": '"', "»": '"',
+                       **dict.fromkeys("\u2010\u2011\u2012\u2013\u2014\u2015\u2212", "-")})
 PARTS = str.maketrans({letter: " " for letter in "_-.,/:°()[]'’"})
 
 
@@ -30,7 +33,7 @@ def fold(text: str) -> str:
     if text.isascii():
         plain = text.replace("_", " ").replace("-", " ")
     else:
-        joined = text.replace("œ", "oe").replace("Œ", "oe").replace("_", " ").replace("-", " ").replace("’", "'")
+        joined = text.translate(TYPED).replace("_", " ").replace("-", " ")
         parted = unicodedata.normalize("NFKD", joined)
         plain = "".join(letter for letter in parted if not unicodedata.combining(letter))
     return " ".join(plain.casefold().replace("(", " ").replace(")", " ").split())
