@@ -247,6 +247,8 @@ OTHERS_SHEET = ('</table:table><table:table table:name="\'file:///a.ods\'#$A"><t
                 + "".join(map(cell_of, TITLES)) + "</table:table-row></table:table></office:document>")
 HIDDEN_ODS = ('<style:style style:name="h" style:family="table"><style:table-properties table:display="false"/>'
               '</style:style><table:table table:style-name="h" table:name="Formations">')
+FILTERED_ODS = '<table:table-row table:visibility="filter">'
+HIDDEN_SHEET, HIDDEN_ROW = "Formations (a hidden sheet)", ", Formations: read too, though hidden: 1 row\n"
 # What is changed in a workbook by hand, and what is then made of its second row, or told.
 KINDS = (
     (write_xlsx, "x.xlsx", in_xlsx("<c><v>1</v></c>", "<c/>"), "groupe: the cell is empty"),
@@ -254,13 +256,15 @@ KINDS = (
     (write_xlsx, "x.xlsx", in_xlsx(SEVEN, '<c t="str"><v>7_x000D_\n</v></c>'), "7,1,2,0"),
     (write_xlsx, "x.xlsx", in_xlsx(SEVEN, '<c t="inlineStr"><is><t>A_x005F_x000D_</t></is></c>'), "A_x000D_"),
     (write_xlsx, "x.xlsx", in_xlsx("<c><v>2</v></c>", '<c t="str"><v>###</v></c>'), "too narrow"),
-    (write_xlsx, "x.xlsx", {"xl/workbook.xml": ("<sheet ", '<sheet state="veryHidden" ')}, "Formations (a hidden sheet)"),
+    (write_xlsx, "x.xlsx", {"xl/workbook.xml": ("<sheet ", '<sheet state="veryHidden" ')}, HIDDEN_SHEET),
     (write_ods, "x.ods", in_ods(SEVEN_ODS, '<table:table-cell office:value-type="string"><text:p>A<text:s/><text:span>'
                                            "B<text:tab/></text:span>C</text:p></table:table-cell>"), "A B C"),
     (write_ods, "x.ods", in_ods(SEVEN_ODS, '<table:table-cell office:value-type="string" office:string-value="7"/>'),
      "7,1,2,0"),
     (write_ods, "x.ods", in_ods("</table:table></office:document>", OTHERS_SHEET), "7,1,2,0"),
-    (write_ods, "x.ods", in_ods('<table:table table:name="Formations">', HIDDEN_ODS), "Formations (a hidden sheet)"),
+    (write_ods, "x.ods", in_ods('<table:table table:name="Formations">', HIDDEN_ODS), HIDDEN_SHEET),
+    (write_xlsx, "x.xlsx", in_xlsx("<row><c><v>7", '<row hidden="1"><c><v>7'), HIDDEN_ROW),
+    (write_ods, "x.ods", in_ods(f"<table:table-row>{SEVEN_ODS}", f"{FILTERED_ODS}{SEVEN_ODS}"), HIDDEN_ROW),
 )
 
 

@@ -18,7 +18,7 @@ from .naming import IDS, Names, names_of, read_names, table_of
 from .numbering import Numbers, number_ids, translated
 from .relations import Relations
 from .slots import SLOTS, Column, Content, Thing
-from .sources import SEPARATORS, TextSheet
+from .sources import SEPARATORS, TextSheet, WorkbookSheet
 from .stops import Stopped
 from .tables import PROGRESS, Choices, Table
 from .texts import Counted, Filled, Language, OfName, Text, said
@@ -33,6 +33,7 @@ COLUMN_NAMES = frozenset(column.name for slot in SLOTS for column in slot.column
 READ = Text("{slot}: {rows} {of_file}{how}", "{slot} : {rows} {of_file}{how}")
 ROW, ROWS = Text("row", "ligne"), Text("rows", "lignes")
 LEFT_OUT = Text("{file}: not read are the columns {names}", "{file} : colonnes qui ne sont pas lues : {names}")
+HIDDEN_ROWS = Text("{file}: read too, though hidden: {rows}", "{file} : lu aussi, quoique masqué : {rows}")
 NUMBERED = Text("{ids}: ids of {things} numbered, {count} from {first} to {last}",
                 "{ids} : {things}, {numbers} de {first} à {last}")
 NUMBER, NUMBERS = Text("number", "numéro"), Text("numbers", "numéros")
@@ -123,10 +124,13 @@ def slot_files(exports: Exports, numbers: Numbers) -> dict[str, bytes | Iterator
     return files
 
 
-def columns_left_out(table: Table) -> list[Filled]:
-    """A line on the columns of a sheet that are not read, where there are some."""
+def notes_on(table: Table) -> list[Filled]:
+    """A line on the columns of a sheet that are not read, and one on its hidden rows, where there are some."""
+    label = shown(table.sheet.label)
     names = ", ".join(shown(table.header.titles[place].strip()) for place in sorted(table.header.left_out))
-    return [LEFT_OUT.of(file=shown(table.sheet.label), names=names)] if names else []
+    notes = [LEFT_OUT.of(file=label, names=names)] if names else []
+    hidden = table.sheet.hidden_rows if isinstance(table.sheet, WorkbookSheet) else 0
+    return [*notes, HIDDEN_ROWS.of(file=label, rows=Counted(hidden, ROW, ROWS))] if hidden else notes
 
 
 def summary(exports: Exports, numbers: Numbers, folder: Path, language: Language) -> str:
@@ -139,7 +143,7 @@ def summary(exports: Exports, numbers: Numbers, folder: Path, language: Language
             if isinstance(sheet, TextSheet) else said(HIDDEN_SHEET, language) if sheet.is_hidden else ""
         lines.append(READ.of(slot=slot.file, rows=Counted(len(table), ROW, ROWS), how=how,
                              of_file=OfName(shown(sheet.label))))
-        left_out += columns_left_out(table)
+        left_out += notes_on(table)
     for thing, by_code in numbers.by_code.items():
         if by_code:
             count = len(by_code)

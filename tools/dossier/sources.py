@@ -67,6 +67,7 @@ class WorkbookSheet:
     label: str
     rows: list[list[str]]
     is_hidden: bool = False
+    hidden_rows: int = 0
 
     def chunks(self) -> Iterator[list[list[str]]]:
         """All rows at once."""

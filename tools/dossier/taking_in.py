@@ -11,10 +11,10 @@ from .cells import DateOrder
 from .dating import Calendar
 from .decoding import Unreadable
 from .faults import Faults, Row, shown
-from .folders import one_table
+from .folders import Sheets, one_table
 from .going_on import start_date, term_of_days
 from .naming import names_in
-from .preparing import chosen_column, chosen_titles, columns_left_out
+from .preparing import chosen_column, chosen_titles, notes_on
 from .records import wishes_in
 from .slots import ANSWER_SHEET, ANSWERS
 from .stops import AS_THEY_WERE, NO_DOSSIER, TAKING_STOPPED, Stopped
@@ -73,10 +73,10 @@ def summary(table: Table, old: list[tuple[Row, Answer]], new: list[tuple[Row, An
     replaced = len(old) - (len(both) - len(added))
     dated = f" ({calendar.today})" if calendar.today else ""
     lines = [TAKEN.of(count=len(added) - later, later=later, known=len(new) - len(added), dated=dated,
-                      of_file=OfName(shown(table.sheet.label)))]
+                      of_file=OfName(Sheets((table.sheet,)).said(language)))]
     lines += [REPLACED.of(count=replaced)] if replaced else []
     lines += [LATER.of()] if later else []
-    lines += columns_left_out(table)
+    lines += notes_on(table)
     return "\n".join(line.said(language) for line in lines)
 
 

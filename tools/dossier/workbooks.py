@@ -63,7 +63,8 @@ def sheets_of_workbook(path: Path) -> list[WorkbookSheet]:
         if error.errno != errno.EINVAL:  # so it is where a part is said to stand before the file
             raise
         raise Unreadable(BROKEN_WORKBOOK.of(why=error), SAVE_WORKBOOK.of()) from None
-    return [WorkbookSheet(f"{path.name}, {name}", rows, is_hidden) for name, rows, is_hidden in found]
+    return [WorkbookSheet(f"{path.name}, {sheet.name}", sheet.rows, sheet.is_hidden, sheet.hidden_rows)
+            for sheet in found]
 
 
 def numeral(text: str) -> str:
@@ -94,11 +95,13 @@ def whole_rows(rows: list[list[str]]) -> list[list[str]]:
 
 
 class Found(NamedTuple):
-    """A sheet of a workbook: its name, its rows, and whether it is hidden."""
+    """A sheet of a workbook: its name, its rows, whether it is hidden, and how many of its rows are that are not
+    empty."""
 
     name: str
     rows: list[list[str]]
     is_hidden: bool
+    hidden_rows: int
 
 
 class Area(NamedTuple):
@@ -137,12 +140,12 @@ def sheets_of_ods(archive: zipfile.ZipFile) -> Iterator[Found]:
         rows: list[list[str]] = []
         areas: list[Area] = []
         hiding: set[str] = set()
-        is_of_others = False
+        is_of_others, hidden_rows = False, 0
         for event, element in ElementTree.iterparse(file, events=("start", "end")):
             if event == "start":
                 if element.tag == f"{TABLE}table":
                     name, style = element.get(f"{TABLE}name", ""), element.get(f"{TABLE}style-name", "")
-                    rows, areas, is_of_others = [], [], False
+                    rows, areas, is_of_others, hidden_rows = [], [], False, 0
             elif element.tag == f"{STYLE}style":
                 hiding |= hiding_style(element)
             elif element.tag == f"{TABLE}table-source":
@@ -153,10 +156,12 @@ def sheets_of_ods(archive: zipfile.ZipFile) -> Iterator[Found]:
                 repeated = int(element.get(f"{TABLE}number-rows-repeated", "1"))
                 if any(cells) or repeated < MOST_COLUMNS:
                     rows += [cells] * min(repeated, MOST_ROWS)
+                if any(cells) and element.get(f"{TABLE}visibility") in ("collapse", "filter"):
+                    hidden_rows += repeated
                 element.clear()
             elif element.tag == f"{TABLE}table":
                 if not is_of_others:
-                    yield Found(name, without_merged(whole_rows(rows), areas), style in hiding)
+                    yield Found(name, without_merged(whole_rows(rows), areas), style in hiding, hidden_rows)
                 element.clear()
 
 
@@ -235,8 +240,10 @@ def sheets_of_xlsx(archive: zipfile.ZipFile) -> Iterator[Found]:
         place = target.removeprefix("/") if target.startswith("/") else f"xl/{target}"
         if "worksheets/" in place:
             areas: list[Area] = []
-            rows = whole_rows(list(rows_of_xlsx(archive, place, shared, kinds, is_from_1904, areas)))
-            yield Found(sheet.get("name", ""), without_merged(rows, areas), sheet.get("state") in HIDDEN_STATES)
+            hidden: list[int] = []
+            rows = whole_rows(list(rows_of_xlsx(archive, place, shared, kinds, is_from_1904, areas, hidden)))
+            yield Found(sheet.get("name", ""), without_merged(rows, areas), sheet.get("state") in HIDDEN_STATES,
+                        sum(number <= len(rows) and any(rows[number - 1]) for number in hidden))
 
 
 def plain(data: bytes) -> ElementTree.Element:
@@ -287,8 +294,8 @@ def kind_of_format(code: str) -> str:
 
 
 def rows_of_xlsx(archive: zipfile.ZipFile, place: str, shared: list[str], kinds: list[str],
-                 is_from_1904: bool, areas: list[Area]) -> Iterator[list[str]]:
-    """The rows, behind which it adds what is merged."""
+                 is_from_1904: bool, areas: list[Area], hidden: list[int]) -> Iterator[list[str]]:
+    """The rows, behind which it adds what is merged, and the numbers of those that are hidden."""
     number = 0
     with archive.open(place) as file:
         for _, element in ElementTree.iterparse(file):
@@ -304,6 +311,8 @@ def rows_of_xlsx(archive: zipfile.ZipFile, place: str, shared: list[str], kinds:
             for _ in range(number + 1, here):
                 yield []
             number = here
+            if element.get("hidden") in ("1", "true"):
+                hidden.append(here)
             yield cells_of_xlsx(element, shared, kinds, is_from_1904)
             element.clear()
 
