@@ -73,9 +73,11 @@ def check_faults(tally: Tally) -> None:
         tally.equal("nothing is changed", contents(folder), before)
         for sheet, words, status, sentence in (
             ("réponse;nom\naccepter;A\n", (), 1, "aucune colonne ne nomme"), ("ville\nLyon\n", (), 1, "no slot"),
-            ("", (), 1, "empty"), ("N° de votre vœu;Votre choix;Jours\nV04;accepter;1\n", (), 1, "--leave-out \"Jours\""),
-            ("Vœu;Choix final;Jours\nV04;accepter;1\n", (), 1, "--column \"TITLE=kind\""),
-            ("Votre vœu;Votre réponse;Jours\nV99;accepter;1\n", ("--leave-out", "jours"), 1, "pas de vœu V99"), ("cible;réponse\nV04;accepter\n", ("--dates", "year-first"), 2, "--dates"),
+            ("", (), 1, "empty"),
+            ("N° de votre vœu;Votre choix;Jours\nV04;accepter;1\n", (), 1, '--leave-out "Jours"'),
+            ("Vœu;Choix final;Jours\nV04;accepter;1\n", (), 1, '--column "TITLE=kind"'),
+            ("Votre vœu;Votre réponse;Jours\nV99;accepter;1\n", ("--leave-out", "jours"), 1, "pas de vœu V99"),
+            ("cible;réponse\nV04;accepter\n", ("--dates", "year-first"), 2, "--dates"),
         ):
             ended = take_in(folder, sheet, *words)
             tally.check(f"{sheet!r}", ended.status == status and sentence in ended.complaint, ended)

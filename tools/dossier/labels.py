@@ -21,7 +21,8 @@ OF_A_NAME = frozenset(("nom", "noms", "prenom", "prenoms", "name", "names", "sur
 # else, as that of a parent or of the school that they come from.
 OF_THEIR_OWN = OF_A_NAME | FILLERS | frozenset((
     "candidat", "candidate", "eleve", "applicant", "student", "e", "naissance", "usage", "usuel", "famille", "marital",
-    "complet", "patronymique", "s", "birth", "first", "last", "middle", "given", "family", "full", "et", "and", "ou", "or", "1", "2"))
+    "complet", "patronymique", "s", "birth", "first", "last", "middle", "given", "family", "full", "et", "and", "ou",
+    "or", "1", "2"))
 NAMES_OF = Text("{file}: names are in {names}", "{file} : les noms sont dans {names}")
 
 Labels = dict[Thing, dict[int, str]]
@@ -74,7 +75,8 @@ def read_labels(path: Path, names: Names, labels: Labels) -> list[Filled]:
             continue
         thing, of_id = place
         parts = label_places(titles, thing)
-        told.append(NAMES_OF.of(file=shown(sheet.label), names=shown(", ".join(titles[part].strip() for part in parts))))
+        their_titles = ", ".join(titles[part].strip() for part in parts)
+        told.append(NAMES_OF.of(file=shown(sheet.label), names=shown(their_titles)))
         known = labels.setdefault(thing, {})
         for count, cells in enumerate(records_of(sheet), start=1):
             if count > number and len(cells) > of_id and (wanted := number_of(cells[of_id], thing, names)) is not None:
