@@ -262,6 +262,7 @@ KINDS = (
     (write_ods, "x.ods", in_ods(SEVEN_ODS, '<table:table-cell office:value-type="string" office:string-value="7"/>'),
      "7,1,2,0"),
     (write_ods, "x.ods", in_ods("</table:table></office:document>", OTHERS_SHEET), "7,1,2,0"),
+    (write_ods, "x.ods", in_ods('"Formations">', '"Formations"><table:table-source/>'), "7,1,2,0"),
     (write_ods, "x.ods", in_ods('<table:table table:name="Formations">', HIDDEN_ODS), HIDDEN_SHEET),
     (write_xlsx, "x.xlsx", in_xlsx("<row><c><v>7", '<row hidden="1"><c><v>7'), HIDDEN_ROW),
     (write_ods, "x.ods", in_ods(f"<table:table-row>{SEVEN_ODS}", f"{FILTERED_ODS}{SEVEN_ODS}"), HIDDEN_ROW),

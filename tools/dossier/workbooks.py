@@ -33,6 +33,9 @@ MAIN = "{http://schemas.openxmlformats.org/spreadsheetml/2006/main}"
 STRICT = "{http://purl.oclc.org/ooxml/spreadsheetml/main}"
 LINK = re.compile(r"\{[^}]*\}id")
 AREA = re.compile(r"([A-Z]{1,3})([1-9][0-9]{0,7}):([A-Z]{1,3})([1-9][0-9]{0,7})")
+# What a formula names in another workbook is kept under such a name, which no sheet can have. A sheet that is linked
+# to that of another has a name of its own.
+OF_OTHERS = re.compile(r"'.*'#.*", re.DOTALL)
 # How a text of an `.xlsx` has a letter that XML cannot have.
 ESCAPED = re.compile(r"_x([0-9A-Fa-f]{4})_")
 # What reading a workbook that is damaged ends with.
@@ -149,7 +152,7 @@ def sheets_of_ods(archive: zipfile.ZipFile) -> Iterator[Found]:
             elif element.tag == f"{STYLE}style":
                 hiding |= hiding_style(element)
             elif element.tag == f"{TABLE}table-source":
-                is_of_others = True
+                is_of_others = OF_OTHERS.fullmatch(name) is not None
             elif element.tag == f"{TABLE}table-row":
                 areas += areas_of_ods(element, len(rows))
                 cells = cells_of_ods(element)
