@@ -255,6 +255,7 @@ KINDS = (
     (write_xlsx, "x.xlsx", in_xlsx("</c></row></sheetData>", "</c><extLst/></row></sheetData>"), "7,1,2,0"),
     (write_xlsx, "x.xlsx", in_xlsx(SEVEN, '<c t="str"><v>7_x000D_\n</v></c>'), "7,1,2,0"),
     (write_xlsx, "x.xlsx", in_xlsx(SEVEN, '<c t="inlineStr"><is><t>A_x005F_x000D_</t></is></c>'), "A_x000D_"),
+    (write_xlsx, "x.xlsx", in_xlsx(SEVEN, '<c t="str"><v>A_xD83D__x001C_</v></c>'), "A_xD83D__x001C_"),
     (write_xlsx, "x.xlsx", in_xlsx("<c><v>2</v></c>", '<c t="str"><v>###</v></c>'), "too narrow"),
     (write_xlsx, "x.xlsx", {"xl/workbook.xml": ("<sheet ", '<sheet state="veryHidden" ')}, HIDDEN_SHEET),
     (write_ods, "x.ods", in_ods(SEVEN_ODS, '<table:table-cell office:value-type="string"><text:p>A<text:s/><text:span>'

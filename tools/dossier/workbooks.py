@@ -268,7 +268,14 @@ def text_of_item(item: ElementTree.Element) -> str:
 
 def unescaped(text: str) -> str:
     """A text with the letters that stand in it by their numbers, as `_x000D_` for the end of a line."""
-    return ESCAPED.sub(lambda number: chr(int(number[1], 16)), text) if "_x" in text else text
+    return ESCAPED.sub(letter_of, text) if "_x" in text else text
+
+
+def letter_of(number: re.Match[str]) -> str:
+    """The letter of a number. What is half a letter, or stands in no text, stays as it is written."""
+    letter = chr(int(number[1], 16))
+    is_half = "\ud800" <= letter <= "\udfff"
+    return number[0] if is_half or letter < " " and letter not in "\t\n\r" else letter
 
 
 HIDDEN_STATES = ("hidden", "veryHidden")
