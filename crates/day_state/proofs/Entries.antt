@@ -1,7 +1,7 @@
 -- Entries of wishes that share their bundles, and where those of a block begin.
 use Rattle.std.proofs.Common.{ℕ, zero, suc, ◌+◌, ◌≤◌, ◌<◌, ◌≡◌, Bool, true, false, List, [], ◌∷◌, ◌++◌, length}
 use Rattle.std.proofs.Common.{get_or, take, set, replicate, inl, inr, refl, sym, ◌∙◌, ap, arith, Option, Some, None}
-use Rattle.std.proofs.Common.{subst}
+use Rattle.std.proofs.Common.{map, subst}
 use Rattle.std.specs.Prelude.{slice_index, slice_index_or, is_some, ◌==◌, ◌/◌, ◌||◌, All}
 use Rattle.std.specs.Cmp.{IsEquivalence}
 use Rattle.std.specs.List.{find, list_any, dedup}
@@ -12,6 +12,7 @@ use Rattle.std.proofs.lemmas.List.{length-set, get_or-set_same, get_or-set_other
 use Rattle.std.proofs.lemmas.List.{length-map, length-replicate, get_or-replicate, get_or_default, ext_get_or}
 use Rattle.std.proofs.lemmas.List.{get_or_past}
 use Rattle.std.proofs.lemmas.List.Elements.{All-append, All-cons, All-nil}
+use Rattle.std.proofs.Math.ListN.{get_or-map as map_read}
 use Rattle.std.proofs.lemmas.Cmp.{nat_eq_equiv, on_equiv}
 use Rattle.std.proofs.lemmas.List.Filters.{All-dedup}
 use Rattle.std.proofs.lemmas.List.Folds.{Any-from_list_any, list_any-append, list_any_at}
@@ -24,12 +25,12 @@ use Rattle.admit_core.specs.declared.dossier.Wish.{Wish}
 use Rattle.day_state.specs.declared.bundle_numbers.Later.{Later}
 use Rattle.day_state.specs.declared.bundles.Sites.{Sites}
 use Rattle.day_state.specs.declared.numbers.BundleNumber.{BundleNumber}
-use Rattle.day_state.specs.declared.numbers.BundleNumber.TheVariants.{NoSite, Shared}
-use Rattle.day_state.specs.declared.numbers.Entry.{Entry}
+use Rattle.day_state.specs.declared.numbers.BundleNumber.TheVariants.{NoSite, Alone, Shared}
+use Rattle.day_state.specs.declared.numbers.SharedWish.{SharedWish}
 use Rattle.day_state.specs.Kept.{wish_in}
 use Rattle.day_state.specs.Bundles.{number_in, is_shared, rank_of, number_of, number_at, all_numbers}
 use Rattle.day_state.specs.Bundles.{bundles_of, site_of, AreLaters, IsLater, IsEntry, AreEntries, AreSited, HaveEntries}
-use Rattle.day_state.specs.Bundles.{AreStarts, number_for, number_found, numbers_with}
+use Rattle.day_state.specs.Bundles.{AreEntriesOf, AreStarts, number_for, number_found, numbers_with}
 use Rattle.day_state.proofs.Laters.{firsts_are}
 use Rattle.day_state.proofs.Numbering.{bundles_are, find_has}
 use Rattle.day_state.proofs.Numbered.{bundle_sited, bundle_unsited, shared_by_one, shares}
@@ -65,47 +66,48 @@ found_has P p (x ∷ xs) y all e =
     ]
 
 -- entries of earlier blocks are of other wishes
-pub apart_blocks : (entries : List Entry) (start wish : ℕ) → All (λ e. e.wish / 64 < wish / 64) (take start entries)
+pub apart_blocks : (entries : List SharedWish) (start wish : ℕ)
+    → All (λ e. e.wish / 64 < wish / 64) (take start entries)
     → All (λ e. (e.wish == wish) ≡ false) (take start entries)
 apart_blocks entries start wish before k d lt =
     ne_eqb (get_or (take start entries) k d).wish wish
     (λ same. omega (arith, before k d lt, ap (λ (n : ℕ). n / 64) same))
 
-pub number_here : (entries : List Entry) (i wish : ℕ) (e d : Entry) → i < length entries
+pub number_here : (entries : List SharedWish) (i wish : ℕ) (e d : SharedWish) → i < length entries
     → All (λ e. (e.wish == wish) ≡ false) (take i entries) → e ≡ get_or entries i d → (e.wish == wish) ≡ true
     → e.number ≡ number_found (find (λ e. e.wish == wish) entries)
 number_here entries i wish e d lt none read passes =
-    let test = λ (x : Entry). x.wish == wish in
+    let test = λ (x : SharedWish). x.wish == wish in
     let here : test (get_or entries i d) ≡ true = ap test (sym read) ∙ passes in
-    ap (λ (x : Entry). x.number) read ∙ ap number_found (sym (found_at test entries i d lt none here))
+    ap (λ (x : SharedWish). x.number) read ∙ ap number_found (sym (found_at test entries i d lt none here))
 
-pub number_nowhere : (entries : List Entry) (i wish : ℕ) → length entries ≤ i
+pub number_nowhere : (entries : List SharedWish) (i wish : ℕ) → length entries ≤ i
     → All (λ e. (e.wish == wish) ≡ false) (take i entries)
     → 0 ≡ number_found (find (λ e. e.wish == wish) entries)
 number_nowhere entries i wish le none =
-    let test = λ (x : Entry). x.wish == wish in
-    let P = λ (xs : List Entry). All (λ e. (e.wish == wish) ≡ false) xs in
+    let test = λ (x : SharedWish). x.wish == wish in
+    let P = λ (xs : List SharedWish). All (λ e. (e.wish == wish) ≡ false) xs in
     ap number_found (sym (found_none test entries (subst P (take_all i entries le) none)))
 
 -- the places where blocks begin, as far as the first i entries tell them
-pub record AreStartsTo (entries : List Entry) (starts : List ℕ) (i : ℕ) : Type 0 where
+pub record AreStartsTo (entries : List SharedWish) (starts : List ℕ) (i : ℕ) : Type 0 where
   pub starts_are : AreStarts entries starts
   pub begun : All (λ e. e.wish / 64 < length starts) (take i entries)
 
-pub starts_none : (entries : List Entry) (starts : List ℕ) → starts ≡ [] → AreStartsTo entries starts 0
+pub starts_none : (entries : List SharedWish) (starts : List ℕ) → starts ≡ [] → AreStartsTo entries starts 0
 starts_none entries starts none = rw none (record {
   starts_are = λ block. All-nil (λ e. e.wish / 64 < block);
   begun = All-nil (λ e. e.wish / 64 < 0);
 })
 
-pub starts_more : (entries : List Entry) (starts new : List ℕ) (i : ℕ) (e d : Entry) → i < length entries
+pub starts_more : (entries : List SharedWish) (starts new : List ℕ) (i : ℕ) (e d : SharedWish) → i < length entries
     → e ≡ get_or entries i d → length starts < e.wish / 64 + 1 → length new ≡ e.wish / 64 + 1
     → ((k d : ℕ) → k < e.wish / 64 + 1 → k < length starts → get_or new k d ≡ get_or starts k d)
     → ((k d : ℕ) → length starts ≤ k → k < e.wish / 64 + 1 → get_or new k d ≡ i)
     → AreStartsTo entries starts i → AreStartsTo entries new (i + 1)
 starts_more entries starts new i e d lt read few long before after are = record {
   starts_are = λ block.
-      let P = λ (x : Entry). x.wish / 64 < block in
+      let P = λ (x : SharedWish). x.wish / 64 < block in
       elim (cases_lt block (length starts)) [
         | inl old ↦
             let same : slice_index new block ≡ slice_index starts block =
@@ -122,31 +124,31 @@ starts_more entries starts new i e d lt read few long before after are = record 
             ]
       ];
   begun =
-      let P = λ (x : Entry). x.wish / 64 < length new in
+      let P = λ (x : SharedWish). x.wish / 64 < length new in
       let here : e.wish / 64 < length new = omega (arith, long) in
       all_more P entries i d lt (λ k d k_lt. omega (arith, are.begun k d k_lt, few, long)) (subst P read here);
 }
 
-pub starts_same : (entries : List Entry) (starts : List ℕ) (i : ℕ) (e d : Entry) → i < length entries
+pub starts_same : (entries : List SharedWish) (starts : List ℕ) (i : ℕ) (e d : SharedWish) → i < length entries
     → e ≡ get_or entries i d → e.wish / 64 + 1 ≤ length starts
     → AreStartsTo entries starts i → AreStartsTo entries starts (i + 1)
 starts_same entries starts i e d lt read long are = record {
   starts_are = are.starts_are;
   begun =
-      let P = λ (x : Entry). x.wish / 64 < length starts in
+      let P = λ (x : SharedWish). x.wish / 64 < length starts in
       let here : e.wish / 64 < length starts = omega (arith, long) in
       all_more P entries i d lt are.begun (subst P read here);
 }
 
 -- numbers by flags and entries, read at a place
-numbers_long : (sited several : List Bool) (entries : List Entry)
+numbers_long : (sited several : List Bool) (entries : List SharedWish)
     → length (numbers_with sited several entries) ≡ length sited
 numbers_long sited several entries =
     length-map-range_with_len
     (λ k. number_for entries k (slice_index_or sited k false) (slice_index_or several k false))
     0 (length sited)
 
-number_get : (sited several : List Bool) (entries : List Entry) (k : ℕ) → k < length sited
+number_get : (sited several : List Bool) (entries : List SharedWish) (k : ℕ) → k < length sited
     → get_or (numbers_with sited several entries) k NoSite
     ≡ number_for entries k (slice_index_or sited k false) (slice_index_or several k false)
 number_get sited several entries k lt =
@@ -154,7 +156,7 @@ number_get sited several entries k lt =
     (λ j. number_for entries j (slice_index_or sited j false) (slice_index_or several j false))
     0 (length sited) k k NoSite lt (omega arith)
 
-pub number_read : (sited several : List Bool) (entries : List Entry) (ns : List BundleNumber) (k : ℕ)
+pub number_read : (sited several : List Bool) (entries : List SharedWish) (ns : List BundleNumber) (k : ℕ)
     (has shares : Bool) → numbers_with sited several entries ≡ ns → k < length ns
     → has ≡ slice_index_or sited k false → shares ≡ slice_index_or several k false
     → number_for entries k has shares ≡ number_at ns k
@@ -209,23 +211,24 @@ sited_all sites ws flags i le are = record {
 }
 
 -- which wishes have an entry
-pub have_none : (entries : List Entry) (n : ℕ) (flags : List Bool) → flags ≡ replicate n false
+pub have_none : (entries : List SharedWish) (n : ℕ) (flags : List Bool) → flags ≡ replicate n false
     → HaveEntries (take 0 entries) n flags
 have_none entries n flags none = rw none (record {
   long = length-replicate n false;
   each = λ k lt. get_or-replicate n k false false lt;
 })
 
-pub have_more : (entries : List Entry) (n : ℕ) (flags new : List Bool) (i : ℕ) (e d : Entry) → i < length entries
+pub have_more : (entries : List SharedWish) (n : ℕ) (flags new : List Bool) (i : ℕ) (e d : SharedWish)
+    → i < length entries
     → e ≡ get_or entries i d → e.wish < n → new ≡ set flags e.wish true
     → HaveEntries (take i entries) n flags → HaveEntries (take (i + 1) entries) n new
 have_more entries n flags new i e d lt read within new_is are = rw new_is (record {
   long = length-set flags e.wish true ∙ are.long;
   each = λ k k_lt.
-      let test = λ (x : Entry). x.wish == k in
+      let test = λ (x : SharedWish). x.wish == k in
       let more : list_any test (take (i + 1) entries) ≡ (list_any test (take i entries) || ((e.wish == k) || false)) =
       ap (list_any test) (take_more entries i d lt) ∙ list_any-append test (take i entries) (get_or entries i d ∷ [])
-      ∙ ap (λ (x : Entry). list_any test (take i entries) || ((x.wish == k) || false)) (sym read) in
+      ∙ ap (λ (x : SharedWish). list_any test (take i entries) || ((x.wish == k) || false)) (sym read) in
       elim (cases_eq k e.wish) [
         | inl same ↦
             let here : list_any test (take (i + 1) entries) ≡ true =
@@ -239,31 +242,31 @@ have_more entries n flags new i e d lt read within new_is are = rw new_is (recor
       ];
 })
 
-pub have_all : (entries : List Entry) (n : ℕ) (flags : List Bool) (i : ℕ) → length entries ≤ i
+pub have_all : (entries : List SharedWish) (n : ℕ) (flags : List Bool) (i : ℕ) → length entries ≤ i
     → HaveEntries (take i entries) n flags → HaveEntries entries n flags
 have_all entries n flags i le are =
-    let P = λ (xs : List Entry). HaveEntries xs n flags in
+    let P = λ (xs : List SharedWish). HaveEntries xs n flags in
     subst P (take_all i entries le) are
 
 -- the entries of the first i later wishes and of the first ones of their bundles
-pub record AreEntriesTo (bundles : List (Option ℕ)) (laters : List Later) (entries : List Entry)
+pub record AreEntriesTo (bundles : List (Option ℕ)) (laters : List Later) (entries : List SharedWish)
     (i : ℕ) : Type 0 where
   pub each : All (IsEntry bundles) entries
-  pub firsts : All (λ (l : Later). list_any (λ (e : Entry). e.wish == l.first) entries ≡ true) (take i laters)
-  pub wishes : All (λ (l : Later). list_any (λ (e : Entry). e.wish == l.wish) entries ≡ true) (take i laters)
+  pub firsts : All (λ (l : Later). list_any (λ (e : SharedWish). e.wish == l.first) entries ≡ true) (take i laters)
+  pub wishes : All (λ (l : Later). list_any (λ (e : SharedWish). e.wish == l.wish) entries ≡ true) (take i laters)
 
-pub entries_none : (bundles : List (Option ℕ)) (laters : List Later) (entries : List Entry) → entries ≡ []
+pub entries_none : (bundles : List (Option ℕ)) (laters : List Later) (entries : List SharedWish) → entries ≡ []
     → AreEntriesTo bundles laters entries 0
 entries_none bundles laters entries none = rw none (record {
   each = All-nil (IsEntry bundles);
-  firsts = All-nil (λ (l : Later). list_any (λ (e : Entry). e.wish == l.first) [] ≡ true);
-  wishes = All-nil (λ (l : Later). list_any (λ (e : Entry). e.wish == l.wish) [] ≡ true);
+  firsts = All-nil (λ (l : Later). list_any (λ (e : SharedWish). e.wish == l.first) [] ≡ true);
+  wishes = All-nil (λ (l : Later). list_any (λ (e : SharedWish). e.wish == l.wish) [] ≡ true);
 })
 
-still : (p : Entry → Bool) (xs ys : List Entry) → list_any p xs ≡ true → list_any p (xs ++ ys) ≡ true
+still : (p : SharedWish → Bool) (xs ys : List SharedWish) → list_any p xs ≡ true → list_any p (xs ++ ys) ≡ true
 still p xs ys t = list_any-append p xs ys ∙ ap (λ b. b || list_any p ys) t
 
-among_last : (p : Entry → Bool) (xs ys : List Entry) → list_any p ys ≡ true → list_any p (xs ++ ys) ≡ true
+among_last : (p : SharedWish → Bool) (xs ys : List SharedWish) → list_any p ys ≡ true → list_any p (xs ++ ys) ≡ true
 among_last p xs ys t = list_any-append p xs ys ∙ ap (λ b. list_any p xs || b) t ∙ or_true (list_any p xs)
 
 module _ (sites : Sites) (ws : List Wish) (laters : List Later) (are : AreLaters (bundles_of sites ws) laters) where
@@ -274,7 +277,7 @@ module _ (sites : Sites) (ws : List Wish) (laters : List Later) (are : AreLaters
       let is : IsLater bundles l = subst (IsLater bundles) (sym read) (are.each i d lt) in
       (is.begins, shares bundles laters are l is)
 
-  pub entries_more : (entries between new : List Entry) (l d : Later) (i number : ℕ) → i < length laters
+  pub entries_more : (entries between new : List SharedWish) (l d : Later) (i number : ℕ) → i < length laters
       → l ≡ get_or laters i d → number ≡ rank_of (bundles_of sites ws) l.first
       → between ≡ entries ++ record { wish = l.first; number = number } ∷ []
       → new ≡ between ++ record { wish = l.wish; number = number } ∷ []
@@ -283,8 +286,8 @@ module _ (sites : Sites) (ws : List Wish) (laters : List Later) (are : AreLaters
       let bundles = bundles_of sites ws in
       let is : IsLater bundles l = subst (IsLater bundles) (sym read) (are.each i d lt) in
       let shared : is_shared bundles l.first ≡ true = shares bundles laters are l is in
-      let one : Entry = record { wish = l.first; number = number } in
-      let two : Entry = record { wish = l.wish; number = number } in
+      let one : SharedWish = record { wish = l.first; number = number } in
+      let two : SharedWish = record { wish = l.wish; number = number } in
       let told : number_of bundles (Some l.first) ≡ Shared number = rw (shared, number_is) refl in
       let own : number_in bundles l.first ≡ Some l.first =
       (firsts_are sites ws).own l.wish l.first is.within is.bundle in
@@ -293,10 +296,10 @@ module _ (sites : Sites) (ws : List Wish) (laters : List Later) (are : AreLaters
       let two_is : IsEntry bundles two =
       record { within = is.within; number = ap (number_of bundles) is.bundle ∙ told } in
       let E = IsEntry bundles in
-      let keep = λ (p : Entry → Bool) (t : list_any p entries ≡ true).
+      let keep = λ (p : SharedWish → Bool) (t : list_any p entries ≡ true).
       still p (entries ++ one ∷ []) (two ∷ []) (still p entries (one ∷ []) t) in
-      let F = λ (xs : List Entry) (x : Later). list_any (λ (e : Entry). e.wish == x.first) xs ≡ true in
-      let W = λ (xs : List Entry) (x : Later). list_any (λ (e : Entry). e.wish == x.wish) xs ≡ true in
+      let F = λ (xs : List SharedWish) (x : Later). list_any (λ (e : SharedWish). e.wish == x.first) xs ≡ true in
+      let W = λ (xs : List SharedWish) (x : Later). list_any (λ (e : SharedWish). e.wish == x.wish) xs ≡ true in
       let all = (entries ++ one ∷ []) ++ two ∷ [] in
       let first_here : F all l =
       still (λ e. e.wish == l.first) (entries ++ one ∷ []) (two ∷ [])
@@ -304,7 +307,7 @@ module _ (sites : Sites) (ws : List Wish) (laters : List Later) (are : AreLaters
       let wish_here : W all l =
       among_last (λ e. e.wish == l.wish) (entries ++ one ∷ []) (two ∷ [])
       (ap (λ b. b || false) (eq-eqb l.wish l.wish refl)) in
-      let all_is : new ≡ all = new_is ∙ ap (λ (xs : List Entry). xs ++ two ∷ []) between_is in
+      let all_is : new ≡ all = new_is ∙ ap (λ (xs : List SharedWish). xs ++ two ∷ []) between_is in
       rw all_is (record {
         each = All-append E (entries ++ one ∷ []) (two ∷ [])
             (All-append E entries (one ∷ []) so_far.each (All-cons E one [] one_is (All-nil E)))
@@ -318,20 +321,20 @@ module _ (sites : Sites) (ws : List Wish) (laters : List Later) (are : AreLaters
       })
 
   -- what one later wish has that passes a test
-  pub entries_all : (entries sorted : List Entry) (i : ℕ) → length laters ≤ i
+  pub entries_all : (entries sorted : List SharedWish) (i : ℕ) → length laters ≤ i
       → AreEntriesTo (bundles_of sites ws) laters entries i → IsPermutation entries sorted
       → AreEntries (bundles_of sites ws) sorted
   entries_all entries sorted i le so_far moved =
       let bundles = bundles_of sites ws in
       let everyone = take_all i laters le in
-      let F = λ (x : Later). list_any (λ (e : Entry). e.wish == x.first) entries ≡ true in
-      let W = λ (x : Later). list_any (λ (e : Entry). e.wish == x.wish) entries ≡ true in
+      let F = λ (x : Later). list_any (λ (e : SharedWish). e.wish == x.first) entries ≡ true in
+      let W = λ (x : Later). list_any (λ (e : SharedWish). e.wish == x.wish) entries ≡ true in
       let firsts : All F laters = subst (All F) everyone so_far.firsts in
       let wishes : All W laters = subst (All W) everyone so_far.wishes in
       record {
         each = All-permutation (IsEntry bundles) entries sorted moved so_far.each;
         all = λ k b lt at shared.
-            let test = λ (e : Entry). e.wish == k in
+            let test = λ (e : SharedWish). e.wish == k in
             sym (list_any-IsPermutation test entries sorted moved)
             ∙ elim (cases_eq b k) [
               | inl same ↦
@@ -343,27 +346,27 @@ module _ (sites : Sites) (ws : List Wish) (laters : List Later) (are : AreLaters
                   ap (number_in bundles) (sym (eqb-true l.wish j passes)) ∙ is.bundle in
                   let both : Some k ≡ Some l.first = sym at_j ∙ here in
                   let first : l.first ≡ k = let e : k ≡ l.first = cc both in sym e in
-                  let P = λ (m : ℕ). list_any (λ (e : Entry). e.wish == m) entries ≡ true in
+                  let P = λ (m : ℕ). list_any (λ (e : SharedWish). e.wish == m) entries ≡ true in
                   subst P first (subst F read (firsts n l n_lt))
               | inr other ↦
                   let (n, l, n_lt, read, passes) = Any-from_list_any (λ (x : Later). x.wish == k) laters
                   (are.all k b lt at other) in
-                  let P = λ (m : ℕ). list_any (λ (e : Entry). e.wish == m) entries ≡ true in
+                  let P = λ (m : ℕ). list_any (λ (e : SharedWish). e.wish == m) entries ≡ true in
                   subst P (eqb-true l.wish k passes) (subst W read (wishes n l n_lt))
             ];
       }
 
 -- each once, they are still all
-pub entries_once : (bundles : List (Option ℕ)) (sorted once : List Entry)
+pub entries_once : (bundles : List (Option ℕ)) (sorted once : List SharedWish)
     → once ≡ dedup (λ x y. x.wish == y.wish) sorted
     → AreEntries bundles sorted → AreEntries bundles once
 entries_once bundles sorted once once_is are =
-    let E = λ (x y : Entry). x.wish == y.wish in
-    let equiv : IsEquivalence E = on_equiv (λ (e : Entry). e.wish) nat_eq_equiv in
+    let E = λ (x y : SharedWish). x.wish == y.wish in
+    let equiv : IsEquivalence E = on_equiv (λ (e : SharedWish). e.wish) nat_eq_equiv in
     rw once_is (record {
       each = All-dedup E (IsEntry bundles) sorted are.each;
       all = λ k b lt at shared.
-          let test = λ (e : Entry). e.wish == k in
+          let test = λ (e : SharedWish). e.wish == k in
           let (n, e, n_lt, read, passes) = Any-from_list_any test sorted (are.all k b lt at shared) in
           let (m, f, m_lt, kept, same) = Any-dedup equiv sorted e (n, n_lt, read) in
           let here : f.wish ≡ k = sym (eqb-true e.wish f.wish same) ∙ eqb-true e.wish k passes in
@@ -371,28 +374,28 @@ entries_once bundles sorted once once_is are =
     })
 
 -- the wishes of entries are among all
-pub entries_within : (sites : Sites) (ws : List Wish) (entries : List Entry) (n : ℕ)
-    → AreEntries (bundles_of sites ws) entries → n ≡ length ws → All (λ (e : Entry). e.wish < n) entries
+pub entries_within : (sites : Sites) (ws : List Wish) (entries : List SharedWish) (n : ℕ)
+    → AreEntries (bundles_of sites ws) entries → n ≡ length ws → All (λ (e : SharedWish). e.wish < n) entries
 entries_within sites ws entries n are n_is k d lt =
     omega (arith, (are.each k d lt).within, (bundles_are sites ws).as_long, n_is)
 
 -- the numbers by flags and entries are those of all bundles
-module _ (sites : Sites) (ws : List Wish) (entries : List Entry) (are : AreEntries (bundles_of sites ws) entries)
+module _ (sites : Sites) (ws : List Wish) (entries : List SharedWish) (are : AreEntries (bundles_of sites ws) entries)
     (sited several : List Bool) (sites_are : AreSited sites ws sited)
     (have : HaveEntries entries (length ws) several) where
-  by_entry : (k : ℕ) (has : Bool) → list_any (λ (e : Entry). e.wish == k) entries ≡ true
+  by_entry : (k : ℕ) (has : Bool) → list_any (λ (e : SharedWish). e.wish == k) entries ≡ true
       → number_for entries k has true ≡ number_of (bundles_of sites ws) (number_in (bundles_of sites ws) k)
   by_entry k has some =
       let bundles = bundles_of sites ws in
-      let test = λ (e : Entry). e.wish == k in
+      let test = λ (e : SharedWish). e.wish == k in
       let (e, found) = find_has test entries some in
       let is : IsEntry bundles e = found_has (IsEntry bundles) test entries e are.each found in
       let same : e.wish ≡ k = eqb-true e.wish k (find_passes test entries e found) in
-      ap (λ (o : Option Entry). Shared (number_found o)) found
+      ap (λ (o : Option SharedWish). Shared (number_found o)) found
       ∙ sym (ap (λ (j : ℕ). number_of bundles (number_in bundles j)) (sym same) ∙ is.number)
 
   by_site : (k : ℕ) (o : Option ℕ) → k < length ws → k < length (bundles_of sites ws)
-      → number_in (bundles_of sites ws) k ≡ o → list_any (λ (e : Entry). e.wish == k) entries ≡ false
+      → number_in (bundles_of sites ws) k ≡ o → list_any (λ (e : SharedWish). e.wish == k) entries ≡ false
       → number_for entries k (is_some (site_of sites (wish_in ws k))) false ≡ number_of (bundles_of sites ws) o
   by_site k None k_in k_b at none =
       ap (λ b. number_for entries k b false) (bundle_unsited sites ws k k_in at)
@@ -409,7 +412,7 @@ module _ (sites : Sites) (ws : List Wish) (entries : List Entry) (are : AreEntri
       ≡ number_of (bundles_of sites ws) (number_in (bundles_of sites ws) k)
   number_is k k_in k_b =
       let bundles = bundles_of sites ws in
-      let test = λ (e : Entry). e.wish == k in
+      let test = λ (e : SharedWish). e.wish == k in
       let has = sites_are.each k k_in in
       elim (cases_Bool (list_any test entries)) [
         | inl some ↦
@@ -435,3 +438,41 @@ module _ (sites : Sites) (ws : List Wish) (entries : List Entry) (are : AreEntri
       number_get sited several entries k k_sited ∙ number_is k k_in k_b
       ∙ sym (get_or-map (number_of bundles) bundles k None NoSite k_b
       ∙ ap (number_of bundles) (sym (unwrap_or-slice_get bundles k None))))
+
+-- so the entries are those of the numbers
+pub entries_tell : (sites : Sites) (ws : List Wish) (entries : List SharedWish)
+    → AreEntries (bundles_of sites ws) entries → AreEntriesOf (all_numbers sites ws) entries
+entries_tell sites ws entries are =
+    let bundles = bundles_of sites ws in
+    record {
+      each = λ j e lt. number_by bundles (get_or entries j e).wish ∙ (are.each j e lt).number;
+      all = λ k n is.
+          let (b, at, shared) = by_number bundles (number_in bundles k) n (sym (number_by bundles k) ∙ is) in
+          are.all k b (there bundles k b at) at shared;
+    }
+  where
+    number_by : (bundles : List (Option ℕ)) (k : ℕ)
+        → number_at (map (number_of bundles) bundles) k ≡ number_of bundles (number_in bundles k)
+    number_by bundles k =
+        unwrap_or-slice_get (map (number_of bundles) bundles) k NoSite
+        ∙ map_read (number_of bundles) bundles k None
+        ∙ ap (number_of bundles) (sym (unwrap_or-slice_get bundles k None))
+
+    by_number : (bundles : List (Option ℕ)) (o : Option ℕ) (n : ℕ) → number_of bundles o ≡ Shared n
+        → (b : ℕ) × (o ≡ Some b) × (is_shared bundles b ≡ true)
+    by_number bundles None n is = absurd (cc)
+    by_number bundles (Some b) n is =
+        elim (cases_Bool (is_shared bundles b)) [
+          | inl shared ↦ (b, refl, shared)
+          | inr alone ↦ let e : Alone ≡ Shared n = rw alone at is in absurd (cc)
+        ]
+
+    there : (bundles : List (Option ℕ)) (k b : ℕ) → number_in bundles k ≡ Some b → k < length bundles
+    there bundles k b at =
+        elim (cases_lt k (length bundles)) [
+          | inl lt ↦ lt
+          | inr le ↦
+              let e : None ≡ Some b =
+              sym (unwrap_or-slice_get bundles k None ∙ get_or_past bundles k None le) ∙ at in
+              absurd (cc)
+        ]

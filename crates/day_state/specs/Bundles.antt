@@ -11,7 +11,7 @@ use Rattle.admit_core.specs.State.{State, is_live, is_school}
 use Rattle.day_state.specs.declared.bundle_numbers.Later.{Later}
 use Rattle.day_state.specs.declared.bundles.Sites.{Sites}
 use Rattle.day_state.specs.declared.bundles.Sites.TheVariants.{Programmes, Schools}
-use Rattle.day_state.specs.declared.numbers.Entry.{Entry}
+use Rattle.day_state.specs.declared.numbers.SharedWish.{SharedWish}
 use Rattle.day_state.specs.declared.numbers.BundleNumber.{BundleNumber}
 use Rattle.day_state.specs.declared.numbers.BundleNumber.TheVariants.{NoSite, Alone, Shared}
 use Rattle.day_state.specs.Kept.{mark_in, wish_in, IsKept}
@@ -94,22 +94,22 @@ abbrev pub shared_in_all : Sites → List Wish → ℕ
 shared_in_all sites ws = shared_by (bundles_of sites ws)
 
 -- the number of an entry that was found
-abbrev pub number_found : Option Entry → ℕ
+abbrev pub number_found : Option SharedWish → ℕ
 number_found None = 0
 number_found (Some e) = e.number
 
 -- the number of the bundle of the wish at k, by whether it has a site and whether it shares its bundle
-abbrev pub number_for : List Entry → ℕ → Bool → Bool → BundleNumber
+abbrev pub number_for : List SharedWish → ℕ → Bool → Bool → BundleNumber
 number_for entries k sited several =
     if several then Shared (number_found (find (λ e. e.wish == k) entries)) else if sited then Alone else NoSite
 
-abbrev pub numbers_with : List Bool → List Bool → List Entry → List BundleNumber
+abbrev pub numbers_with : List Bool → List Bool → List SharedWish → List BundleNumber
 numbers_with sited several entries =
     map (λ k. number_for entries k (slice_index_or sited k false) (slice_index_or several k false))
     (range_with_len 0 (length sited))
 
 -- before the place of a block of 64 wishes stand entries of earlier blocks alone
-abbrev pub AreStarts : List Entry → List ℕ → Type 0
+abbrev pub AreStarts : List SharedWish → List ℕ → Type 0
 AreStarts entries starts =
     (block : ℕ) → All (λ e. e.wish / 64 < block) (take (slice_index starts block) entries)
 
@@ -204,15 +204,27 @@ later_at k None = []
 later_at k (Some b) = if b == k then [] else record { wish = k; first = b } ∷ []
 
 -- an entry tells the number of a bundle of two wishes or more
-pub record IsEntry (bundles : List (Option ℕ)) (e : Entry) : Type 0 where
+pub record IsEntry (bundles : List (Option ℕ)) (e : SharedWish) : Type 0 where
   pub within : e.wish < length bundles
   pub number : number_of bundles (number_in bundles e.wish) ≡ Shared e.number
 
 -- each wish of such a bundle has one
-pub record AreEntries (bundles : List (Option ℕ)) (entries : List Entry) : Type 0 where
+pub record AreEntries (bundles : List (Option ℕ)) (entries : List SharedWish) : Type 0 where
   pub each : All (IsEntry bundles) entries
   pub all : (k b : ℕ) → k < length bundles → number_in bundles k ≡ Some b → is_shared bundles b ≡ true
       → list_any (λ e. e.wish == k) entries ≡ true
+
+-- the entries of numbers: each tells the number of a wish in a bundle of two wishes or more, and each
+-- such wish has one
+pub record AreEntriesOf (ns : List BundleNumber) (entries : List SharedWish) : Type 0 where
+  pub each : All (λ e. number_at ns e.wish ≡ Shared e.number) entries
+  pub all : (k n : ℕ) → number_at ns k ≡ Shared n → list_any (λ e. e.wish == k) entries ≡ true
+
+-- the starts are those of the entries, and the entries those of the numbers
+pub record AreNumbers (sited several : List Bool) (entries : List SharedWish)
+    (starts : List ℕ) : Type 0 where
+  pub starts_are : AreStarts entries starts
+  pub entries_are : AreEntriesOf (numbers_with sited several entries) entries
 
 -- of each wish whether it has a site
 pub record AreSited (sites : Sites) (ws : List Wish) (flags : List Bool) : Type 0 where
@@ -220,6 +232,6 @@ pub record AreSited (sites : Sites) (ws : List Wish) (flags : List Bool) : Type 
   pub each : (k : ℕ) → k < length ws → slice_index_or flags k false ≡ is_some (site_of sites (wish_in ws k))
 
 -- of each of so many wishes whether it has an entry
-pub record HaveEntries (entries : List Entry) (count : ℕ) (flags : List Bool) : Type 0 where
+pub record HaveEntries (entries : List SharedWish) (count : ℕ) (flags : List Bool) : Type 0 where
   pub long : length flags ≡ count
   pub each : (k : ℕ) → k < count → slice_index_or flags k false ≡ list_any (λ e. e.wish == k) entries

@@ -9,7 +9,7 @@ ghost use Rattle.day_state.specs.Kept.{IsIndex, wish_in};
 
 use crate::ahead::Ahead;
 use crate::bundles::Sites;
-use crate::numbers::{Entry, Numbers};
+use crate::numbers::{Numbers, SharedWish};
 use admit_core::{OutOfMemory, Wish};
 use flags::Flags;
 use std::alloc::Global;
@@ -219,7 +219,11 @@ fn place_of(shared: &[u32], first: u32) -> u32
 }
 
 /// The entries of the wishes in bundles of two or more, ascending by wish, each once.
-fn entries_of(alloc: Global, shared: &[u32], laters: &[Later]) -> Result<Vec<Entry>, OutOfMemory>
+fn entries_of(
+    alloc: Global,
+    shared: &[u32],
+    laters: &[Later],
+) -> Result<Vec<SharedWish>, OutOfMemory>
     requires few { length shared.now < 2 ^ 32 }
     ensures { IfOk result (λ v. (sites : Sites) (ws : List Wish)
         → shared.now ≡ shared_places (bundles_of sites ws)
@@ -229,11 +233,11 @@ fn entries_of(alloc: Global, shared: &[u32], laters: &[Later]) -> Result<Vec<Ent
     entries.reserve_exact(laters.len().saturating_mul(2))?;
     for later in laters {
         let number = place_of(shared, later.first);
-        entries.push(Entry {
+        entries.push(SharedWish {
             wish: later.first,
             number,
         })?;
-        entries.push(Entry {
+        entries.push(SharedWish {
             wish: later.wish,
             number,
         })?;
@@ -256,7 +260,7 @@ fn sited_of(alloc: Global, sites: Sites, wishes: &[Wish]) -> Result<Flags, OutOf
 }
 
 /// Which of so many wishes have an entry.
-fn several_of(alloc: Global, count: usize, entries: &[Entry]) -> Result<Flags, OutOfMemory>
+fn several_of(alloc: Global, count: usize, entries: &[SharedWish]) -> Result<Flags, OutOfMemory>
     requires { All (λ e. e.wish < count) entries.now }
     ensures { IfOk result (HaveEntries entries.now count) }
 {

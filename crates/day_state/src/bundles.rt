@@ -1,14 +1,14 @@
 //! Bundles: the wishes of one candidate in one programme, or in one school.
 ghost use Rattle.std.specs.Prelude.{◌≡◌, ◌<◌, ◌≤◌, ◌+◌, ◌^◌, false, length, nat_lt, slice_index, IfOk, replicate};
 ghost use Rattle.std.specs.Option.{ForSome};
-ghost use Rattle.day_state.specs.Bundles.{AreLaters, all_numbers, bundles_of, number_at, count_of, count_at, has_live, shared_in_all};
+ghost use Rattle.day_state.specs.Bundles.{AreEntriesOf, AreLaters, all_numbers, bundles_of, number_at, count_of, count_at, has_live, shared_in_all};
 ghost use Rattle.admit_core.specs.State.{is_live};
 ghost use Rattle.day_state.specs.Kept.{mark_in, one_if, recount_some};
 
 use crate::bundle_numbers::{Later, number_all, shared_firsts};
 use crate::live_counts::LiveCounts;
 use crate::marks::Marks;
-use crate::numbers::{BundleNumber, Numbers};
+use crate::numbers::{BundleNumber, Numbers, SharedWish};
 use admit_core::{OutOfMemory, Wish};
 use std::alloc::Global;
 use std::rc::Rc;
@@ -96,6 +96,13 @@ impl Bundles {
         ensures { result ≡ number_at self.now.numbers.value wish }
     {
         self.numbers.get(wish)
+    }
+
+    /// The wishes that share their bundles.
+    pub fn shared(&self) -> &[SharedWish]
+        ensures { AreEntriesOf self.now.numbers.value result.now }
+    {
+        self.numbers.shared()
     }
 
     /// Whether a bundle has a live wish, by its number; a wish of it that is not live asks.

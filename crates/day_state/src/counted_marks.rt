@@ -1,5 +1,5 @@
 //! The marks of a dossier's wishes, with the numbers of live candidates.
-ghost use Rattle.std.specs.Prelude.{◌≡◌, ℕ, ◌<◌, ◌≤◌, ◌+◌, ◌-◌, ◌^◌, ◌==◌, ◌&&◌, false, length, slice_index, All, IfOk, replicate, option_map, map};
+ghost use Rattle.std.specs.Prelude.{◌≡◌, ℕ, ◌<◌, ◌≤◌, ◌+◌, ◌-◌, ◌^◌, ◌==◌, ◌&&◌, true, false, length, slice_index, All, IfOk, replicate, option_map, map};
 ghost use Rattle.std.specs.Option.{ForSome};
 ghost use Rattle.std.specs.List.{list_any};
 ghost use Rattle.admit_core.specs.State.{State, is_live, is_waiting, with_mark_at, has_school, holds_seat, holds_bed, seat_holders, bed_holders};
@@ -8,7 +8,8 @@ ghost use Rattle.admit_core.specs.OwnWishes.{own_places};
 ghost use Rattle.admit_core.specs.AutoAnswer.{auto_one, best_live, freed_by};
 ghost use Rattle.day_state.specs.Along.{change_own, changed_by};
 ghost use Rattle.day_state.specs.Best.{best_among};
-ghost use Rattle.day_state.specs.Bundles.{seat_bundle};
+ghost use Rattle.day_state.specs.Bundles.{AreEntriesOf, all_numbers, seat_bundle};
+ghost use Rattle.day_state.specs.declared.bundles.Sites.TheVariants.{Programmes};
 ghost use Rattle.day_state.specs.Kept.{mark_in, lives_at, has_seat_there, has_bed_there, waiting_mark, state_of, IsIndex};
 ghost use Rattle.day_state.specs.Others.{TakesOver};
 
@@ -20,7 +21,7 @@ use crate::mark::{
     lives_in_school, lost, wish_at,
 };
 use crate::marks::Marks;
-use crate::numbers::BundleNumber;
+use crate::numbers::{BundleNumber, SharedWish};
 use admit_core::{Dossier, Freed, Mark, OutOfMemory, Stamp, Wish};
 use flags::Flags;
 use std::alloc::Global;
@@ -213,6 +214,16 @@ impl<'d> CountedMarks<'d> {
         ensures { result ≡ seat_bundle self.now.dossier wish }
     {
         self.in_programmes.number(wish)
+    }
+
+    /// The wishes that share their bundles in their programmes.
+    pub fn shared_in_programmes(&self) -> &[SharedWish]
+        ensures entries { AreEntriesOf (all_numbers Programmes self.now.dossier.wishes) result.now }
+        ensures beside { (k : ℕ) → k < length self.now.marks
+            → is_live (mark_in self.now.marks k) ≡ false → has_seat_there self.now k ≡ true
+            → list_any (λ e. e.wish == k) result.now ≡ true }
+    {
+        self.in_programmes.shared()
     }
 
     /// Whether the candidate of a wish that is not live is live in its programme, by the number of

@@ -1,5 +1,6 @@
 //! The state of a dossier's wishes on a day.
-ghost use Rattle.std.specs.Prelude.{◌≡◌, ℕ, ◌<◌, ◌≤◌, ◌^◌, false, length, map, ◌↔◌, IfOk, IsOk, IsTrue, ◌&&◌, All, pos, slice_index_or};
+ghost use Rattle.std.specs.Prelude.{◌≡◌, ℕ, ◌<◌, ◌≤◌, ◌^◌, ◌==◌, true, false, length, map, ◌↔◌, IfOk, IsOk, IsTrue, ◌&&◌, All, pos, slice_index_or};
+ghost use Rattle.std.specs.List.{list_any};
 ghost use Rattle.admit_core.specs.declared.state.Status.TheVariants.{Offered, Accepted};
 ghost use Rattle.admit_core.specs.declared.dossier.AnswerKind.TheVariants.{Accept, Quit};
 ghost use Rattle.admit_core.specs.State.{State, with_mark_at, holds_seat, holds_bed, seat_holders, bed_holders, is_live, is_waiting, changed_to};
@@ -10,7 +11,8 @@ ghost use Rattle.admit_core.specs.Days.{first_evening};
 ghost use Rattle.admit_core.specs.Validity.{IsTarget};
 ghost use Rattle.admit_core.specs.Lapses.{lapse};
 ghost use Rattle.admit_core.specs.AutoAnswer.{auto_one, freed_by};
-ghost use Rattle.day_state.specs.Bundles.{seat_bundle};
+ghost use Rattle.day_state.specs.Bundles.{AreEntriesOf, all_numbers, seat_bundle};
+ghost use Rattle.day_state.specs.declared.bundles.Sites.TheVariants.{Programmes};
 ghost use Rattle.day_state.specs.Kept.{mark_in, wish_in, has_seat_there, holds_bed_in, IsIndex};
 ghost use Rattle.day_state.specs.Along.{change_along};
 ghost use Rattle.day_state.specs.Lapsing.{lapsed};
@@ -23,7 +25,7 @@ use crate::index::{CandidateIndex, candidate_at};
 use crate::mark::{OwnChange, changed_to, first_mark, kind_fits, lapses};
 use crate::marked::MarkedWishes;
 use crate::marks::Marks;
-use crate::numbers::BundleNumber;
+use crate::numbers::{BundleNumber, SharedWish};
 use admit_core::{Answer, AnswerKind, Dossier, Freed, OutOfMemory, Stamp, Status, Terms};
 use flags::Flags;
 use std::alloc::Global;
@@ -273,6 +275,18 @@ impl<'d> DayState<'d> {
     {
         let _ = &self.live; // learns the invariant
         self.live.seat_bundle(wish)
+    }
+
+    /// The wishes that share their bundles in their programmes. No other wish that is not live has
+    /// a candidate who is live in its programme.
+    pub fn shared_in_programmes(&self) -> &[SharedWish]
+        ensures entries { AreEntriesOf (all_numbers Programmes self.now.dossier.wishes) result.now }
+        ensures beside { (k : ℕ) → k < length self.now.dossier.wishes
+            → is_live (mark_in self.now.marks k) ≡ false → has_seat_there self.now k ≡ true
+            → list_any (λ e. e.wish == k) result.now ≡ true }
+    {
+        let _ = &self.live; // learns the invariant
+        self.live.shared_in_programmes()
     }
 
     /// Whether the candidate of a wish that is not live is live in its programme, by the number of

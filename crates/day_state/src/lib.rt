@@ -26,6 +26,6 @@ pub use laws::candidates_stand_apart;
 pub use mark::{lapses, offer_day};
 pub use marked::MarkedWishes;
 pub use marks::Marks;
-pub use numbers::BundleNumber;
+pub use numbers::{BundleNumber, SharedWish};
 pub use spans::{Span, part};
 pub use vacancies::{beds_left, has_bed, needs_seat, seats_left};

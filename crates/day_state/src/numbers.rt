@@ -1,7 +1,7 @@
 //! The numbers of bundles: two flags a wish, and an entry for each wish that shares a bundle.
 ghost use Rattle.std.specs.Prelude.{◌≡◌, ◌<◌, ◌==◌, ◌/◌, All, length, slice_index, take, IfOk};
 ghost use Rattle.std.specs.List.{find};
-ghost use Rattle.day_state.specs.Bundles.{AreStarts, number_at, count_of, number_found, numbers_with};
+ghost use Rattle.day_state.specs.Bundles.{AreEntriesOf, AreStarts, number_at, count_of, number_found, numbers_with};
 
 use admit_core::OutOfMemory;
 use flags::Flags;
@@ -31,7 +31,7 @@ impl BundleNumber {
 
 /// A wish that shares its bundle with others, and the bundle's number.
 #[derive(Clone, Copy)]
-pub struct Entry {
+pub struct SharedWish {
     pub wish: u32,
     pub number: u32,
 }
@@ -45,7 +45,7 @@ pub struct Numbers {
     sited: Flags,
     /// Whether a wish has an entry.
     several: Flags,
-    entries: Vec<Entry>,
+    entries: Vec<SharedWish>,
     /// For each block a place before which none of its entries stands; without one, the first.
     starts: Vec<usize>,
 }
@@ -65,13 +65,13 @@ impl Drop for Numbers {
 impl Model for Numbers {
     ghost use Rattle.std.specs.Prelude.{List};
     ghost use Rattle.day_state.specs.declared.numbers.BundleNumber.{BundleNumber};
-    ghost use Rattle.day_state.specs.Bundles.{AreStarts, numbers_with};
+    ghost use Rattle.day_state.specs.Bundles.{AreNumbers, numbers_with};
 
     ghost Value = { List BundleNumber };
 
     ghost view = { λ n. numbers_with n.sited n.several n.entries.items };
 
-    ghost invariant = { λ n. AreStarts n.entries.items n.starts.items };
+    ghost invariant = { λ n. AreNumbers n.sited n.several n.entries.items n.starts.items };
 }
 
 impl Numbers {
@@ -81,8 +81,9 @@ impl Numbers {
         alloc: Global,
         sited: Flags,
         several: Flags,
-        entries: Vec<Entry>,
+        entries: Vec<SharedWish>,
     ) -> Result<Numbers, OutOfMemory>
+        requires { AreEntriesOf (numbers_with sited several entries.items) entries.items }
         ensures { IfOk result (λ n. n ≡ numbers_with sited several entries.items) }
     {
         let starts = starts_of(alloc, &entries)?;
@@ -92,6 +93,13 @@ impl Numbers {
             entries,
             starts,
         })
+    }
+
+    /// The wishes that share their bundles.
+    pub fn shared(&self) -> &[SharedWish]
+        ensures { AreEntriesOf self.now result.now }
+    {
+        self.entries.as_slice()
     }
 
     /// The number of a wish.
@@ -113,7 +121,7 @@ impl Numbers {
 
 /// For each block, up to the last one with an entry, a place before which none of its entries
 /// stands. Where the entries ascend by wish, it is that of the first entry that is not before.
-fn starts_of(alloc: Global, entries: &[Entry]) -> Result<Vec<usize>, OutOfMemory>
+fn starts_of(alloc: Global, entries: &[SharedWish]) -> Result<Vec<usize>, OutOfMemory>
     ensures { IfOk result (λ v. AreStarts entries.now v.items) }
 {
     let mut starts = Vec::new(alloc);
@@ -137,7 +145,7 @@ fn start_of(starts: &Vec<usize>, wish: u32) -> usize
 }
 
 /// The number of the bundle of a wish by its entry, which stands at a place or behind it.
-fn number_from(entries: &Vec<Entry>, start: usize, wish: u32) -> u32
+fn number_from(entries: &Vec<SharedWish>, start: usize, wish: u32) -> u32
     requires { All (λ e. e.wish / 64 < wish / 64) (take start entries.now.items) }
     ensures { result ≡ number_found (find (λ e. e.wish == wish) entries.now.items) }
 {

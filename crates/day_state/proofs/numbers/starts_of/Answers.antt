@@ -1,5 +1,5 @@
 use Rattle.std.proofs.Common.{ℕ, get_or, refl, sym, arith, ◌+◌, subst, Vec, Global}
-use Rattle.day_state.specs.declared.numbers.Entry.{Entry}
+use Rattle.day_state.specs.declared.numbers.SharedWish.{SharedWish}
 use Rattle.day_state.proofs.Entries.{AreStartsTo, starts_more, starts_same}
 use Rattle.day_state.proofs.numbers.starts_of.Goals as goal
 use Rattle.day_state.proofs.numbers.starts_of.Goals.{then-len-blocks+in_ok-resize, else-len-blocks}
@@ -9,8 +9,8 @@ loop-place-preserved c =
     let entries = c.args.entries.now in
     let starts = c.loop-place.starts in
     let i = c.loop-place.place in
-    let d : Entry = record { wish = 0; number = 0 } in
-    let e : Entry = get_or entries i d in
+    let d : SharedWish = record { wish = 0; number = 0 } in
+    let e : SharedWish = get_or entries i d in
     let P = λ (v : Vec ℕ Global). AreStartsTo entries v.items (i + 1) in
     elim c.if-len-blocks.branch [
       | then-len-blocks+in_ok-resize w ↦
