@@ -10,7 +10,7 @@ use Rattle.linked_demand.specs.Rungs.{Rung}
 use Rattle.linked_demand.specs.Demand.{is_proposed_at}
 use Rattle.linked_demand.specs.Housed.{AllHoused}
 use Rattle.linked_demand.specs.Links.{LinksRow}
-use Rattle.linked_demand.specs.Rounds.{IsRound}
+use Rattle.linked_demand.specs.Rounds.{HousesMore, SchoolBeds}
 use Rattle.linked_demand.proofs.HousedRows.{left_others}
 
 -- other wishes are left in all schools
@@ -32,18 +32,15 @@ all_left l left other rows free overs housed each all = record {
 }
 
 -- those whose marks were taken away are looked at
-pub record IsWalked (l : LinksRow) (free : List ℕ) (old now : List Bool) (overs overs_now : List (Option ℕ))
-    (housed housed_now : List (List Rung)) : Type 0 where
+pub record IsWalked (l : LinksRow) (free : List ℕ) (old now : List Bool) (beds beds_now : SchoolBeds) : Type 0 where
   pub marks_long : length now ≡ length old
-  pub overs_long : length overs_now ≡ length overs
-  pub housed_long : length housed_now ≡ length housed
-  pub all : (bars : List ℕ) (rows : List (List RowWish)) → IsRound l bars free rows
-      → AllHoused l (λ k. get_or old k false) rows free overs housed
-      → AllHoused l (λ k. get_or now k false) rows free overs_now housed_now
+  pub overs_long : length beds_now.overfilled ≡ length beds.overfilled
+  pub housed_long : length beds_now.housed ≡ length beds.housed
+  pub all : HousesMore l free (λ k. get_or old k false) (λ k. get_or now k false) beds beds_now
 
-pub walk_start : (l : LinksRow) (free : List ℕ) (marks : List Bool) (overs : List (Option ℕ))
-    (housed : List (List Rung)) → IsWalked l free marks marks overs overs housed housed
-walk_start l free marks overs housed = record {
+pub walk_start : (l : LinksRow) (free : List ℕ) (marks : List Bool) (beds : SchoolBeds)
+    → IsWalked l free marks marks beds beds
+walk_start l free marks beds = record {
   marks_long = refl;
   overs_long = refl;
   housed_long = refl;
@@ -59,23 +56,21 @@ taken_away marks w k marked none =
           (sym (get_or-set_other marks w k false false (eqb-false k w other)) ∙ none)
     ]
 
-module _ (l : LinksRow) (free : List ℕ) (old now : List Bool) (overs overs_now : List (Option ℕ))
-    (housed housed_now : List (List Rung)) (so_far : IsWalked l free old now overs overs_now housed housed_now) where
+module _ (l : LinksRow) (free : List ℕ) (old now : List Bool) (beds beds_now : SchoolBeds)
+    (so_far : IsWalked l free old now beds beds_now) where
   pub walk_step : (w : ℕ) → get_or now w false ≡ true → (marks : List Bool) → marks ≡ set now w false
-      → (overs_then : List (Option ℕ)) (housed_then : List (List Rung)) → length overs_then ≡ length overs_now
-      → length housed_then ≡ length housed_now
-      → ((bars : List ℕ) (rows : List (List RowWish)) (left : ℕ → Bool) → IsRound l bars free rows
-      → AllHoused l left rows free overs_now housed_now
-      → AllHoused l (λ k. left k && not (nat_eq k w)) rows free overs_then housed_then)
-      → IsWalked l free old marks overs overs_then housed housed_then
-  walk_step w marked marks marks_are overs_then housed_then overs_long housed_long more = rw marks_are (record {
+      → (beds_then : SchoolBeds) → length beds_then.overfilled ≡ length beds_now.overfilled
+      → length beds_then.housed ≡ length beds_now.housed
+      → ((left : ℕ → Bool) → HousesMore l free left (λ k. left k && not (nat_eq k w)) beds_now beds_then)
+      → IsWalked l free old marks beds beds_then
+  walk_step w marked marks marks_are beds_then overs_long housed_long more = rw marks_are (record {
     marks_long = length-set now w false ∙ so_far.marks_long;
     overs_long = overs_long ∙ so_far.overs_long;
     housed_long = housed_long ∙ so_far.housed_long;
     all = λ bars rows right all.
         all_left l (λ k. get_or now k false && not (nat_eq k w)) (λ k. get_or (set now w false) k false) rows free
-        overs_then housed_then (λ k. taken_away now w k marked)
-        (more bars rows (λ k. get_or now k false) right (so_far.all bars rows right all));
+        beds_then.overfilled beds_then.housed (λ k. taken_away now w k marked)
+        (more (λ k. get_or now k false) bars rows right (so_far.all bars rows right all));
   })
 
   none_set : (n h : ℕ) → get_or (replicate n false) h false ≡ false
@@ -83,10 +78,9 @@ module _ (l : LinksRow) (free : List ℕ) (old now : List Bool) (overs overs_now
   none_set (suc n) zero = refl
   none_set (suc n) (suc h) = none_set n h
 
-  pub walk_end : now ≡ replicate (length now) false → (bars : List ℕ) (rows : List (List RowWish))
-      → IsRound l bars free rows → AllHoused l (λ k. get_or old k false) rows free overs housed
-      → AllHoused l (λ k. false) rows free overs_now housed_now
+  pub walk_end : now ≡ replicate (length now) false
+      → HousesMore l free (λ k. get_or old k false) (λ k. false) beds beds_now
   walk_end none bars rows right all =
-      all_left l (λ k. get_or now k false) (λ k. false) rows free overs_now housed_now
+      all_left l (λ k. get_or now k false) (λ k. false) rows free beds_now.overfilled beds_now.housed
       (λ k unmarked. ap (λ (bs : List Bool). get_or bs k false) none ∙ none_set (length now) k)
       (so_far.all bars rows right all)

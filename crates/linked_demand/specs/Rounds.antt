@@ -35,6 +35,20 @@ pub record IsRound (links : LinksRow) (bars free : List ℕ)
       → IsRow links.state bars h row
   pub items_are : AllItems links.state links.orders rows
 
+-- of each school the first demanded rank that has no bed, where there is one, and the ranks that are
+-- known, with who has a bed
+pub record SchoolBeds : Type 0 where
+  pub overfilled : List (Option ℕ)
+  pub housed : List (List Rung)
+
+-- in any round of these links: where the schools are housed, but for some wishes, they are housed
+-- afterwards, but for those that are left then
+abbrev pub HousesMore : LinksRow → List ℕ → (ℕ → Bool) → (ℕ → Bool) → SchoolBeds → SchoolBeds → Type 0
+HousesMore links free left left_then old new =
+    (bars : List ℕ) (rows : List (List RowWish)) → IsRound links bars free rows
+    → AllHoused links left rows free old.overfilled old.housed
+    → AllHoused links left_then rows free new.overfilled new.housed
+
 -- what holds of the parts of a round: with the answers of the schools, who has a bed in each, and
 -- no mark of a wish
 pub record IsRoundUnder (links : LinksRow) (ceilings bars free : List ℕ)

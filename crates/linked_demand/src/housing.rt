@@ -5,7 +5,7 @@ ghost use Rattle.linked_demand.specs.Demand.{is_proposed_at};
 ghost use Rattle.linked_demand.specs.Housed.{kept, within, AllHoused, AreHoused};
 ghost use Rattle.linked_demand.specs.Lent.{left_of};
 ghost use Rattle.linked_demand.specs.Links.{AllOpenWait};
-ghost use Rattle.linked_demand.specs.Rounds.{IsRound};
+ghost use Rattle.linked_demand.specs.Rounds.{HousesMore, IsRound};
 ghost use Rattle.linked_demand.specs.Boarders.{AreBySchool};
 ghost use Rattle.linked_demand.specs.Rows.{row_in, rows_to, AreEnds, AreOpenFirst};
 
@@ -118,12 +118,10 @@ fn house_wish(
     requires overfilled { length overfilled.old ≡ length links.now.state.dossier.schools }
     ensures as_many { length housed.new.items ≡ length housed.old.items }
     ensures as_long { length overfilled.new ≡ length overfilled.old }
-    ensures all { (bars : List ℕ) (rows : List (List RowWish)) (left : ℕ → Bool)
-        → IsRound links.now bars (left_of links.now.state beds.now) rows
-        → AllHoused links.now left rows (left_of links.now.state beds.now) overfilled.old
-        housed.old.items
-        → AllHoused links.now (λ k. left k && not (nat_eq k wish)) rows
-        (left_of links.now.state beds.now) overfilled.new housed.new.items }
+    ensures all { (left : ℕ → Bool) → HousesMore links.now (left_of links.now.state beds.now)
+        left (λ k. left k && not (nat_eq k wish))
+        (record { overfilled = overfilled.old; housed = housed.old.items })
+        (record { overfilled = overfilled.new; housed = housed.new.items }) }
 {
     if let Some(school) = links.bed_sought(wish) {
         let state = links.state();
@@ -150,12 +148,10 @@ pub fn house_marked(
     requires housed { length housed.old.items ≡ length links.now.state.dossier.schools }
     requires overfilled { length overfilled.old ≡ length links.now.state.dossier.schools }
     ensures unmarked { marked.new ≡ replicate (length marked.old) false }
-    ensures all { (bars : List ℕ) (rows : List (List RowWish))
-        → IsRound links.now bars (left_of links.now.state beds.now) rows
-        → AllHoused links.now (λ k. slice_index_or marked.old k false) rows
-        (left_of links.now.state beds.now) overfilled.old housed.old.items
-        → AllHoused links.now (λ k. false) rows (left_of links.now.state beds.now) overfilled.new
-        housed.new.items }
+    ensures all { HousesMore links.now (left_of links.now.state beds.now)
+        (λ k. slice_index_or marked.old k false) (λ k. false)
+        (record { overfilled = overfilled.old; housed = housed.old.items })
+        (record { overfilled = overfilled.new; housed = housed.new.items }) }
 {
     while let Some(wish) = marked.take() {
         house_wish(links, beds, wish, housed, overfilled);

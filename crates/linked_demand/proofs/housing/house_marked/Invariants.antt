@@ -5,9 +5,9 @@ use Rattle.linked_demand.proofs.housing.house_marked.Given as goal
 
 abbrev pub invariant-loop-wish : goal.invariant-loop-wish
 invariant-loop-wish l =
-    IsWalked l.links (left_of l.links.state l.beds) l.initial.marked l.marked l.initial.overfilled l.overfilled
-    l.initial.housed.items
-    l.housed.items
+    IsWalked l.links (left_of l.links.state l.beds) l.initial.marked l.marked
+    (record { overfilled = l.initial.overfilled; housed = l.initial.housed.items })
+    (record { overfilled = l.overfilled; housed = l.housed.items })
 
 abbrev pub decreases-loop-wish : goal.decreases-loop-wish
 decreases-loop-wish l = count_by (λ b. b) l.marked

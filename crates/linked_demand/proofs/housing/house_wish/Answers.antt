@@ -8,13 +8,13 @@ use Rattle.linked_demand.proofs.HousedWishes.{houses_sought, housed_put, housed_
 use Rattle.linked_demand.proofs.housing.house_wish.Goals as goal
 
 pub returns-in_default-clause-all : goal.returns-in_default-clause-all
-returns-in_default-clause-all c = λ bars rows left right all.
+returns-in_default-clause-all c = λ left bars rows right all.
     nothing_sought c.args.links.now bars (left_of c.args.links.now.state c.args.beds.now) rows left right c.args.wish
     c.requires.wish
     c.args.overfilled.now c.args.housed.now.items all (sym c.bed_sought.ensures.sought ∙ c.in_default.is)
 
 pub returns-then-is_some-clause-all : goal.returns-then-is_some-clause-all
-returns-then-is_some-clause-all c = λ bars rows left right all.
+returns-then-is_some-clause-all c = λ left bars rows right all.
     let h = c.in-Some.school in
     let housed = c.args.housed.now.items in
     let s = c.args.links.now.state in
@@ -40,7 +40,7 @@ returns-then-is_some-clause-all c = λ bars rows left right all.
     c.put.new.self c.put.ensures
 
 pub returns-else-is_some-clause-all : goal.returns-else-is_some-clause-all
-returns-else-is_some-clause-all c = λ bars rows left right all.
+returns-else-is_some-clause-all c = λ left bars rows right all.
     let h = c.in-Some.school in
     let housed = c.args.housed.now.items in
     let s = c.args.links.now.state in
