@@ -14,7 +14,7 @@ use Rattle.admit_core.specs.Lists.{is_among}
 use Rattle.admit_core.specs.State.{State, seats_left}
 use Rattle.day_state.proofs.Along.{among-filter}
 use Rattle.linked_demand.specs.Demand.{is_proposed_at}
-use Rattle.linked_demand.specs.Fronts.{AreFronts, ListsAlso, front_of, listed_open, sure_open, reached_open}
+use Rattle.linked_demand.specs.Fronts.{AreFronts, ListsAlso, front_of, sure_open, reached_open}
 use Rattle.linked_demand.specs.Line.{is_reached}
 use Rattle.linked_demand.specs.Links.{AllOpenWait, LinksRow, WaitsAt, claim_of}
 use Rattle.linked_demand.specs.Opens.{line_of, seat_row, wants_by}
@@ -23,14 +23,6 @@ use Rattle.linked_demand.proofs.Closing.{Closes, programme_within, proposed_at_i
 use Rattle.linked_demand.proofs.Fronting.{any_reached, closed_at, gathered}
 use Rattle.linked_demand.proofs.Leaving.{reached_is, row_there}
 use Rattle.linked_demand.proofs.Reach.{reach_within}
-
-closed_both : (listed flag sure reached : Bool) → flag ≡ false
-    → ((listed && (flag && sure)) || (reached && flag)) ≡ false
-closed_both true false sure true t = refl
-closed_both true false sure false t = refl
-closed_both false false sure true t = refl
-closed_both false false sure false t = refl
-closed_both listed true sure reached t = absurd (false≢true (sym t))
 
 -- no place past a range is one of it
 pub none_past : (q : ℕ → Bool) (k a n : ℕ) → a + n ≤ k → is_among k (filter q (range_with_len a n)) ≡ false
@@ -97,25 +89,23 @@ module _ {s : State} {orders : List CallOrder} {opens : List Bool} {reached : Li
   }
 
   -- the list of those who need no seat, and then of those who are reached
-  module _ (listed now found : List ℕ) (first : ListsAlso (listed_open opens sure listed) [] now)
+  module _ (now found : List ℕ) (first : (k : ℕ) → is_among k now ≡ sure_open opens sure k)
       (second : ListsAlso (reached_open opens claims reached (length claims)) now found) where
-    found_read : (k : ℕ) → listed_open opens sure listed k ≡ sure_open opens sure k
-        → is_among k found
+    found_read : (k : ℕ) → is_among k found
         ≡ (sure_open opens sure k || reached_open opens claims reached (length s.dossier.programmes) k)
-    found_read k same =
+    found_read k =
         second k
-        ∙ ap (λ b. b || reached_open opens claims reached (length claims) k) (first k ∙ same)
+        ∙ ap (λ b. b || reached_open opens claims reached (length claims) k) (first k)
         ∙ ap (λ (n : ℕ). sure_open opens sure k || reached_open opens claims reached n k) many
 
     -- none of them is past the last wish
     found_past : (k : ℕ) → length s.dossier.wishes ≤ k → is_among k found ≡ false
     found_past k past =
-        let closed : get_or opens k false ≡ false =
-        get_or_past opens k false (omega (arith, past, right.links.opens_each)) in
-        second k
-        ∙ ap (λ b. b || reached_open opens claims reached (length claims) k) (first k)
-        ∙ closed_both (is_among k listed) (get_or opens k false) (get_or sure k false)
-        (list_any (λ p. list_any (is_among k) (front_of claims reached p)) (range_with_len 0 (length claims))) closed
+        found_read k
+        ∙ closed_flag (get_or opens k false) (get_or sure k false)
+        (list_any (λ p. list_any (is_among k) (front_of claims reached p))
+        (range_with_len 0 (length s.dossier.programmes)))
+        (get_or_past opens k false (omega (arith, past, right.links.opens_each)))
 
   -- they say who is proposed
   flag_right : ((k : ℕ) → get_or opens k false ≡ true → (w : Wish) × (m : Mark) × WaitsAt s k w m) → (k : ℕ)
@@ -153,14 +143,12 @@ module _ {s : State} {orders : List CallOrder} {opens : List Bool} {reached : Li
       ]
 
   pub found_right : (row : LinksRow) → record { state = s; orders = orders; opens = opens } ≡ row
-      → AllOpenWait row.state row.opens → (listed : List ℕ)
-      → (AllOpenWait s opens → (k : ℕ) → k < length s.dossier.wishes
-      → listed_open opens sure listed k ≡ sure_open opens sure k)
-      → (now found : List ℕ) → ListsAlso (listed_open opens sure listed) [] now
+      → AllOpenWait row.state row.opens → (now found : List ℕ)
+      → (AllOpenWait s opens → (k : ℕ) → is_among k now ≡ sure_open opens sure k)
       → ListsAlso (reached_open opens claims reached (length claims)) now found
       → (k : ℕ) → is_among k found
       ≡ is_among k (filter (is_proposed_at row) (range_with_len 0 (length row.state.dossier.wishes)))
-  found_right row is waits listed same now found first second =
+  found_right row is waits now found first second =
       let P = λ (r : LinksRow). (k : ℕ) → is_among k found
       ≡ is_among k (filter (is_proposed_at r) (range_with_len 0 (length r.state.dossier.wishes))) in
       let Q = λ (r : LinksRow). AllOpenWait r.state r.opens in
@@ -171,10 +159,10 @@ module _ {s : State} {orders : List CallOrder} {opens : List Bool} {reached : Li
       (λ k. elim (cases_Bool (nat_lt k count)) [
         | inl within ↦
             let lt : k < count = ltb-true k count within in
-            found_read listed now found first second k (same here k lt) ∙ flag_right here k lt
+            found_read now found (first here) second k ∙ flag_right here k lt
             ∙ sym (among-filter (is_proposed_at own) k count lt)
         | inr past ↦
             let le : count ≤ k = ltb-false k count past in
-            found_past listed now found first second k le
+            found_past now found (first here) second k le
             ∙ sym (none_past (is_proposed_at own) k 0 count (omega (arith, le)))
       ])

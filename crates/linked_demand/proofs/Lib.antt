@@ -1,8 +1,8 @@
 -- Reading order. Each file says in its first line what it shows.
 -- Tools: Keeping, Passing, Keyed, Dealing, Putting, PlaceOrder, Marked, Counting.
--- The lineup: CalledRows, ClaimSpans, Lining, Doubled, Seating, Lined.
+-- The lineup: CalledRows, ClaimSpans, Lining, Seating, Lined.
 -- Open wishes and flags: Opens, Falling, Closing, Flagging, Waiting, AnyOpen, Boarding, Shutting.
--- How far seats reach: Reach, Leaving; the proposed wishes: Walking, Fronting, Listing, Fronted, MayNeedNoSeat.
+-- How far seats reach: Reach, Leaving; the proposed wishes: Walking, Fronting, Listing, Fronted, NeedNoSeat.
 -- Rows of the schools: RowsTo, RowsRight, FirstBoarders, Items, RowSteps, RowFronts, Demanded, Naming.
 -- A wish is closed: Moving, Ticking, Marking, Staying; the end of a row falls: Cutting, Telling.
 -- A bar falls: OneFall, Answered, RoundFalls, TickLaw, Spending.
@@ -21,7 +21,6 @@ pub mod Counting
 pub mod Cutting
 pub mod Dealing
 pub mod Demanded
-pub mod Doubled
 pub mod Falling
 pub mod FirstBoarders
 pub mod Flagging
@@ -46,7 +45,7 @@ pub mod Listing
 pub mod Lowered
 pub mod Marked
 pub mod Marking
-pub mod MayNeedNoSeat
+pub mod NeedNoSeat
 pub mod Moving
 pub mod Naming
 pub mod OneFall

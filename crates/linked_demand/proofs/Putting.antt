@@ -1,14 +1,15 @@
 -- A number is put at the places of a list, one after another, and what is read from it.
 use Rattle.std.proofs.Common.{ℕ, suc, ◌+◌, ◌≤◌, ◌<◌, ◌≡◌, Bool, true, false, ◌||◌, List, [], ◌∷◌, length, map, take}
 use Rattle.std.proofs.Common.{zero, get_or, inl, inr, refl, sym, ◌∙◌, ap, arith, nat_eq, subst}
-use Rattle.std.specs.Prelude.{◌%◌, nat_le, nat_lt, replicate, if◌then◌else◌}
+use Rattle.std.specs.Prelude.{replicate, if◌then◌else◌}
 use Rattle.std.proofs.Math.ListN.{set}
 use Rattle.std.proofs.lemmas.Bool.{cases_Bool, eqb-true, eqb-false, or_right}
 use Rattle.std.proofs.lemmas.List.{length-map, length-set, get_or-set_same, get_or-set_other, take_all}
 use Rattle.std.proofs.lemmas.Nat.{div-mul-add, mod-mul-add}
 use Rattle.admit_core.specs.Lists.{is_among}
 use Rattle.proposals.proofs.Front.{among_more}
-use Rattle.linked_demand.specs.Notes.{IsNoted, PutAt, called_in, doubled_in, flags_of, note_of, nothing_noted, place_in}
+use Rattle.day_state.specs.Kept.{one_if}
+use Rattle.linked_demand.specs.Notes.{IsNoted, PutAt, called_in, note_of, nothing_noted, place_in}
 use Rattle.linked_demand.specs.Notes.{read_from}
 
 pub put_none : (ks : List ℕ) (x : ℕ) (old : List ℕ) → PutAt (take 0 ks) x old old
@@ -66,39 +67,22 @@ reads_nothing n =
     λ i. record {
       places = all_zero place_in n i;
       called_by_limit = all_zero called_in n i;
-      doubled = all_zero doubled_in n i;
     }
 
-flags_fit : (a b : Bool) → flags_of a b < 4
-flags_fit false false = omega arith
-flags_fit false true = omega arith
-flags_fit true false = omega arith
-flags_fit true true = omega arith
+flag_fits : (a : Bool) → one_if a < 2
+flag_fits false = omega arith
+flag_fits true = omega arith
 
 -- what was put in one number is read from it
-place_read : (p : ℕ) (a b : Bool) → place_in (note_of p a b) ≡ p
-place_read p a b = div-mul-add p 4 (flags_of a b) (flags_fit a b)
+place_read : (p : ℕ) (a : Bool) → place_in (note_of p a) ≡ p
+place_read p a = div-mul-add p 2 (one_if a) (flag_fits a)
 
-flags_read : (p : ℕ) (a b : Bool) → note_of p a b % 4 ≡ flags_of a b
-flags_read p a b = mod-mul-add p 4 (flags_of a b) (flags_fit a b)
-
-called_read : (p : ℕ) (a b : Bool) → called_in (note_of p a b) ≡ a
-called_read p a b = ap (nat_le 2) (flags_read p a b) ∙ own a b
+called_read : (p : ℕ) (a : Bool) → called_in (note_of p a) ≡ a
+called_read p a = ap (λ n. nat_eq n 1) (mod-mul-add p 2 (one_if a) (flag_fits a)) ∙ own a
   where
-    own : (a b : Bool) → nat_le 2 (flags_of a b) ≡ a
-    own false false = refl
-    own false true = refl
-    own true false = refl
-    own true true = refl
-
-doubled_read : (p : ℕ) (a b : Bool) → doubled_in (note_of p a b) ≡ b
-doubled_read p a b = ap (λ n. nat_eq (n % 2) 1) (flags_read p a b) ∙ own a b
-  where
-    own : (a b : Bool) → nat_eq (flags_of a b % 2) 1 ≡ b
-    own false false = refl
-    own false true = refl
-    own true false = refl
-    own true true = refl
+    own : (a : Bool) → nat_eq (one_if a) 1 ≡ a
+    own false = refl
+    own true = refl
 
 -- what is read where a number is put, by what is read from that
 read_put : {X : Type 0} (f : ℕ → X) (ks : List ℕ) (x : ℕ) (own : X) (old new : List ℕ) (k : ℕ) → k < length old
@@ -112,18 +96,15 @@ read_put {X} f ks x own old new k lt put is =
 
 -- a claim is noted
 pub noted_by : (claim : List ℕ) (place : ℕ) (is_called : Bool) (old new : List ℕ)
-    → PutAt claim (note_of place is_called (nat_lt 1 (length claim))) old new
+    → PutAt claim (note_of place is_called) old new
     → IsNoted claim place is_called (read_from old) (read_from new)
 noted_by claim place is_called old new put =
-    let is_doubled = nat_lt 1 (length claim) in
-    let note = note_of place is_called is_doubled in
+    let note = note_of place is_called in
     let many : length (map place_in old) ≡ length old = length-map old place_in in
     record {
       as_long = length-map new place_in ∙ put.as_long ∙ sym many;
       places_are = λ k lt. read_put place_in claim note place old new k (omega (arith, lt, many)) put
-          (place_read place is_called is_doubled);
+          (place_read place is_called);
       called_are = λ k lt. read_put called_in claim note is_called old new k (omega (arith, lt, many)) put
-          (called_read place is_called is_doubled);
-      doubled_are = λ k lt. read_put doubled_in claim note is_doubled old new k (omega (arith, lt, many)) put
-          (doubled_read place is_called is_doubled);
+          (called_read place is_called);
     }

@@ -28,8 +28,7 @@ use Rattle.linked_demand.specs.Called.{order_at}
 use Rattle.linked_demand.specs.Links.{IsPlaceOf, claim_of}
 use Rattle.linked_demand.specs.Notes.{IsNoted, Noted, nothing_noted}
 use Rattle.linked_demand.specs.Opens.{applies_in, line_of}
-use Rattle.linked_demand.specs.Seats.{AreSeated, IsLineup, is_below, is_called_by_limit, is_doubled, is_passed}
-use Rattle.linked_demand.proofs.Doubled.{doubled_claim}
+use Rattle.linked_demand.specs.Seats.{AreSeated, IsLineup, is_below, is_called_by_limit, is_passed}
 use Rattle.linked_demand.proofs.Lining.{among_claim, among_some, applies_claim, le_next, place_at, wish_in_is}
 
 -- what holds where these are done holds where the same are
@@ -41,7 +40,6 @@ seated_by s orders old new notes same are = record {
   one_each = are.one_each;
   place = λ i w at t. are.place i w at (sym (same i w at) ∙ t);
   called = λ i w at. are.called i w at ∙ ap (λ b. b && is_called_by_limit s orders w) (sym (same i w at));
-  doubled = λ i w at. are.doubled i w at ∙ ap (λ b. b && is_doubled s i) (sym (same i w at));
 }
 
 one_more : (below here among one : Bool) → (below || (here && (among || one)))
@@ -135,18 +133,6 @@ module _ (s : DossierRows) (orders : List CallOrder) (n : ℕ) (order : List ℕ
             ∙ sym (le_next (length (before_first (nat_eq w.candidate) (order_of s orders w.programme)))
             (limit_of s w.programme)))
             ∙ ap (λ b. b && is_called_by_limit s orders w) (sym (done_now w));
-        doubled = λ j w at.
-            let own = nat_eq w.candidate x && nat_eq w.programme n in
-            let several = nat_lt 1 (length claim) in
-            noted.doubled_are j (within j w at)
-            ∙ ap (λ b. if b then several else get_or notes.doubled j false) (among_claim s n x j w at)
-            ∙ ap (λ b. if own then several else b) (are.doubled j w at)
-            ∙ flag_more (done w.programme w.candidate) own several (is_doubled s j) (λ t.
-            let parts = and_parts (nat_eq w.candidate x) (nat_eq w.programme n) t in
-            ap (λ p. nat_lt 1 (length (claim_of s p x))) (sym (eqb-true w.programme n parts.1))
-            ∙ ap (λ c. nat_lt 1 (length (claim_of s w.programme c))) (sym (eqb-true w.candidate x parts.0))
-            ∙ sym (doubled_claim s j w at))
-            ∙ ap (λ b. b && is_doubled s j) (sym (done_now w));
       }
     where
       or_left_of : (a b : Bool) → (a || b) ≡ true → b ≡ false → a ≡ true
@@ -199,8 +185,6 @@ built_none s orders claims notes claims_are nothing =
         place = λ i w at t. absurd (omega (arith, ltb-true w.programme 0 t));
         called = λ i w at. get_or-replicate n i false false (slice_get_within s.wishes i w at)
             ∙ sym (ap (λ b. b && is_called_by_limit s orders w) (le-ltb w.programme 0 (omega arith)));
-        doubled = λ i w at. get_or-replicate n i false false (slice_get_within s.wishes i w at)
-            ∙ sym (ap (λ b. b && is_doubled s i) (le-ltb w.programme 0 (omega arith)));
       });
     }
 
@@ -280,7 +264,6 @@ built_all s orders n claims notes n_is programmes built =
         places_are = λ i w at. built.seated.place i w at (done i w at);
         called_are = λ i w at. built.seated.called i w at
             ∙ ap (λ b. b && is_called_by_limit s orders w) (done i w at);
-        doubled_are = λ i w at. built.seated.doubled i w at ∙ ap (λ b. b && is_doubled s i) (done i w at);
       };
     }
 

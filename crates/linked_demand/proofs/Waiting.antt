@@ -27,13 +27,21 @@ use Rattle.day_state.specs.Kept.{mark_in, wish_in, lives_at, has_bed_there, has_
 use Rattle.day_state.proofs.Places.{own_any, candidate_in as candidate_is}
 use Rattle.linked_demand.specs.Links.{WaitsAt, AllOpenWait, NeedsSeatAlone, claim_of}
 use Rattle.linked_demand.specs.Opens.{line_of, opens_of, wanting_at}
-use Rattle.linked_demand.specs.Seats.{is_beside, is_doubled, same_school, may_share_school}
+use Rattle.linked_demand.specs.Seats.{applies_at, same_school, may_share_school}
 use Rattle.linked_demand.specs.Wants.{AllNeedSeatAlone}
 use Rattle.linked_demand.proofs.Closing.{length_entries, wish_of}
 use Rattle.linked_demand.proofs.Falling.{flag_map}
 use Rattle.linked_demand.proofs.RowsRight.{entry_is, entry_there}
 use Rattle.linked_demand.proofs.Lining.{among_claim, wish_in_is}
 use Rattle.linked_demand.proofs.Marked.{marked_within}
+
+-- another wish, of the same programme
+abbrev is_beside : DossierRows → ℕ → ℕ → Bool
+is_beside d k j = not (nat_eq j k) && applies_at d (wish_in d.wishes k).programme j
+
+-- the candidate of the wish at a place has another one in its programme
+abbrev is_doubled : DossierRows → ℕ → Bool
+is_doubled d k = list_any (is_beside d k) (own_places d (candidate_of d k))
 
 waiting_is_not_live : (status : Status) → is_waiting_status status ≡ true → is_live_status status ≡ false
 waiting_is_not_live Waiting t = refl

@@ -3,7 +3,6 @@ pub mod Called
 pub mod CalledWishes
 pub mod Claims
 pub mod Demand
-pub mod Doubts
 pub mod Ends
 pub mod Filled
 pub mod Fronts

@@ -1,20 +1,19 @@
 -- The lineup of a dossier, and what is kept beside it.
-use Rattle.std.specs.Prelude.{◌≡◌, ℕ, Bool, List, map}
+use Rattle.std.specs.Prelude.{◌≡◌, ℕ, Bool, List}
 use Rattle.admit_core.specs.declared.ranking.CallOrder.{CallOrder}
 use Rattle.admit_core.specs.DossierRows.{DossierRows}
 use Rattle.admit_core.specs.State.{State}
 use Rattle.linked_demand.specs.declared.lineup.Lineup.{Lineup}
 use Rattle.linked_demand.specs.Boarders.{AreBySchool}
-use Rattle.linked_demand.specs.Doubts.{doubt_at}
 use Rattle.linked_demand.specs.Opens.{all_sure}
-use Rattle.linked_demand.specs.Seats.{AreNotes, IsLineup, wishes_in_doubt}
+use Rattle.linked_demand.specs.Seats.{AreNotes, IsLineup, limited_wishes}
 use Rattle.linked_demand.specs.Wants.{IsReached}
 
 -- it is right for the dossier and its call orders
 pub record IsLineupOf (d : DossierRows) (orders : List CallOrder) (l : Lineup) : Type 0 where
   pub lines : IsLineup d orders l.claims.items l.notes
   pub boarders : AreBySchool d orders l.boarders.items
-  pub may_need_no_seat : l.may_need_no_seat.items ≡ map (doubt_at d orders) (wishes_in_doubt d orders)
+  pub limited : l.limited.items ≡ limited_wishes d orders
 
 -- for each programme it is known how many places of its line are reached
 abbrev pub IsReachedIn : State → List CallOrder → List Bool → List ℕ → Lineup → Type 0
@@ -22,10 +21,9 @@ IsReachedIn s orders opens reached l =
     IsReached s orders opens reached l.claims.items l.notes.places
     (all_sure s l.notes.called_by_limit)
 
--- and the wishes that may need no seat are listed
+-- and the wishes that a limit calls are listed
 pub record AreKept (s : State) (orders : List CallOrder) (opens : List Bool) (reached : List ℕ)
     (l : Lineup) : Type 0 where
   pub reach : IsReachedIn s orders opens reached l
   pub notes_are : AreNotes s.dossier orders l.notes
-  pub in_doubt_are : l.may_need_no_seat.items
-      ≡ map (doubt_at s.dossier orders) (wishes_in_doubt s.dossier orders)
+  pub limited_are : l.limited.items ≡ limited_wishes s.dossier orders

@@ -1,50 +1,39 @@
 -- What is kept of each wish, by place, and how it is noted.
-use Rattle.std.specs.Prelude.{◌≡◌, ℕ, ◌<◌, ◌+◌, ◌*◌, ◌/◌, ◌%◌, Bool, false, ◌||◌, List, length, map, nat_eq}
-use Rattle.std.specs.Prelude.{nat_le, nat_lt, replicate, slice_index_or, if◌then◌else◌}
+use Rattle.std.specs.Prelude.{◌≡◌, ℕ, ◌<◌, ◌+◌, ◌*◌, ◌/◌, ◌%◌, Bool, false, List, length, map, nat_eq}
+use Rattle.std.specs.Prelude.{replicate, slice_index_or, if◌then◌else◌}
 use Rattle.admit_core.specs.Lists.{is_among}
+use Rattle.day_state.specs.Kept.{one_if}
 
--- where the wish's candidate stands in the line of its programme, whether they are called by its
--- limit, and whether they have another wish there
+-- where the wish's candidate stands in the line of its programme, and whether they are called by its
+-- limit
 pub record Noted : Type 0 where
   pub places : List ℕ
   pub called_by_limit : List Bool
-  pub doubled : List Bool
 
 -- of so many wishes nothing is known yet
 abbrev pub nothing_noted : ℕ → Noted
 nothing_noted n = record {
   places = replicate n 0;
   called_by_limit = replicate n false;
-  doubled = replicate n false;
 }
 
--- two flags in one number
-abbrev pub flags_of : Bool → Bool → ℕ
-flags_of is_called is_doubled =
-    if is_called then (if is_doubled then 3 else 2) else (if is_doubled then 1 else 0)
-
--- a place and two flags in one number
-abbrev pub note_of : ℕ → Bool → Bool → ℕ
-note_of place is_called is_doubled = place * 4 + flags_of is_called is_doubled
+-- a place and a flag in one number
+abbrev pub note_of : ℕ → Bool → ℕ
+note_of place is_called = place * 2 + one_if is_called
 
 -- the place in a number
 abbrev pub place_in : ℕ → ℕ
-place_in n = n / 4
+place_in n = n / 2
 
--- the first flag in it
+-- and the flag in it
 abbrev pub called_in : ℕ → Bool
-called_in n = nat_le 2 (n % 4)
-
--- and the second one
-abbrev pub doubled_in : ℕ → Bool
-doubled_in n = nat_eq (n % 4 % 2) 1
+called_in n = nat_eq (n % 2) 1
 
 -- what is read from one number a wish
 abbrev pub read_from : List ℕ → Noted
 read_from ns = record {
   places = map place_in ns;
   called_by_limit = map called_in ns;
-  doubled = map doubled_in ns;
 }
 
 -- some places of a list hold a number, and the others what they held
@@ -53,17 +42,11 @@ pub record PutAt (ks : List ℕ) (x : ℕ) (old new : List ℕ) : Type 0 where
   pub each : (k : ℕ) → k < length old
       → slice_index_or new k 0 ≡ (if is_among k ks then x else slice_index_or old k 0)
 
--- the wishes of a claim have this place, and are called by the limit where that is so; they are
--- doubled where they are several. Of others is known what was known
+-- the wishes of a claim have this place, and are called by the limit where that is so. Of others is
+-- known what was known
 pub record IsNoted (claim : List ℕ) (place : ℕ) (is_called : Bool) (old new : Noted) : Type 0 where
   pub as_long : length new.places ≡ length old.places
   pub places_are : (k : ℕ) → k < length old.places → slice_index_or new.places k 0
       ≡ (if is_among k claim then place else slice_index_or old.places k 0)
   pub called_are : (k : ℕ) → k < length old.places → slice_index_or new.called_by_limit k false
       ≡ (if is_among k claim then is_called else slice_index_or old.called_by_limit k false)
-  pub doubled_are : (k : ℕ) → k < length old.places → slice_index_or new.doubled k false
-      ≡ (if is_among k claim then nat_lt 1 (length claim) else slice_index_or old.doubled k false)
-
--- the wish at a place is called by the limit or doubled
-abbrev pub is_in_doubt : Noted → ℕ → Bool
-is_in_doubt n k = slice_index_or n.called_by_limit k false || slice_index_or n.doubled k false

@@ -26,14 +26,6 @@ boards_at d k = is_some (wish_in d.wishes k).school
 abbrev pub boarders_of : DossierRows → List ℕ
 boarders_of d = filter (boards_at d) (range_with_len 0 (length d.wishes))
 
--- another wish, of the same programme
-abbrev pub is_beside : DossierRows → ℕ → ℕ → Bool
-is_beside d k j = not (nat_eq j k) && applies_at d (wish_in d.wishes k).programme j
-
--- the candidate of the wish at a place has another one in its programme
-abbrev pub is_doubled : DossierRows → ℕ → Bool
-is_doubled d k = list_any (is_beside d k) (own_places d (candidate_of d k))
-
 -- two wishes have one school
 abbrev pub same_school : Option ℕ → Option ℕ → Bool
 same_school None o = false
@@ -54,18 +46,13 @@ is_called_by_limit d orders w = nat_le
     (length (before_first (nat_eq w.candidate) (order_of d orders w.programme)) + 1)
     (limit_of d w.programme)
 
--- the candidate of the wish at a place is called by the limit, or has another one in the programme,
--- which may be live: any other wish that waits needs a seat
-abbrev pub may_need_no_seat : DossierRows → List CallOrder → ℕ → Bool
-may_need_no_seat d orders k =
-    is_called_by_limit d orders (wish_in d.wishes k) || is_doubled d k
-
--- the wishes that may need no seat while they wait, by place
-abbrev pub wishes_in_doubt : DossierRows → List CallOrder → List ℕ
-wishes_in_doubt d orders = filter (may_need_no_seat d orders) (range_with_len 0 (length d.wishes))
+-- the wishes that are called by the limits of their programmes, by place
+abbrev pub limited_wishes : DossierRows → List CallOrder → List ℕ
+limited_wishes d orders =
+    filter (λ k. is_called_by_limit d orders (wish_in d.wishes k)) (range_with_len 0 (length d.wishes))
 
 -- the wishes of the programmes and candidates that are done have their place, and only they are
--- noted as called by the limit or as doubled
+-- noted as called by the limit
 pub record AreSeated (d : DossierRows) (orders : List CallOrder) (is_done : ℕ → ℕ → Bool)
     (notes : Noted) : Type 0 where
   pub one_each : length notes.places ≡ length d.wishes
@@ -75,9 +62,6 @@ pub record AreSeated (d : DossierRows) (orders : List CallOrder) (is_done : ℕ 
   pub called : (i : ℕ) (w : Wish) → slice_get d.wishes i ≡ Some w
       → slice_index_or notes.called_by_limit i false
       ≡ (is_done w.programme w.candidate && is_called_by_limit d orders w)
-  pub doubled : (i : ℕ) (w : Wish) → slice_get d.wishes i ≡ Some w
-      → slice_index_or notes.doubled i false
-      ≡ (is_done w.programme w.candidate && is_doubled d i)
 
 -- the programmes below one are done
 abbrev pub is_below : ℕ → ℕ → ℕ → Bool
@@ -87,16 +71,14 @@ is_below n p c = nat_lt p n
 abbrev pub is_passed : ℕ → List ℕ → ℕ → ℕ → Bool
 is_passed n front p c = nat_lt p n || (nat_eq p n && is_among c front)
 
--- for each wish it is known where its candidate stands in the line of its programme, whether they
--- are called by its limit, and whether they have another one there
+-- for each wish it is known where its candidate stands in the line of its programme, and whether they
+-- are called by its limit
 pub record AreNotes (d : DossierRows) (orders : List CallOrder) (notes : Noted) : Type 0 where
   pub one_each : length notes.places ≡ length d.wishes
   pub places_are : (i : ℕ) (w : Wish) → slice_get d.wishes i ≡ Some w
       → IsSeatPlace d orders w (slice_index notes.places i)
   pub called_are : (i : ℕ) (w : Wish) → slice_get d.wishes i ≡ Some w
       → slice_index_or notes.called_by_limit i false ≡ is_called_by_limit d orders w
-  pub doubled_are : (i : ℕ) (w : Wish) → slice_get d.wishes i ≡ Some w
-      → slice_index_or notes.doubled i false ≡ is_doubled d i
 
 -- for each programme the claims of those who wish for it, in call order; and where each wish stands
 -- in them

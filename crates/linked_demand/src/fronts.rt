@@ -1,64 +1,56 @@
 //! The proposed wishes as a list: of the open wishes those that need no seat, and those in the
 //! claims that the seats reach.
-ghost use Rattle.std.specs.Prelude.{◌≡◌, ◌≤◌, ◌&&◌, ◌||◌, ◌++◌, false, filter, length, take, slice_index_or, All, OnOk};
+ghost use Rattle.std.specs.Prelude.{◌≡◌, ◌≤◌, ◌&&◌, false, length, take, slice_index_or, OnOk};
 ghost use Rattle.admit_core.specs.Lists.{is_among};
-ghost use Rattle.admit_core.specs.State.{is_live};
-ghost use Rattle.day_state.specs.Kept.{has_seat_there, mark_in};
-ghost use Rattle.linked_demand.specs.Doubts.{IsDoubt, is_sure_open, wishes_of};
-ghost use Rattle.linked_demand.specs.Fronts.{claimed_open, reached_open, ListsAlso, AreFronts};
+ghost use Rattle.day_state.specs.declared.numbers.BundleNumber.TheVariants.{Shared};
+ghost use Rattle.day_state.specs.Bundles.{seat_bundle};
+ghost use Rattle.linked_demand.specs.Fronts.{claimed_open, open_beside, reached_open, ListsAlso, AreFronts};
 ghost use Rattle.linked_demand.specs.Links.{AllOpenWait};
 
 use crate::claims::Claims;
-use crate::doubts::InDoubt;
 use crate::open_wishes::OpenWishes;
 use admit_core::OutOfMemory;
-use day_state::DayState;
+use day_state::{BundleNumber, DayState, SharedWish};
 
-/// Whether a wish in doubt that is not live needs no seat.
-fn is_sure(state: &DayState<'_>, doubt: InDoubt) -> bool
-    requires { IsDoubt state.now.dossier doubt }
-    ensures { is_live (mark_in state.now.marks doubt.wish) ≡ false
-        → result ≡ (doubt.called_by_limit || has_seat_there state.now doubt.wish) }
-{
-    doubt.called_by_limit || state.is_live_beside(doubt.bundle)
-}
-
-/// Whether a wish in doubt is open and needs no seat. Mostly it needs one, and this is asked first:
-/// nothing is read by wish for it.
-fn is_sure_open(state: &DayState<'_>, opens: &OpenWishes, doubt: InDoubt) -> bool
+/// Whether a wish that shares its bundle is open, and its candidate is live in its programme.
+/// Mostly they are not, and this is asked first: nothing is read by wish for it.
+fn is_open_beside(state: &DayState<'_>, opens: &OpenWishes, shared: SharedWish) -> bool
     requires waits { AllOpenWait state.now opens.now }
-    requires doubt { IsDoubt state.now.dossier doubt }
-    ensures { result ≡ is_sure_open state.now opens.now doubt }
+    requires bundle { seat_bundle state.now.dossier shared.wish ≡ Shared shared.number }
+    ensures { result ≡ open_beside state.now opens.now shared.wish }
 {
-    is_sure(state, doubt) && opens.get(doubt.wish)
+    state.is_live_beside(BundleNumber::Shared(shared.number)) && opens.get(shared.wish)
 }
 
-/// Lists those of the wishes in doubt that are open and need no seat.
-pub fn list_sure(
+/// Lists the open wishes whose candidates are live in their programmes. Each shares its bundle.
+pub fn list_beside(
     state: &DayState<'_>,
     opens: &OpenWishes,
-    doubts: &[InDoubt],
     found: &mut Vec<u32>,
 ) -> Result<(), OutOfMemory>
-    requires waits { AllOpenWait state.now opens.now }
-    requires doubts { All (IsDoubt state.now.dossier) doubts.now }
-    ensures { OnOk result (found.new.items ≡ found.old.items
-        ++ wishes_of (filter (is_sure_open state.now opens.now) doubts.now)) }
+    requires { AllOpenWait state.now opens.now }
+    ensures { OnOk result (ListsAlso (open_beside state.now opens.now)
+        found.old.items found.new.items) }
 {
-    for doubt in doubts {
-        if is_sure_open(state, opens, *doubt) {
-            found.push(doubt.wish)?;
+    for shared in state.shared_in_programmes() {
+        if is_open_beside(state, opens, *shared) {
+            found.push(shared.wish)?;
         }
     }
     Ok(())
 }
 
-/// Lists those wishes of a claim that are open.
-fn list_claim(opens: &OpenWishes, claim: &[u32], found: &mut Vec<u32>) -> Result<(), OutOfMemory>
-    ensures { OnOk result (ListsAlso (λ k. is_among k claim.now && slice_index_or opens.now k false)
+/// Lists those of some wishes that are open.
+pub fn list_open(
+    opens: &OpenWishes,
+    wishes: &[u32],
+    found: &mut Vec<u32>,
+) -> Result<(), OutOfMemory>
+    ensures { OnOk result (ListsAlso
+        (λ k. is_among k wishes.now && slice_index_or opens.now k false)
         found.old.items found.new.items) }
 {
-    for wish in claim {
+    for wish in wishes {
         if opens.get(*wish) {
             found.push(*wish)?;
         }
@@ -78,7 +70,7 @@ fn list_front(
         found.old.items found.new.items) }
 {
     for place in 0..reached {
-        list_claim(opens, claims.at(place), found)?;
+        list_open(opens, claims.at(place), found)?;
     }
     Ok(())
 }

@@ -1,43 +1,29 @@
-//! The wishes that may need no seat while they wait.
-ghost use Rattle.std.specs.Prelude.{◌≡◌, map, IfOk};
-ghost use Rattle.linked_demand.specs.Doubts.{doubt_at};
-ghost use Rattle.linked_demand.specs.Seats.{AreNotes, wishes_in_doubt};
+//! The wishes that a limit calls.
+ghost use Rattle.std.specs.Prelude.{◌≡◌, IfOk};
+ghost use Rattle.linked_demand.specs.Seats.{AreNotes, limited_wishes};
 
 use crate::notes::Notes;
 use crate::wishes::wish_count;
 use admit_core::{CallOrders, OutOfMemory};
-use day_state::{BundleNumber, DayState};
+use day_state::DayState;
 use std::alloc::Global;
 
-/// A wish that may need no seat while it waits: whether it is called by the limit of its programme,
-/// and the number of its bundle there.
-#[derive(Clone, Copy)]
-pub struct InDoubt {
-    pub wish: u32,
-    pub bundle: BundleNumber,
-    pub called_by_limit: bool,
-}
-
-/// All such wishes, by place.
-pub fn wishes_in_doubt(
+/// The wishes that are called by the limits of their programmes, by place.
+pub fn limited_wishes(
     alloc: Global,
     state: &DayState<'_>,
     orders: &CallOrders,
     notes: &Notes,
-) -> Result<Vec<InDoubt>, OutOfMemory>
+) -> Result<Vec<u32>, OutOfMemory>
     requires { AreNotes state.now.dossier orders.now.orders notes.now }
-    ensures { IfOk result (λ v. v.items ≡ map (doubt_at state.now.dossier orders.now.orders)
-        (wishes_in_doubt state.now.dossier orders.now.orders)) }
+    ensures { IfOk result (λ v. v.items
+        ≡ limited_wishes state.now.dossier orders.now.orders) }
 {
-    let mut doubts = Vec::new(alloc);
+    let mut limited = Vec::new(alloc);
     for wish in 0..wish_count(state) {
-        if notes.is_in_doubt(wish) {
-            doubts.push(InDoubt {
-                wish,
-                bundle: state.seat_bundle(wish),
-                called_by_limit: notes.is_called_by_limit(wish),
-            })?;
+        if notes.is_called_by_limit(wish) {
+            limited.push(wish)?;
         }
     }
-    Ok(doubts)
+    Ok(limited)
 }

@@ -14,7 +14,7 @@ ghost use Rattle.linked_demand.specs.Seats.{AreSeated, IsLineup, is_below, is_pa
 use crate::boarders::boarders_by_school;
 use crate::calling::{CalledWish, called_by_programme};
 use crate::claims::Claims;
-use crate::doubts::{InDoubt, wishes_in_doubt};
+use crate::limited::limited_wishes;
 use crate::notes::Notes;
 use crate::rows::RowWish;
 use crate::wishes::wish_count;
@@ -120,13 +120,12 @@ fn claims_of(
 }
 
 /// For each programme those who wish for it, in call order, with their claims; what is known of
-/// each wish from them; the boarders of each school by rank, and the wishes that may need no seat
-/// while they wait.
+/// each wish from them; the boarders of each school by rank, and the wishes that a limit calls.
 pub struct Lineup {
     pub(crate) claims: Vec<Claims>,
     pub(crate) notes: Notes,
     pub(crate) boarders: Vec<Vec<RowWish>>,
-    pub(crate) may_need_no_seat: Vec<InDoubt>,
+    pub(crate) limited: Vec<u32>,
 }
 
 // Not derived: so a lineup is dropped in one step where it is held, and not by each list.
@@ -136,7 +135,7 @@ impl Drop for Lineup {
             claims: _,
             notes: _,
             boarders: _,
-            may_need_no_seat: _,
+            limited: _,
         } = self;
     }
 }
@@ -156,12 +155,12 @@ impl Lineup {
         let mut notes = Notes::none(alloc, wish_count(state))?;
         let claims = claims_of(alloc, state, orders, &mut notes)?;
         let boarders = boarders_by_school(alloc, state, orders, &notes)?;
-        let may_need_no_seat = wishes_in_doubt(alloc, state, orders, &notes)?;
+        let limited = limited_wishes(alloc, state, orders, &notes)?;
         Ok(Lineup {
             claims,
             notes,
             boarders,
-            may_need_no_seat,
+            limited,
         })
     }
 }

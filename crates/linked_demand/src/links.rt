@@ -18,7 +18,7 @@ ghost use Rattle.linked_demand.specs.Rows.{needs_bed, row_item, IsItem, IsOpenIt
 use crate::closed::leaves_by_closing;
 use crate::cursors::Cursors;
 use crate::fresh::note_fresh;
-use crate::fronts::{list_fronts, list_sure};
+use crate::fronts::{list_beside, list_fronts, list_open};
 use crate::line::{fresh_claim, is_reached, reached_after};
 use crate::lineup::Lineup;
 use crate::marks::Marks;
@@ -124,7 +124,7 @@ impl<'a, 'd> SeatLinks<'a, 'd> {
         let _ = state.marks(); // one for each wish
         let opens = open_under(alloc, state, orders, &lineup.boarders, bars)?;
         let reached = reached_of(alloc, state, orders, lineup, &opens)?;
-        let claims = lineup.may_need_no_seat.len() / 2; // each has two of these wishes or more
+        let claims = state.shared_in_programmes().len() / 2; // each has two of these or more
         let cursors = Cursors::new(alloc, claims)?;
         Ok(SeatLinks {
             state,
@@ -256,12 +256,8 @@ impl<'a, 'd> SeatLinks<'a, 'd> {
     {
         let lineup = self.lineup;
         let mut found = Vec::new(alloc);
-        list_sure(
-            self.state,
-            &self.opens,
-            &lineup.may_need_no_seat,
-            &mut found,
-        )?;
+        list_open(&self.opens, &lineup.limited, &mut found)?;
+        list_beside(self.state, &self.opens, &mut found)?;
         list_fronts(&self.opens, &lineup.claims, &self.reached, &mut found)?;
         found.sort_unstable();
         found.dedup();

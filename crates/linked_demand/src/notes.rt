@@ -1,14 +1,13 @@
 //! What is known of each wish from the line of its programme.
 ghost use Rattle.std.specs.Prelude.{◌≡◌, ◌<◌, ◌^◌, false, length, replicate, slice_index_or, All, IfOk};
-ghost use Rattle.linked_demand.specs.Notes.{IsNoted, PutAt, flags_of, is_in_doubt, note_of, nothing_noted};
+ghost use Rattle.linked_demand.specs.Notes.{IsNoted, PutAt, note_of, nothing_noted};
 
 use admit_core::OutOfMemory;
 use std::alloc::Global;
 use std::marker::Model;
 
 /// What is known of each wish, by place, in one number: the place of its candidate in the line of
-/// its programme, whether they are called by the programme's limit, and whether they have another
-/// wish there.
+/// its programme, and whether they are called by the programme's limit.
 pub struct Notes {
     notes: Vec<u32>,
 }
@@ -36,24 +35,12 @@ fn zeros(alloc: Global, count: u32) -> Result<Vec<u32>, OutOfMemory>
     Ok(zeros)
 }
 
-/// Two flags in one number.
-fn flags_of(is_called: bool, is_doubled: bool) -> u32
-    ensures flags { result ≡ flags_of is_called is_doubled }
-    ensures few { result < 4 }
-{
-    if is_called {
-        if is_doubled { 3 } else { 2 }
-    } else {
-        if is_doubled { 1 } else { 0 }
-    }
-}
-
-/// A place with two flags in one number.
-fn note_of(place: u32, is_called: bool, is_doubled: bool) -> u32
+/// A place with a flag in one number.
+fn note_of(place: u32, is_called: bool) -> u32
     requires { place < 2 ^ 30 }
-    ensures { result ≡ note_of place is_called is_doubled }
+    ensures { result ≡ note_of place is_called }
 {
-    place * 4 + flags_of(is_called, is_doubled)
+    place * 2 + u32::from(is_called)
 }
 
 /// The number that is kept of a wish, which is 0 where there is no such wish.
@@ -92,11 +79,7 @@ impl Notes {
         requires fits { place < 2 ^ 30 }
         ensures { IsNoted claim.now place is_called self.old self.new }
     {
-        put_at(
-            &mut self.notes,
-            claim,
-            note_of(place, is_called, claim.len() > 1),
-        );
+        put_at(&mut self.notes, claim, note_of(place, is_called));
     }
 
     /// The place of a wish's candidate in the line of its programme.
@@ -104,28 +87,13 @@ impl Notes {
         requires { wish < length self.now.places }
         ensures { result ≡ slice_index_or self.now.places wish 0 }
     {
-        note_at(&self.notes, wish) / 4
+        note_at(&self.notes, wish) / 2
     }
 
     /// Whether a wish's candidate is called by the limit of its programme.
     pub fn is_called_by_limit(&self, wish: u32) -> bool
         ensures { result ≡ slice_index_or self.now.called_by_limit wish false }
     {
-        note_at(&self.notes, wish) % 4 >= 2
-    }
-
-    /// Whether a wish's candidate has another one in its programme.
-    fn is_doubled(&self, wish: u32) -> bool
-        ensures { result ≡ slice_index_or self.now.doubled wish false }
-    {
-        note_at(&self.notes, wish) % 4 % 2 == 1
-    }
-
-    /// Whether a wish may need no seat while it waits: it is called by a limit, or its candidate
-    /// has another one in the programme, which may be live.
-    pub fn is_in_doubt(&self, wish: u32) -> bool
-        ensures { result ≡ is_in_doubt self.now wish }
-    {
-        self.is_called_by_limit(wish) || self.is_doubled(wish)
+        note_at(&self.notes, wish) % 2 == 1
     }
 }

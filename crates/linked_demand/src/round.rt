@@ -177,7 +177,8 @@ impl<'a, 'd> LinkedRound<'a, 'd> {
     }
 
     /// The places of the wishes that are proposed at the present bars, ascending. It goes along the
-    /// claims that the seats reach, and along the wishes that may need no seat.
+    /// claims that the seats reach, and along the wishes that may need none: those that a limit
+    /// calls, and those that share their bundles.
     pub fn proposed(&self, alloc: Global) -> Result<Vec<u32>, OutOfMemory>
         ensures places { IfOk result (λ v. v.items ≡ proposed self.now.state self.now.orders
             self.now.bars) }

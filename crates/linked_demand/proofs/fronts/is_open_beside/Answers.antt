@@ -1,20 +1,20 @@
-use Rattle.std.proofs.Common.{◌||◌, true, false, sym, ◌∙◌}
+use Rattle.std.proofs.Common.{true, false, sym, ◌∙◌}
 use Rattle.day_state.specs.Kept.{has_seat_there}
-use Rattle.linked_demand.proofs.MayNeedNoSeat.{sure_where_open}
-use Rattle.linked_demand.proofs.fronts.is_sure_open.Goals as goal
+use Rattle.linked_demand.proofs.NeedNoSeat.{sure_where_open}
+use Rattle.linked_demand.proofs.fronts.is_open_beside.Goals as goal
 
-pub returns-then-is_sure : goal.returns-then-is_sure
-returns-then-is_sure c =
+pub returns-then-is_live_beside : goal.returns-then-is_live_beside
+returns-then-is_live_beside c =
     let s = c.args.state.now in
-    let x = c.args.doubt in
+    let k = c.args.shared.wish in
     c.get.ensures
-    ∙ sure_where_open s c.args.opens.now c.requires.waits x.wish (x.called_by_limit || has_seat_there s x.wish) true
-    (λ none. sym c.if-is_sure.true ∙ c.is_sure.ensures none)
+    ∙ sure_where_open s c.args.opens.now c.requires.waits k (has_seat_there s k) true
+    (λ lt none. sym c.if-is_live_beside.true ∙ c.is_live_beside.ensures k lt (sym c.requires.bundle) none)
 
-pub returns-else-is_sure : goal.returns-else-is_sure
-returns-else-is_sure c =
+pub returns-else-is_live_beside : goal.returns-else-is_live_beside
+returns-else-is_live_beside c =
     let s = c.args.state.now in
-    let x = c.args.doubt in
-    c.if-is_sure.false
-    ∙ sure_where_open s c.args.opens.now c.requires.waits x.wish (x.called_by_limit || has_seat_there s x.wish) false
-    (λ none. sym c.if-is_sure.false ∙ c.is_sure.ensures none)
+    let k = c.args.shared.wish in
+    c.if-is_live_beside.false
+    ∙ sure_where_open s c.args.opens.now c.requires.waits k (has_seat_there s k) false
+    (λ lt none. sym c.if-is_live_beside.false ∙ c.is_live_beside.ensures k lt (sym c.requires.bundle) none)

@@ -1,8 +1,9 @@
-use Rattle.std.proofs.Common.{◌≡◌, ◌++◌, filter, take}
-use Rattle.linked_demand.specs.Doubts.{is_sure_open, wishes_of}
-use Rattle.linked_demand.proofs.fronts.list_sure.Given as goal
+use Rattle.linked_demand.specs.Fronts.{ListsAlso, open_beside}
+use Rattle.linked_demand.proofs.Listing.{passing}
+use Rattle.linked_demand.proofs.NeedNoSeat.{places_of}
+use Rattle.linked_demand.proofs.fronts.list_beside.Given as goal
 
-abbrev pub invariant-loop-doubt : goal.invariant-loop-doubt
-invariant-loop-doubt l =
-    l.found.items
-    ≡ l.fn.found.items ++ wishes_of (filter (is_sure_open l.state l.opens) (take l.doubt-index l.doubts))
+abbrev pub invariant-loop-shared : goal.invariant-loop-shared
+invariant-loop-shared l =
+    ListsAlso (passing (open_beside l.state l.opens) (places_of l.shared-items) l.shared-index)
+    l.fn.found.items l.found.items

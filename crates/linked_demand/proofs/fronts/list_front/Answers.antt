@@ -22,8 +22,8 @@ loop-place-preserved c =
     ) in
     lists_then (claimed_open opens (take i claims)) (λ k. is_among k c.at.result.now && get_or opens k false)
     (claimed_open opens (take (i + 1) claims))
-    c.args.found.now.items c.loop-place.found.items c.list_claim.new.found.items c.loop-place.invariant
-    c.in_ok-list_claim.ensures
+    c.args.found.now.items c.loop-place.found.items c.list_open.new.found.items c.loop-place.invariant
+    c.in_ok-list_open.ensures
     (λ k. claimed_more opens claims i c.at.result.now k lt c.at.ensures)
 
 pub returns : goal.returns

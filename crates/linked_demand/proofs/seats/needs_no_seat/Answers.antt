@@ -1,5 +1,5 @@
 use Rattle.std.proofs.Common.{sym, ◌∙◌}
-use Rattle.linked_demand.proofs.MayNeedNoSeat.{sure_read}
+use Rattle.linked_demand.proofs.NeedNoSeat.{sure_read}
 use Rattle.linked_demand.proofs.seats.needs_no_seat.Goals as goal
 
 pub returns : goal.returns

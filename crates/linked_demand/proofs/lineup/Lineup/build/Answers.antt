@@ -5,5 +5,5 @@ returns c =
     record {
       lines = c.in_ok-claims.ensures;
       boarders = c.in_ok-boarders.ensures;
-      may_need_no_seat = c.in_ok-may_need_no_seat.ensures;
+      limited = c.in_ok-limited.ensures;
     }

@@ -13,5 +13,5 @@ pub invariant_of-result : goal.invariant_of-result
 invariant_of-result c = record {
   reach = c.in_ok-reached.ensures;
   notes_are = c.requires.lineup.lines.notes_are;
-  in_doubt_are = c.requires.lineup.may_need_no_seat;
+  limited_are = c.requires.lineup.limited;
 }

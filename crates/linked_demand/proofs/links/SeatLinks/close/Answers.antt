@@ -116,7 +116,7 @@ invariant_of-self g c =
     rw opened (record {
       reach = reach_put k r.reached.items c.self.invariant.reach.reached_are now moved.reach;
       notes_are = c.self.invariant.notes_are;
-      in_doubt_are = c.self.invariant.in_doubt_are;
+      limited_are = c.self.invariant.limited_are;
     })
 
 pub returns : goal.returns
