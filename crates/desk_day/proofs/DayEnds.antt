@@ -1,14 +1,16 @@
 -- A day on a desk from the day that is played on its states.
-use Rattle.std.proofs.Common.{ℕ, ◌≡◌, List, ap, sym, subst, Option, Result, Ok, Err, IfErr}
+use Rattle.std.proofs.Common.{ℕ, ◌≡◌, Bool, List, ap, sym, subst, Option, Result, Ok, Err}
 use Rattle.std.specs.Prelude.{IsErrAnd}
 use Rattle.admit_core.specs.declared.ranking.CallOrder.{CallOrder}
 use Rattle.admit_core.specs.declared.records.DayRecord.{DayRecord}
 use Rattle.admit_core.specs.declared.records.Terms.{Terms}
 use Rattle.admit_core.specs.State.{State}
 use Rattle.admit_core.specs.Days.{morning, unfit_on}
+use Rattle.round.specs.KeptFalls.{IsKeptOf}
 use Rattle.desk_day.specs.AnswersOn.{IsUnfitOf}
 use Rattle.desk_day.specs.DayPasses.{TellsOfPasses}
 use Rattle.desk_day.specs.DeskStates.{DeskStates}
+use Rattle.desk_day.specs.KeptDays.{kept_result}
 use Rattle.desk_day.specs.RunDay.{Moment, IsDayDone, EndsDay, KeepsOpening, TellsNoneUnfit}
 use Rattle.desk_day.specs.Running.{IsUndone, RunningStates, moment_on}
 use Rattle.desk_day.proofs.PassesSoFar.{tells_still}
@@ -16,12 +18,12 @@ use Rattle.desk_day.proofs.ToldPasses.{told_nothing}
 use Rattle.desk_day.specs.declared.refusal.DayRefusal.{DayRefusal}
 use Rattle.desk_day.specs.declared.refusal.DayRefusal.TheVariants as refusals
 
--- where memory ran out, what is said of that
-pub ran_out : {T : Type 0} (P : DayRefusal → Type 0) (r : Result T DayRefusal)
-    → IsErrAnd r (λ e. e ≡ refusals.OutOfMemory)
-    → P refusals.OutOfMemory → IfErr r P
-ran_out P (Ok x) is p = tt
-ran_out P (Err e) is p = subst P (sym is) p
+-- a day that is handed on as refused is kept as refused
+pub kept_refused : {Holds : Result DayRecord DayRefusal → Type 0} (keeps : Bool) (result : Result DayRecord DayRefusal)
+    (refusal : DayRefusal) → IsErrAnd result (λ e. e ≡ refusal) → Holds (Err refusal)
+    → IsKeptOf (kept_result keeps) Holds result
+kept_refused keeps (Ok day) refusal is holds = absurd is
+kept_refused keeps (Err e) refusal is holds = (Err refusal, holds, ap Err is)
 
 -- nothing was told, and the opening is as it was
 pub keeps_still : (before after : State) → after ≡ before → (refusal : DayRefusal) → KeepsOpening before after refusal
@@ -33,21 +35,20 @@ tells_none before after same (refusals.Unfit refusal) = same
 tells_none before after same refusals.OutOfMemory = tells_still before after same
 
 -- a day whose answers were not all done has made no pass
-pub not_begun : {T : Type 0} (terms : Option Terms) (orders : List CallOrder) (ceilings : List ℕ) (day : ℕ)
-    (before after : Moment) (r : Result T DayRefusal) (refusal : DayRefusal) → IsErrAnd r (λ e. e ≡ refusal)
+pub not_begun : (terms : Option Terms) (orders : List CallOrder) (ceilings : List ℕ) (day : ℕ)
+    (before after : Moment) (refusal : DayRefusal)
     → IsUnfitOf before.desk.present.dossier day (unfit_on terms day before.desk.present) refusal
     → after.desk.opening ≡ before.desk.opening → after.told ≡ before.told
-    → IfErr r (IsUndone terms orders ceilings day before after)
-not_begun terms orders ceilings day before after (Ok x) refusal is unfit opening told = tt
-not_begun terms orders ceilings day before after (Err e) refusal is unfit opening told =
+    → IsUndone terms orders ceilings day before after refusal
+not_begun terms orders ceilings day before after refusal unfit opening told =
     let nothing = told_nothing orders ceilings day before.choice (morning terms day before.desk.present) before.told in
-    subst (λ (x : DayRefusal). IsUndone terms orders ceilings day before after x) (sym is) (record {
+    record {
       unfit = unfit;
       unopened = keeps_still before.desk.opening after.desk.opening opening refusal;
       untold = tells_none before.told after.told told refusal;
       asked = subst (λ (ts : List ℕ). TellsOfPasses orders ceilings day (morning terms day before.desk.present)
           before.choice before.told ts) (sym told) nothing;
-    })
+    }
 
 -- a day on a desk from the day that ran on its states
 module _ {terms : Option Terms} {orders : List CallOrder} {ceilings : List ℕ} {day : ℕ} {desk : DeskStates}

@@ -31,9 +31,10 @@ module _ (keeps : Bool) (Holds : Result DayRecord DayRefusal → Type 0) where
   came_about kept (Ok day) holds same = (day, holds, cc)
   came_about kept (Err refusal) holds same = absurd (cc)
 
-  pub day_kept : (kept : DayRecord) → IsKeptOf (kept_result keeps) Holds (Ok kept)
+  pub day_kept : {result : Result DayRecord DayRefusal} (kept : DayRecord) → result ≡ Ok kept
+      → IsKeptOf (kept_result keeps) Holds result
       → IsKeptOf (kept_day keeps) (λ day. Holds (Ok day)) kept
-  day_kept kept is = came_about kept is.0 is.1 is.2
+  day_kept kept came is = came_about kept is.0 is.1 (sym came ∙ is.2)
 
   -- and of one that did not nothing else is kept
   refused_so : (refusal : DayRefusal) (whole : Result DayRecord DayRefusal) → Holds whole
@@ -43,5 +44,6 @@ module _ (keeps : Bool) (Holds : Result DayRecord DayRefusal → Type 0) where
       let here : refusal ≡ other = cc in
       subst (λ (r : DayRefusal). Holds (Err r)) (sym here) holds
 
-  pub refusal_kept : (refusal : DayRefusal) → IsKeptOf (kept_result keeps) Holds (Err refusal) → Holds (Err refusal)
-  refusal_kept refusal is = refused_so refusal is.0 is.1 is.2
+  pub refusal_kept : {result : Result DayRecord DayRefusal} (refusal : DayRefusal) → result ≡ Err refusal
+      → IsKeptOf (kept_result keeps) Holds result → Holds (Err refusal)
+  refusal_kept refusal came is = refused_so refusal is.0 is.1 (sym came ∙ is.2)

@@ -19,11 +19,11 @@ use Rattle.desk_day.specs.Telling.{Telling}
 use Rattle.desk_day.proofs.PassesSoFar.{SoFar, chosen_more, so_far_end, so_far_more, so_far_none, told_more}
 
 -- what is kept of a pass offers what the pass does
-pub offers_kept : (keeps : Bool) {s new : State} {orders : List CallOrder} {ceilings : List ℕ} {stamp : Stamp}
+pub offered_when_made : (keeps : Bool) {s new : State} {orders : List CallOrder} {ceilings : List ℕ} {stamp : Stamp}
     {telling : Telling} {found : PassRecord}
     → (is : IsKeptOf (kept_pass keeps) (IsPassOffered s new orders ceilings stamp telling) found)
     → found.offers ≡ proposed s orders is.0.bars
-offers_kept keeps is =
+offered_when_made keeps is =
     ap (λ (p : PassRecord). p.offers) is.2 ∙ is.1.by.is_pass.offers
 
 -- one more is kept

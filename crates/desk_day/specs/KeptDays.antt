@@ -19,7 +19,7 @@ abbrev pub kept_end : Bool → PassEnd → PassEnd
 kept_end keeps end =
     record { pass = kept_pass keeps end.pass; autos = end.autos; freed = end.freed }
 
--- the same of a day
+-- a day with all falls of its passes where they are kept, and with none elsewhere
 abbrev pub kept_day : Bool → DayRecord → DayRecord
 kept_day keeps day =
     record {
@@ -30,7 +30,7 @@ kept_day keeps day =
       lapsed = day.lapsed;
     }
 
--- and of a day that may not come about
+-- how a day ends, with what is kept of one that comes about
 abbrev pub kept_result : Bool → Result DayRecord DayRefusal → Result DayRecord DayRefusal
 kept_result keeps (Ok day) = Ok (kept_day keeps day)
 kept_result keeps (Err refusal) = Err refusal

@@ -1,7 +1,8 @@
 -- What the desk of a day that runs holds.
 use Rattle.std.specs.Prelude.{◌≡◌, ℕ, ◌+◌, ◌≤◌, ◌<◌, not, List, length, Option, None, IsTrue}
-use Rattle.std.specs.Prelude.{if◌then◌else◌}
+use Rattle.std.specs.Prelude.{Result, Ok, Err, if◌then◌else◌}
 use Rattle.admit_core.specs.declared.ranking.CallOrder.{CallOrder}
+use Rattle.admit_core.specs.declared.records.DayRecord.{DayRecord}
 use Rattle.admit_core.specs.declared.records.Lapse.{Lapse}
 use Rattle.admit_core.specs.declared.records.PassEnd.{PassEnd}
 use Rattle.admit_core.specs.declared.records.Terms.{Terms}
@@ -13,7 +14,7 @@ use Rattle.day_state.specs.Others.{SameOthers}
 use Rattle.desk_day.specs.AnswersOn.{IsUnfitOf}
 use Rattle.desk_day.specs.DayPasses.{IsAnswered, IsAnsweredBut, TellsOfPasses, last_opening, open_wishes}
 use Rattle.desk_day.specs.DayPlaces.{AreWishesOf}
-use Rattle.desk_day.specs.RunDay.{KeepsOpening, Moment, TellsNoneUnfit}
+use Rattle.desk_day.specs.RunDay.{IsDayDone, KeepsOpening, Moment, TellsNoneUnfit}
 use Rattle.desk_day.specs.Who.{ChangesOnly}
 use Rattle.desk_day.specs.declared.refusal.DayRefusal.{DayRefusal}
 use Rattle.desk_day.specs.declared.who.Who.{Who}
@@ -82,3 +83,11 @@ pub record IsUndone (terms : Option Terms) (orders : List CallOrder) (ceilings :
   -- the whole passes that it told of, and the beginning of one
   pub asked : TellsOfPasses orders ceilings day (morning terms day before.desk.present)
       before.choice before.told after.told
+
+-- what came of a day that was played: the day that came about, or why it has not
+abbrev pub IsPlayed : Option Terms → List CallOrder → List ℕ → ℕ → Moment → Moment
+    → Result DayRecord DayRefusal → Type 0
+IsPlayed terms orders ceilings day before after (Ok done) =
+    IsDayDone terms orders ceilings day before done after
+IsPlayed terms orders ceilings day before after (Err refusal) =
+    IsUndone terms orders ceilings day before after refusal

@@ -1,4 +1,4 @@
-//! The answers of a day.
+//! The answers of a day, and the refusal of the first that does not fit.
 ghost use Rattle.std.specs.Prelude.{◌≡◌, ◌≤◌, ◌+◌, length, slice_range, nat_lt, nat_le, true, false};
 ghost use Rattle.std.specs.List.Sorted.{IsNonDecreasingBy, IsPartitionPoint};
 ghost use Rattle.desk_day.specs.AnswersOn.{AreAnswersOn, IsApplied, refusal_at};
@@ -15,7 +15,7 @@ pub(crate) struct AnswersOn<'d> {
     pub(crate) answers: &'d [Answer],
 }
 
-/// The first of the answers whose day isn't before this one.
+/// The place of the first answer whose day is not before this one.
 fn first_not_before(answers: &[Answer], day: u32) -> usize
     requires { IsNonDecreasingBy (λ a. a.day) answers.now }
     ensures within { result ≤ length answers.now }
@@ -25,7 +25,7 @@ fn first_not_before(answers: &[Answer], day: u32) -> usize
     answers.partition_point(|answer| answer.day < day)
 }
 
-/// The first of the answers whose day is after this one.
+/// The place of the first answer whose day is after this one.
 fn first_after(answers: &[Answer], day: u32) -> usize
     requires { IsNonDecreasingBy (λ a. a.day) answers.now }
     ensures within { result ≤ length answers.now }
@@ -35,7 +35,7 @@ fn first_after(answers: &[Answer], day: u32) -> usize
     answers.partition_point(|answer| answer.day <= day)
 }
 
-/// A part of the answers.
+/// The answers from one place up to another, which is left out.
 fn between(answers: &[Answer], from: usize, to: usize) -> &[Answer]
     requires rises { from ≤ to }
     requires within { to ≤ length answers.now }
@@ -69,7 +69,7 @@ fn unfit(first: usize, at: UnfitAt) -> DayRefusal
     })
 }
 
-/// Does what the answers of a day say, or refuses the first one that does not fit.
+/// Applies the answers of a day, or refuses the first one that does not fit.
 pub(crate) fn answer(state: &mut DayState<'_>, day: u32) -> Result<(), DayRefusal>
     ensures applied { IsApplied state.old day result state.new }
     ensures dossier { state.new.dossier ≡ state.old.dossier }

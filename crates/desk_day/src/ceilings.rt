@@ -30,7 +30,7 @@ pub fn own_ceilings(alloc: Global, dossier: &Dossier) -> Result<Vec<u32>, OutOfM
     Ok(ceilings)
 }
 
-/// Puts the ceilings that count on a day in their places, a later one over an earlier one.
+/// Writes each ceiling that has changed by a day over the one before it.
 fn apply_changes(ceilings: &mut Vec<u32>, changes: &[CeilingChange], day: u32)
     requires { All (λ c. c.school < length ceilings.old.items) changes.now }
     ensures { ceilings.new.items ≡ changed day changes.now ceilings.old.items }

@@ -8,7 +8,8 @@ use admit_core::{Change, OutOfMemory, Status};
 use day_state::DayState;
 use std::alloc::Global;
 
-/// The wishes whose status is neither that of a pass's opening nor offered, with their status.
+/// The wishes whose status is neither that of the pass's opening nor `offered`, with their status.
+/// Only an automatic answer can have led there.
 pub(crate) fn answered_changes(
     alloc: Global,
     opening: &DayState<'_>,
@@ -30,8 +31,8 @@ pub(crate) fn answered_changes(
     Ok(changes)
 }
 
-/// The changes as `answered_changes` lists them, where all whose status changed are candidates of
-/// these wishes.
+/// Lists what [`answered_changes`] does, at the wishes of a few candidates: those of these wishes.
+/// Nobody else's may have changed.
 pub(crate) fn changes_beside(
     alloc: Global,
     opening: &DayState<'_>,

@@ -1,13 +1,13 @@
-//! A day.
-ghost use Rattle.std.specs.Prelude.{◌≡◌, length, IfOk, IfErr, OnOk, None};
+//! A day on a desk: its morning, its passes and its record, and the way back after a refusal.
+ghost use Rattle.std.specs.Prelude.{◌≡◌, length, IfOk, IfErr, OnOk};
 ghost use Rattle.std.specs.Option.{option_copied};
 ghost use Rattle.admit_core.specs.Ranges.{IsDay as IsDayNumber};
-ghost use Rattle.admit_core.specs.Days.{lapsed_on, morning, unfit_on};
+ghost use Rattle.admit_core.specs.Days.{unfit_on};
 ghost use Rattle.admit_core.specs.Lapses.{AreTermsFor};
 ghost use Rattle.desk_day.specs.AnswersOn.{IsUnfitOf};
-ghost use Rattle.desk_day.specs.KeptDays.{kept_day, kept_result};
-ghost use Rattle.desk_day.specs.RunDay.{EndsDay, IsDayDone};
-ghost use Rattle.desk_day.specs.Running.{IsUndone, moment_on};
+ghost use Rattle.desk_day.specs.KeptDays.{kept_result};
+ghost use Rattle.desk_day.specs.RunDay.{EndsDay};
+ghost use Rattle.desk_day.specs.Running.{IsBegun, IsPlayed, moment_on};
 ghost use Rattle.desk_day.specs.Who.{Moves};
 ghost use Rattle.round.specs.KeptFalls.{IsKeptOf, are_kept};
 
@@ -53,7 +53,7 @@ pub fn run_day_along(
     run_day_by(alloc, desk, roster, plan, picker)
 }
 
-/// Runs a day as [`run_day_along`] does, by a plan.
+/// Runs a day as [`run_day_along`] does, by a plan, which also says what the record keeps of falls.
 pub fn run_day_by(
     alloc: Global,
     desk: &mut Desk<'_>,
@@ -88,8 +88,8 @@ pub fn run_day_by(
 }
 
 impl Running<'_> {
-    /// Makes the lapse, the answers and the passes of a day. A refusal may come in their midst.
-    /// Those whom the day moves are added to `moved`.
+    /// Plays a day: its morning and its passes. After a refusal the states may be in its midst.
+    /// Those whose wishes it may change are added to `moved`.
     fn play(
         &mut self,
         alloc: Global,
@@ -103,15 +103,11 @@ impl Running<'_> {
         requires before { AreTermsFor self.old.present.dossier (option_copied plan.terms) }
         requires day { IsDayNumber plan.day }
 
-        ensures done { IfOk result (IsKeptOf (kept_day (are_kept plan.entry.falls)) (λ done.
-            IsDayDone (option_copied plan.entry.terms) roster.now.orders plan.entry.ceilings.now
+        ensures played { IsKeptOf (kept_result (are_kept plan.entry.falls)) (IsPlayed
+            (option_copied plan.entry.terms) roster.now.orders plan.entry.ceilings.now
             plan.entry.day
-            (moment_on self.old self.old.present (told picker.old) (choice picker.old)) done
-            (moment_on self.new self.old.present (told picker.new) (choice picker.new)))) }
-        ensures undone { IfErr result (IsUndone (option_copied plan.entry.terms) roster.now.orders
-            plan.entry.ceilings.now plan.entry.day
             (moment_on self.old self.old.present (told picker.old) (choice picker.old))
-            (moment_on self.new self.old.present (told picker.new) (choice picker.new))) }
+            (moment_on self.new self.old.present (told picker.new) (choice picker.new))) result }
         ensures choice { choice picker.new ≡ choice picker.old }
         ensures moved { OnOk result (Moves self.old.present self.new.present moved.old moved.new) }
         ensures dossier { self.new.present.dossier ≡ self.old.present.dossier }
@@ -125,8 +121,8 @@ impl Running<'_> {
         Ok(done)
     }
 
-    /// Makes the lapse and the answers of a day, and gives the offers that lapsed. A refusal may
-    /// come in the midst of the answers. Those whom the day touches are added to `moved`.
+    /// Makes the morning of a day, and returns the offers that lapsed. Where an answer does not
+    /// fit, those before it have been applied. Those whom the morning touches are added to `moved`.
     fn begin_day(
         &mut self,
         alloc: Global,
@@ -137,12 +133,8 @@ impl Running<'_> {
         requires before { AreTermsFor self.old.present.dossier (option_copied terms) }
         requires day { IsDayNumber day }
 
-        ensures lapsed { IfOk result (λ v. v.items ≡ lapsed_on (option_copied terms.entry) day
-            self.old.present) }
-        ensures fits { IfOk result (λ _.
-            unfit_on (option_copied terms.entry) day self.old.present ≡ None) }
-        ensures present { IfOk result (λ _. self.new.present
-            ≡ morning (option_copied terms.entry) day self.old.present) }
+        ensures begun { IfOk result (λ lapsed. IsBegun (option_copied terms.entry) day
+            self.old.present self.new.present lapsed.items) }
         ensures unfit { IfErr result (IsUnfitOf self.old.present.dossier day
             (unfit_on (option_copied terms.entry) day self.old.present)) }
         ensures opening { self.new.opening ≡ self.old.opening }

@@ -1,4 +1,4 @@
-//! The states that a day needs.
+//! The desk: the present state, the evening before, and the opening of the last pass.
 ghost use Rattle.std.specs.Prelude.{◌≡◌, IfOk};
 ghost use Rattle.admit_core.specs.Days.{first_evening};
 ghost use Rattle.desk_day.specs.DeskStates.{DeskStates};
@@ -92,7 +92,7 @@ impl<'d> Desk<'d> {
         take_over(&mut self.evening, self.running.now(), &self.moved);
     }
 
-    /// The present state alone; the room of the other two is given back.
+    /// Gives back the room of the other two states, and returns the present one.
     pub fn into_now(self) -> DayState<'d>
         ensures { result ≡ self.entry.present }
     {

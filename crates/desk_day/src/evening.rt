@@ -8,14 +8,14 @@ use admit_core::{DayRecord, Lapse, OutOfMemory, PassEnd, Sequence};
 use day_state::{DayState, beds_left, seats_left};
 use std::alloc::Global;
 
-/// Where something may be left in the evening.
+/// Who may have something left in the evening: programmes have seats, schools have beds.
 #[derive(Clone, Copy)]
 enum Sites {
     Programmes,
     Schools,
 }
 
-/// How many programmes there are, or how many schools.
+/// How many of them the dossier has.
 fn site_count(state: &DayState<'_>, sites: Sites) -> u32
     ensures { result ≡ site_count state.now.dossier sites }
 {
@@ -26,7 +26,7 @@ fn site_count(state: &DayState<'_>, sites: Sites) -> u32
     }
 }
 
-/// The seats that are left in a programme, or the beds in a school.
+/// The seats that are left in the programme of this place, or the beds in the school.
 fn left_at(state: &DayState<'_>, sites: Sites, place: u32) -> u32
     requires { place < site_count state.now.dossier sites }
     ensures { result ≡ left_at state.now sites place }

@@ -1,4 +1,4 @@
-//! The lapse of a day.
+//! The offers that lapse on a day.
 ghost use Rattle.std.specs.Prelude.{◌≡◌, ◌<◌, ◌≤◌, length, IfOk, pos, negsuc, ◌≤ℤ◌};
 ghost use Rattle.std.specs.Option.{option_copied};
 ghost use Rattle.admit_core.specs.Days.{lapsed_on};
@@ -8,7 +8,8 @@ use admit_core::{Lapse, OutOfMemory, Terms};
 use day_state::{DayState, lapses, offer_day};
 use std::alloc::Global;
 
-/// The offers that lapse on a day, with their days, where terms are given.
+/// The offers that lapse on a day, each with the day on which it was made. Without terms none
+/// lapses.
 pub(crate) fn lapses_by(
     alloc: Global,
     state: &DayState<'_>,
@@ -25,7 +26,7 @@ pub(crate) fn lapses_by(
     }
 }
 
-/// The offers whose deadline has passed, with their days.
+/// The offers whose deadline has passed, each with the day on which it was made.
 fn lapses_on(
     alloc: Global,
     state: &DayState<'_>,
@@ -49,7 +50,7 @@ fn lapses_on(
     Ok(lapsed)
 }
 
-/// The same number, in 32 bits.
+/// A day's number in 32 bits, where it fits.
 fn narrow(number: i64) -> i32
     requires low { negsuc 2147483647 ≤ℤ number }
     requires high { number ≤ℤ pos 2147483647 }

@@ -1,4 +1,4 @@
-//! The state in which the passes of a day begin.
+//! The morning of a day: its lapse and its answers, with which the passes begin.
 ghost use Rattle.std.specs.Prelude.{◌≡◌, None, OnOk, IfErr, IfOk};
 ghost use Rattle.std.specs.Option.{option_copied, IsSomeAnd};
 ghost use Rattle.admit_core.specs.Days.{after_lapse, morning, unfit_on};
@@ -10,7 +10,7 @@ ghost use Rattle.desk_day.specs.declared.refusal.DayRefusal.TheVariants as refus
 
 use crate::answers_on::answer;
 use crate::lapses::lapses_by;
-use crate::once::keep_once;
+use crate::once::keep_one_of_each;
 use crate::refusal::DayRefusal;
 use crate::touched::list_touched;
 use admit_core::{Lapse, Terms};
@@ -29,9 +29,9 @@ fn lapse(state: &mut DayState<'_>, terms: Option<&Terms>, day: u32)
     }
 }
 
-/// Leads from the evening before to the state in which the passes of a day begin: the offers whose
-/// deadline has passed end, where terms are given, and then the answers of the day are done. A
-/// refusal of the first answer that does not fit may come in their midst.
+/// Leads from the evening before to the state in which the passes of a day begin. First the offers
+/// whose deadline has passed end, where terms are given; then the answers of the day are applied.
+/// Where one does not fit, those before it have been applied.
 pub fn make_morning(
     state: &mut DayState<'_>,
     terms: Option<&Terms>,
@@ -49,10 +49,9 @@ pub fn make_morning(
     answer(state, day)
 }
 
-/// The same, with the offers that lapsed, and one wish of each candidate whom the lapse and the
-/// answers may have changed. So whoever goes along these wishes looks at each candidate once.
-/// Whether an answer fits is found without taking memory, so one that does not is never told as
-/// want of memory.
+/// Makes the morning of a day as [`make_morning`] does, and lists the offers that lapsed, and one
+/// wish of each candidate whom the lapse and the answers may have changed. Whether an answer fits
+/// is found without taking memory, so one that does not is never told as want of memory.
 pub(crate) fn touch_morning(
     alloc: Global,
     state: &mut DayState<'_>,
@@ -74,6 +73,6 @@ pub(crate) fn touch_morning(
     make_morning(state, terms, day)?;
     let lapsed = lapsed?;
     let mut touched = list_touched(alloc, state, lapsed.as_slice(), day)?;
-    keep_once(&mut touched, state);
+    keep_one_of_each(&mut touched, state);
     Ok((lapsed, touched))
 }

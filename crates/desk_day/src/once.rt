@@ -1,11 +1,11 @@
-//! Each candidate once, however many of their wishes are named.
+//! One wish of each candidate, however many of theirs are named.
 ghost use Rattle.std.specs.Prelude.{◌≡◌, ◌<◌, ◌+◌, ◌++◌, length, All, IfOk, OnErr, vec_capacity, vec_len};
 ghost use Rattle.admit_core.specs.DossierRows.{candidate_of};
 ghost use Rattle.desk_day.specs.DayPlaces.{AreWishesOf};
 ghost use Rattle.desk_day.specs.Once.{AreOfOneEach, NamesSame, first_own};
 
+use admit_core::OutOfMemory;
 use day_state::DayState;
-use std::alloc::AllocError;
 
 /// The first wish of a wish's candidate.
 fn first_beside(state: &DayState<'_>, place: u32) -> u32
@@ -18,7 +18,7 @@ fn first_beside(state: &DayState<'_>, place: u32) -> u32
     own[0]
 }
 
-/// Leads each wish to the first one of its candidate.
+/// Puts in each wish's place the first wish of its candidate.
 fn lead_to_firsts(places: &mut Vec<u32>, state: &DayState<'_>)
     requires { AreWishesOf state.now.dossier places.old.items }
     ensures names { NamesSame state.now.dossier places.old.items places.new.items }
@@ -29,9 +29,9 @@ fn lead_to_firsts(places: &mut Vec<u32>, state: &DayState<'_>)
     }
 }
 
-/// Leaves one wish of each candidate who has some of these, so that whoever goes along them looks
-/// at each candidate once.
-pub(crate) fn keep_once(places: &mut Vec<u32>, state: &DayState<'_>)
+/// Leaves one wish of each candidate who has some of these. So a walk along them looks at each
+/// candidate once.
+pub(crate) fn keep_one_of_each(places: &mut Vec<u32>, state: &DayState<'_>)
     requires { AreWishesOf state.now.dossier places.old.items }
     ensures names { NamesSame state.now.dossier places.old.items places.new.items }
     ensures once { AreOfOneEach state.now.dossier places.new.items }
@@ -41,13 +41,12 @@ pub(crate) fn keep_once(places: &mut Vec<u32>, state: &DayState<'_>)
     places.dedup();
 }
 
-/// Adds the offers of a pass to the wishes of those who are asked after it, and leaves one wish of
-/// each candidate.
-pub(crate) fn beside_offers(
+/// One wish of each candidate of these wishes or of the offers of a pass.
+pub(crate) fn with_offers(
     places: Vec<u32>,
     state: &DayState<'_>,
     offers: &[u32],
-) -> Result<Vec<u32>, AllocError>
+) -> Result<Vec<u32>, OutOfMemory>
     requires places { AreWishesOf state.now.dossier places.items }
     requires offers { AreWishesOf state.now.dossier offers.now }
     ensures names { IfOk result (λ asked. NamesSame state.now.dossier (places.items ++ offers.now)
@@ -57,6 +56,6 @@ pub(crate) fn beside_offers(
 {
     let mut asked = places;
     asked.extend_from_slice(offers)?;
-    keep_once(&mut asked, state);
+    keep_one_of_each(&mut asked, state);
     Ok(asked)
 }

@@ -6,12 +6,12 @@ use round::Falls;
 /// How a day is run, and what is kept of it.
 #[derive(Clone, Copy)]
 pub struct DayPlan<'a> {
-    /// The ceilings of that day, by school.
+    /// The ceilings of the day, by school.
     pub ceilings: &'a [u32],
-    /// The terms of the offers, where these lapse.
+    /// The terms of the offers; without them none lapses.
     pub terms: Option<&'a Terms>,
     /// The day's number, from 1.
     pub day: u32,
-    /// What the record has of the falls of its passes.
+    /// Whether the record keeps the falls of its passes.
     pub falls: Falls,
 }

@@ -17,13 +17,13 @@ ghost use Rattle.round.specs.KeptFalls.{IsKeptOf, IsPassOffered, are_kept, kept_
 use crate::morning::{make_morning, touch_morning};
 use crate::plan::DayPlan;
 use crate::refusal::DayRefusal;
-use crate::who::{Who, answer_for, left_by_morning};
+use crate::who::{Who, answer_for, unanswered_after_morning};
 use admit_core::{Freed, Lapse, OutOfMemory, PassRecord, Stamp, Terms};
 use bar_fixpoint::Picker;
 use day_state::DayState;
 use linked_demand::Roster;
 use round::pass_keeping;
-use std::alloc::{AllocError, Global};
+use std::alloc::Global;
 use std::marker::Model;
 use std::mem;
 
@@ -76,7 +76,7 @@ impl<'d> Present<'d> {
         &self.state
     }
 
-    /// The state alone.
+    /// Returns the state, and forgets who has been answered for.
     pub fn into_now(self) -> DayState<'d>
         ensures { result ≡ self.entry }
     {
@@ -95,9 +95,9 @@ impl<'d> Present<'d> {
         self.unanswered.is_nobody()
     }
 
-    /// Makes the lapse of a day, where terms are given, and its answers, and returns the offers
-    /// that lapsed. A refusal may come in the midst of the answers. Whether an answer fits is found
-    /// without taking memory, so one that does not is never told as want of memory.
+    /// Makes the morning of a day, and returns the offers that lapsed. Where an answer does not
+    /// fit, those before it have been applied. Whether one fits is found without taking memory, so
+    /// one that does not is never told as want of memory.
     pub fn begin_day(
         &mut self,
         alloc: Global,
@@ -140,13 +140,13 @@ impl<'d> Present<'d> {
         let (lapsed, touched) = touch_morning(alloc, &mut self.state, terms, day)?;
         let touched = Who::CandidatesOf(touched);
         moved.add(&touched);
-        self.unanswered = left_by_morning(was_settled, touched);
+        self.unanswered = unanswered_after_morning(was_settled, touched);
         Ok(lapsed)
     }
 
-    /// Why a day for which memory ran out does not come about. Its lapse and its answers are tried,
-    /// and the state may be left in their midst.
-    pub(crate) fn refuse(&mut self, terms: Option<&Terms>, day: u32) -> DayRefusal
+    /// Why a day for which memory ran out does not come about. Its morning is tried on the state,
+    /// which may be left in its midst.
+    pub(crate) fn find_refusal(&mut self, terms: Option<&Terms>, day: u32) -> DayRefusal
         requires { AreTermsFor self.old.dossier (option_copied terms) }
         ensures refusal { IsUnfitOf self.old.dossier day
             (unfit_on (option_copied terms.entry) day self.old) result }
@@ -159,7 +159,7 @@ impl<'d> Present<'d> {
         }
     }
 
-    /// Goes back to an evening.
+    /// Brings the state back to an evening.
     pub(crate) fn restore(&mut self, evening: &DayState<'d>)
         requires { evening.now.dossier ≡ self.old.dossier }
         ensures { self.new ≡ evening.now }
@@ -211,7 +211,7 @@ impl<'d> Present<'d> {
         Ok((pass, asked))
     }
 
-    /// Answers for those who are asked. By then all have been answered for.
+    /// Answers for those who are asked. Then all have been answered for.
     pub(crate) fn answer(&mut self, alloc: Global, asked: &Who, stamp: Stamp) -> Freed
         requires { ChangesOnly asked.now self.old (auto_all self.old stamp) }
         ensures state { self.new ≡ auto_all self.old stamp }
@@ -230,7 +230,7 @@ impl<'d> Present<'d> {
         alloc: Global,
         offers: &[u32],
         stamp: Stamp,
-    ) -> Result<Freed, AllocError>
+    ) -> Result<Freed, OutOfMemory>
         requires { AreProposed self.old offers.now }
         ensures state { OnOk result
             (self.new ≡ auto_all (offered_along offers.now stamp self.old) stamp) }

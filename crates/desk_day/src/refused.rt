@@ -1,4 +1,4 @@
-//! Days for which memory ran out.
+//! Why a day for which memory ran out does not come about.
 ghost use Rattle.std.specs.Prelude.{◌≡◌};
 ghost use Rattle.std.specs.Option.{option_copied};
 ghost use Rattle.admit_core.specs.Days.{unfit_on};
@@ -12,9 +12,8 @@ use crate::who::{Who, take_over};
 use admit_core::Terms;
 
 impl Running<'_> {
-    /// Why a day for which memory ran out does not come about. Its lapse and its answers are tried
-    /// on the present state, which may be left in their midst.
-    fn refuse(&mut self, terms: Option<&Terms>, day: u32) -> DayRefusal
+    /// Tries the morning of the day on the present state, which may be left in its midst.
+    fn find_refusal(&mut self, terms: Option<&Terms>, day: u32) -> DayRefusal
         requires { AreTermsFor self.old.present.dossier (option_copied terms) }
         ensures refusal { IsUnfitOf self.old.present.dossier day
             (unfit_on (option_copied terms.entry) day self.old.present) result }
@@ -22,7 +21,7 @@ impl Running<'_> {
         ensures dossier { self.new.present.dossier ≡ self.old.present.dossier }
     {
         self.moved = Who::Anyone;
-        self.present.refuse(terms, day)
+        self.present.find_refusal(terms, day)
     }
 }
 
@@ -38,7 +37,7 @@ impl Desk<'_> {
         ensures opening { self.new.opening ≡ self.old.opening }
     {
         take_over(&mut self.evening, self.running.now(), &self.moved);
-        let refusal = self.running.refuse(terms, day);
+        let refusal = self.running.find_refusal(terms, day);
         self.running.restore(&self.evening);
         refusal
     }

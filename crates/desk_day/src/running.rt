@@ -1,4 +1,4 @@
-//! The states of a day that runs.
+//! The two states that a day changes while it runs.
 ghost use Rattle.std.specs.Prelude.{◌≡◌, IfOk};
 ghost use Rattle.admit_core.specs.Days.{first_evening};
 ghost use Rattle.desk_day.specs.Running.{RunningStates};
@@ -72,7 +72,7 @@ impl<'d> Running<'d> {
         &self.opening
     }
 
-    /// The present state alone.
+    /// Gives back the room of the opening, and returns the present state.
     pub(crate) fn into_now(self) -> DayState<'d>
         ensures { result ≡ self.entry.present }
     {

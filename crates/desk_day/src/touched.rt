@@ -7,7 +7,7 @@ ghost use Rattle.desk_day.specs.Touched.{touched, wishes_of_answer};
 use crate::answers_on::answers_on;
 use admit_core::{Answer, AnswerKind, Lapse, OutOfMemory};
 use day_state::DayState;
-use std::alloc::{AllocError, Global};
+use std::alloc::Global;
 
 /// Wishes of all whose offers lapse, and of all who answer on the day.
 pub(crate) fn list_touched(
@@ -28,7 +28,7 @@ pub(crate) fn list_touched(
 }
 
 /// Adds the wishes of lapses.
-fn push_lapsed(places: &mut Vec<u32>, lapsed: &[Lapse]) -> Result<(), AllocError>
+fn push_lapsed(places: &mut Vec<u32>, lapsed: &[Lapse]) -> Result<(), OutOfMemory>
     ensures { OnOk result (places.new.items ≡ places.old.items ++ map (λ l. l.wish) lapsed.now) }
 {
     for lapse in lapsed {
@@ -42,7 +42,7 @@ fn push_answered(
     places: &mut Vec<u32>,
     state: &DayState<'_>,
     answers: &[Answer],
-) -> Result<(), AllocError>
+) -> Result<(), OutOfMemory>
     ensures { OnOk result (places.new.items
         ≡ places.old.items ++ flat_map (wishes_of_answer state.now.dossier) answers.now) }
 {
@@ -52,7 +52,7 @@ fn push_answered(
     Ok(())
 }
 
-/// The first of some wishes, where there is one.
+/// The first of some wishes, or none where there is none.
 fn first_of(wishes: &[u32]) -> &[u32]
     ensures { result.now ≡ take 1 wishes.now }
 {
@@ -64,7 +64,7 @@ fn push_wishes_of(
     places: &mut Vec<u32>,
     state: &DayState<'_>,
     answer: Answer,
-) -> Result<(), AllocError>
+) -> Result<(), OutOfMemory>
     ensures { OnOk result (places.new.items
         ≡ places.old.items ++ wishes_of_answer state.now.dossier answer) }
 {

@@ -1,4 +1,4 @@
-//! Which candidates may still have to be answered for, or may have changed.
+//! Sets of candidates: who has yet to be answered for, or whose wishes may have changed.
 ghost use Rattle.std.specs.Prelude.{◌≡◌, IfOk, OnErr, if◌then◌else◌, true};
 ghost use Rattle.desk_day.specs.DayPlaces.{AreWishesOf};
 ghost use Rattle.desk_day.specs.Unanswered.{AreAsked};
@@ -6,11 +6,11 @@ ghost use Rattle.desk_day.specs.Who.{AreOf, ChangesOnly, Joins, LacksRoomFor, is
 ghost use Rattle.admit_core.specs.AutoAnswer.{auto_all, freed};
 ghost use Rattle.desk_day.specs.declared.who.Who.TheVariants as who;
 
-use crate::once::beside_offers;
-use admit_core::{Freed, Stamp};
+use crate::once::with_offers;
+use admit_core::{Freed, OutOfMemory, Stamp};
 use auto_answer::{auto_all, auto_some};
 use day_state::DayState;
-use std::alloc::{AllocError, Global};
+use std::alloc::Global;
 use std::mem;
 
 /// The candidates of whom something may be true: that they have yet to be answered for, or that
@@ -56,7 +56,7 @@ impl Who {
         self,
         state: &DayState<'_>,
         offers: &[u32],
-    ) -> Result<Who, AllocError>
+    ) -> Result<Who, OutOfMemory>
         requires own { AreOf state.now.dossier self }
         requires offers { AreWishesOf state.now.dossier offers.now }
         ensures asked { IfOk result (AreAsked state.now.dossier offers.now self) }
@@ -64,9 +64,7 @@ impl Who {
     {
         match self {
             Who::Anyone => Ok(Who::Anyone),
-            Who::CandidatesOf(places) => Ok(Who::CandidatesOf(beside_offers(
-                places, state, offers,
-            )?)),
+            Who::CandidatesOf(places) => Ok(Who::CandidatesOf(with_offers(places, state, offers)?)),
         }
     }
 
@@ -98,15 +96,15 @@ impl Who {
     }
 }
 
-/// Who has yet to be answered for after a morning: whom it touched, where all had been answered
-/// for before it.
-pub(crate) fn left_by_morning(was_settled: bool, touched: Who) -> Who
+/// Who has yet to be answered for after a morning: those whom it touched, where all had been
+/// answered for before it, and anyone elsewhere.
+pub(crate) fn unanswered_after_morning(was_settled: bool, touched: Who) -> Who
     ensures { result ≡ (if was_settled then touched else who.Anyone) }
 {
     if was_settled { touched } else { Who::Anyone }
 }
 
-/// Answers for those who are asked. By then all have been answered for.
+/// Answers for those who are asked. Then all have been answered for.
 pub(crate) fn answer_for(state: &mut DayState<'_>, asked: &Who, stamp: Stamp) -> Freed
     requires { ChangesOnly asked.now state.old (auto_all state.old stamp) }
     ensures state { state.new ≡ auto_all state.old stamp }

@@ -124,7 +124,7 @@ module _ (keeps : Bool) {plan : Plan} {before mid : RunMoment} {played : ℕ} {k
       → more ≡ kept ++ day ∷ []
       → IsKeptOf (map (kept_day keeps)) (λ days. SoFar plan before (played + 1) days after) more
   kept_on day more after ends more_is =
-      let next = day_kept keeps (λ r. EndsNext plan (played + 1) mid r after) day ends in (
+      let next = day_kept keeps (λ r. EndsNext plan (played + 1) mid r after) day refl ends in (
         so_far.0 ++ next.0 ∷ [],
         played_on plan before played so_far.0 mid so_far.1 next.0 (so_far.0 ++ next.0 ∷ []) after next.1 refl,
         kept_more (kept_day keeps) so_far.0 next.0 kept more day so_far.2 next.2 more_is,
@@ -137,7 +137,7 @@ module _ (keeps : Bool) {plan : Plan} {before mid : RunMoment} {played : ℕ} {k
   kept_some number refusal after r from fewer ends = record {
     days = so_far.0;
     plays = plays_some plan before played so_far.0 mid so_far.1 number refusal after r from fewer
-        (refusal_kept keeps (λ r. EndsNext plan (played + 1) mid r after) refusal ends);
+        (refusal_kept keeps (λ r. EndsNext plan (played + 1) mid r after) refusal refl ends);
     keeps_so = fit_so r so_far.2;
   }
 
@@ -146,7 +146,7 @@ module _ (keeps : Bool) {plan : Plan} {before mid : RunMoment} {played : ℕ} {k
       (r : Result (Unit {0}) DayRefusal) → IsErrAnd r (λ x. x ≡ refusals.OutOfMemory) → played < number
       → Next after (Ok day) → PlaysDaysKept keeps plan number before found r after
   kept_out number day found after r from fewer ends =
-      let next = day_kept keeps (λ r. EndsNext plan (played + 1) mid r after) day ends in
+      let next = day_kept keeps (λ r. EndsNext plan (played + 1) mid r after) day refl ends in
       record {
         days = found;
         plays = plays_out plan before played so_far.0 mid so_far.1 number next.0 found after r from fewer next.1;

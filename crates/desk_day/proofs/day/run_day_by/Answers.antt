@@ -2,9 +2,11 @@ use Rattle.std.proofs.Common.{Err, Ok, ◌≡◌, ◌∙◌, ap, length, refl, s
 use Rattle.std.specs.Option.{option_copied}
 use Rattle.admit_core.specs.Lapses.{AreTermsFor}
 use Rattle.admit_core.specs.State.{State}
+use Rattle.round.specs.KeptFalls.{are_kept}
 use Rattle.desk_day.specs.DeskStates.{DeskStates}
 use Rattle.desk_day.specs.Who.{ChangesOnly}
 use Rattle.desk_day.proofs.DayEnds.{ends_done, ends_undone}
+use Rattle.desk_day.proofs.KeptDays.{day_kept, refusal_kept}
 use Rattle.desk_day.proofs.Moved.{moves_from, none_moved}
 use Rattle.desk_day.proofs.day.run_day_by.Goals as goal
 
@@ -52,19 +54,21 @@ invariant_of-desk-in-Err g c =
     }
 
 pub returns-in-Ok : goal.returns-in-Ok
-returns-in-Ok g c = (
-  Ok c.in-Ok.ensures.done.0,
-  ends_done c.desk.view_is
-      (c.take_over.ensures ∙ c.now-2.ensures) c.play-outcome.ensures.choice
-      c.in-Ok.ensures.done.0 c.in-Ok.ensures.done.1 c.play-outcome.ensures.dossier,
-  ap Ok c.in-Ok.ensures.done.2,
-)
+returns-in-Ok g c =
+    let played = day_kept (are_kept c.args.plan.falls) _ c.in-Ok.done c.in-Ok.is c.play-outcome.ensures.played in (
+      Ok played.0,
+      ends_done c.desk.view_is
+          (c.take_over.ensures ∙ c.now-2.ensures) c.play-outcome.ensures.choice
+          played.0 played.1 c.play-outcome.ensures.dossier,
+      ap Ok played.2,
+    )
 
 pub returns-in-Err : goal.returns-in-Err
 returns-in-Err g c =
     let kept = c.take_over.ensures ∙ c.now-2.ensures in (
       Err c.in-Err.refusal,
       ends_undone c.desk.view_is kept c.play-outcome.ensures.choice c.in-Err.refusal
-          (c.restore.ensures.present ∙ kept) c.restore.ensures.opening c.in-Err.ensures.undone,
+          (c.restore.ensures.present ∙ kept) c.restore.ensures.opening
+          (refusal_kept (are_kept c.args.plan.falls) _ c.in-Err.refusal c.in-Err.is c.play-outcome.ensures.played),
       refl,
     )

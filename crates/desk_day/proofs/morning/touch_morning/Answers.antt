@@ -39,8 +39,8 @@ returns-clause-touched c =
     ap (λ (ms : List Mark). length ms) (sym c.marks.ensures.marks) ∙ c.marks.ensures.one_each in
     let gone = c.as_slice.ensures.value ∙ c.in_ok-lapsed.ensures in
     let all = c.in_ok-touched.touched.items in
-    let once = c.keep_once.new.places.items in
-    let names = c.keep_once.ensures.names in
+    let once = c.keep_one_of_each.new.places.items in
+    let names = c.keep_one_of_each.ensures.names in
     let others = morning_others terms c.args.day s m c.as_slice.result.now all long c.requires.before
     c.in_ok-make_morning.ensures.morning gone c.in_ok-touched.ensures.listed in
     let answered = morning_answered terms c.args.day s m c.as_slice.result.now all long c.requires.before

@@ -7,7 +7,7 @@ use Rattle.desk_day.specs.DayPasses.{offered_along}
 use Rattle.desk_day.specs.Unanswered.{AreAsked, AsksAfter}
 use Rattle.desk_day.specs.Who.{AreOf}
 use Rattle.desk_day.specs.declared.who.Who.{Who}
-use Rattle.desk_day.proofs.KeptPasses.{offers_kept}
+use Rattle.desk_day.proofs.KeptPasses.{offered_when_made}
 use Rattle.desk_day.proofs.LaterPasses.{offered_there, offers_within}
 use Rattle.desk_day.proofs.ToldPasses.{told_seen, told_whole}
 use Rattle.desk_day.proofs.WhoIsAsked.{are_of, asks_after}
@@ -29,7 +29,7 @@ with_offered-requires-clause-offers g c =
     offers_within c.self.inside.state c.pass_keeping.new.state c.args.roster.now.orders
     c.in_ok-pass.ensures.pass.0.bars c.as_slice.result.now
     (ap (λ (t : State). t.dossier) c.in_ok-pass.ensures.pass.1.offers)
-    (c.as_slice.ensures ∙ offers_kept _ c.in_ok-pass.ensures.pass)
+    (c.as_slice.ensures ∙ offered_when_made _ c.in_ok-pass.ensures.pass)
 
 pub returns-in_err-asked-clause-told_by_then : goal.returns-in_err-asked-clause-told_by_then
 returns-in_err-asked-clause-told_by_then g c =
@@ -45,7 +45,7 @@ returns-clause-offered g c =
     ap (λ (ms : List Mark). length ms) (sym c.marks.ensures.marks) ∙ c.marks.ensures.one_each in
     c.in_ok-pass.ensures.pass.1.offers
     ∙ sym (offered_there s s c.args.roster.now.orders bars offers c.args.stamp long refl
-    (offers_kept _ c.in_ok-pass.ensures.pass))
+    (offered_when_made _ c.in_ok-pass.ensures.pass))
     ∙ ap (λ (t : State). offered_along offers c.args.stamp t) c.self.view_is
 
 pub returns-clause-asked : goal.returns-clause-asked
@@ -63,4 +63,4 @@ returns-clause-asked g c =
     (subst (λ (d : DossierRows). AreAsked d offers c.replace-before.result asked) there named) in
     subst (λ (t : State). AsksAfter t offers c.args.stamp asked) c.self.view_is
     (asks_after c.self.inside.unanswered asked s c.args.roster.now.orders bars offers c.args.stamp long
-    (offers_kept _ c.in_ok-pass.ensures.pass) c.self.invariant asks)
+    (offered_when_made _ c.in_ok-pass.ensures.pass) c.self.invariant asks)

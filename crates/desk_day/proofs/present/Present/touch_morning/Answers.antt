@@ -12,7 +12,7 @@ use Rattle.desk_day.proofs.present.Present.touch_morning.Goals as goal
 pub invariant_of-self-2 : goal.invariant_of-self-2
 invariant_of-self-2 c =
     let morning = c.touch_morning.new.state in
-    subst (λ (these : Who). AnswersOnly these morning) (sym c.left_by_morning.ensures)
+    subst (λ (these : Who). AnswersOnly these morning) (sym c.unanswered_after_morning.ensures)
     (left_only c.is_settled-was_settled.result c.in_ok-lapsed.touched c.self.inside.state morning
     (λ is. subst IsAnswered (sym c.self.view_is) (c.is_settled-was_settled.ensures is))
     c.in_ok-lapsed.ensures.touched)

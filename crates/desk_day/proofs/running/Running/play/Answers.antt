@@ -1,5 +1,4 @@
-use Rattle.std.proofs.Common.{List, ◌∙◌, ◌≤◌, ◌+◌, ap, length, refl, subst, sym}
-use Rattle.std.proofs.lemmas.Result.{IfOk-from_err}
+use Rattle.std.proofs.Common.{List, Ok, ◌∙◌, ◌≤◌, ◌+◌, ap, length, refl, subst, sym}
 use Rattle.std.specs.Option.{option_copied}
 use Rattle.admit_core.specs.declared.records.PassEnd.{PassEnd}
 use Rattle.admit_core.specs.CallOrder.{AreCallOrders}
@@ -9,7 +8,8 @@ use Rattle.admit_core.specs.State.{State}
 use Rattle.admit_core.specs.Validity.{IsValid}
 use Rattle.desk_day.specs.DayPasses.{AreChosenPasses, last_opening, stamp_of}
 use Rattle.desk_day.specs.RunDay.{recorded}
-use Rattle.desk_day.proofs.DayEnds.{not_begun, ran_out}
+use Rattle.desk_day.specs.declared.refusal.DayRefusal.TheVariants as refusals
+use Rattle.desk_day.proofs.DayEnds.{kept_refused, not_begun}
 use Rattle.desk_day.proofs.DayLaws.{laws_kept}
 use Rattle.desk_day.proofs.DayPlaces.{day_in}
 use Rattle.desk_day.proofs.Moved.{moves_then}
@@ -23,39 +23,31 @@ make_passes-requires g c = record {
   ceilings = c.requires.ceilings ∙ sym (ap (λ (d : DossierRows). length d.schools) c.begin_day.ensures.dossier);
 }
 
-pub returns-in_err-lapsed-clause-undone : goal.returns-in_err-lapsed-clause-undone
-returns-in_err-lapsed-clause-undone g c =
-    not_begun _ _ _ _ _ _ c.from_residual.result c.in_err-lapsed.field-0.0 c.from_residual.ensures.1
-    c.in_err-lapsed.ensures.unfit
-    c.begin_day.ensures.opening refl
+pub returns-in_err-lapsed-clause-played : goal.returns-in_err-lapsed-clause-played
+returns-in_err-lapsed-clause-played g c =
+    kept_refused _ _ c.in_err-lapsed.field-0.0 c.from_residual.ensures.1
+    (not_begun _ _ _ _ _ _ c.in_err-lapsed.field-0.0 c.in_err-lapsed.ensures.unfit c.begin_day.ensures.opening refl)
 
-pub returns-in_err-passes-clause-done : goal.returns-in_err-passes-clause-done
-returns-in_err-passes-clause-done g c = IfOk-from_err _ _ c.from_residual-in_err-passes.ensures.0
-
-pub returns-in_err-passes-clause-undone : goal.returns-in_err-passes-clause-undone
-returns-in_err-passes-clause-undone g c = ran_out _ _ c.from_residual-in_err-passes.ensures.1
-    (record {
-      unfit = c.in_ok-lapsed.ensures.fits;
+pub returns-in_err-passes-clause-played : goal.returns-in_err-passes-clause-played
+returns-in_err-passes-clause-played g c =
+    kept_refused _ _ refusals.OutOfMemory c.from_residual-in_err-passes.ensures.1 (record {
+      unfit = c.in_ok-lapsed.ensures.begun.fits;
       unopened = tt;
       untold = told_more c.in_err-passes.ensures.told_by_then;
-      asked = told_there c.in_ok-lapsed.ensures.present c.in_err-passes.ensures.told_by_then;
+      asked = told_there c.in_ok-lapsed.ensures.begun.state c.in_err-passes.ensures.told_by_then;
     })
 
 pub returns-in_err-passes-clause-dossier : goal.returns-in_err-passes-clause-dossier
 returns-in_err-passes-clause-dossier g c = c.make_passes.ensures.dossier ∙ c.begin_day.ensures.dossier
 
-pub returns-in_err-done-clause-done : goal.returns-in_err-done-clause-done
-returns-in_err-done-clause-done g c = IfOk-from_err _ _ c.from_residual-in_err-done.ensures.0
-
-pub returns-in_err-done-clause-undone : goal.returns-in_err-done-clause-undone
-returns-in_err-done-clause-undone g c =
+pub returns-in_err-done-clause-played : goal.returns-in_err-done-clause-played
+returns-in_err-done-clause-played g c =
     let picked = c.in_ok-passes.ensures.made.1 in
-    ran_out _ _ c.from_residual-in_err-done.ensures.1
-    (record {
-      unfit = c.in_ok-lapsed.ensures.fits;
+    kept_refused _ _ refusals.OutOfMemory c.from_residual-in_err-done.ensures.1 (record {
+      unfit = c.in_ok-lapsed.ensures.begun.fits;
       unopened = tt;
       untold = (_, picked.told_of);
-      asked = told_there c.in_ok-lapsed.ensures.present
+      asked = told_there c.in_ok-lapsed.ensures.begun.state
           (told_to_the_end _ _ _ _ _ _ _ _ _ picked.made.passes picked.chosen picked.told_of);
     })
 
@@ -71,8 +63,8 @@ returns-clause-moved g c =
 pub returns-clause-dossier : goal.returns-clause-dossier
 returns-clause-dossier g c = c.make_passes.ensures.dossier ∙ c.begin_day.ensures.dossier
 
-pub returns-clause-done : goal.returns-clause-done
-returns-clause-done g c =
+pub returns-clause-played : goal.returns-clause-played
+returns-clause-played g c =
     let s = c.args.self.now.present in
     let terms = option_copied c.args.plan.terms in
     let orders = c.args.roster.now.orders in
@@ -83,7 +75,7 @@ returns-clause-done g c =
     let picked = c.in_ok-passes.ensures.made.1 in
     let lapsed = c.in_ok-lapsed.lapsed.items in
     let done = recorded day passes lapsed evening in
-    let morning = c.in_ok-lapsed.ensures.present in
+    let morning = c.in_ok-lapsed.ensures.begun.state in
     let made = picked.made in
     let valid : IsValid s.dossier = subst IsValid
     (c.behind-state.view_is ∙ c.dossier.ensures ∙ ap (λ (t : State). t.dossier) c.now-state.ensures)
@@ -92,13 +84,13 @@ returns-clause-done g c =
     subst (λ (d : DossierRows). AreCallOrders d.groups orders) c.requires.roster c.orders.ensures.right in
     let first = goal.Picker-dyn g c.args.picker.now in
     let is : IsDay terms orders ceilings s done evening = record {
-      lapsed = c.in_ok-lapsed.ensures.lapsed;
-      fits = c.in_ok-lapsed.ensures.fits;
+      lapsed = c.in_ok-lapsed.ensures.begun.lapses;
+      fits = c.in_ok-lapsed.ensures.begun.fits;
       passes = subst (λ (m : State). Passes orders ceilings day 1 m passes evening) morning made.passes;
       left = refl;
       free = refl;
     } in (
-      done,
+      Ok done,
       record {
         rule = record {
           number = refl;
@@ -115,7 +107,7 @@ returns-clause-done g c =
           stamps = stamps_kept terms orders ceilings s done evening is;
         };
       },
-      c.in_ok-done.ensures
+      ap Ok (c.in_ok-done.ensures
           ∙ ap (λ (t : State). recorded day c.in_ok-passes.passes.items lapsed t) c.now.ensures
-          ∙ ap (λ (ends : List PassEnd). recorded day ends lapsed evening) c.in_ok-passes.ensures.made.2,
+          ∙ ap (λ (ends : List PassEnd). recorded day ends lapsed evening) c.in_ok-passes.ensures.made.2),
     )

@@ -1,7 +1,7 @@
 use Rattle.std.proofs.Common.{eqb}
 use Rattle.std.proofs.lemmas.List.Filters.{dedup_is}
 use Rattle.desk_day.proofs.OnceEach.{of_one_each, once_each}
-use Rattle.desk_day.proofs.once.keep_once.Goals as goal
+use Rattle.desk_day.proofs.once.keep_one_of_each.Goals as goal
 
 pub returns-clause-names : goal.returns-clause-names
 returns-clause-names c =
