@@ -22,22 +22,21 @@ further_lines day pass falls passes days =
     ++ (flat_map pass_lines (enumerate_from (pass + 1) passes)
     ++ (flat_map day_lines (enumerate_from (day + 1) days) ++ End ∷ []))
 
--- they stand from a row on, after day and pass lines of these numbers
-record Stand (day pass row : ℕ) (falls : List FallLine) (pass_end : ℕ) (passes : List PassChain) (day_end : ℕ)
-    (days : List DayChain) : Type 0 where
-  pub falls_end : pass_end ≡ row + length falls
-  pub passes_end : StandFrom pass_end passes day_end
-  pub days_from : FollowFrom day_end days
-  pub few : day + length days ≤ 366
-  pub no_pass : pass ≡ 0 → falls ≡ []
-  pub no_day : day ≡ 0 → passes ≡ []
+-- what is said stands from a row on, after day and pass lines of these numbers
+record StandsAfter (day pass row : ℕ) (said : Said) : Type 0 where
+  pub falls_end : said.pass_end ≡ row + length said.falls
+  pub passes_end : StandFrom said.pass_end said.passes said.day_end
+  pub days_from : FollowFrom said.day_end said.days
+  pub few : day + length said.days ≤ 366
+  pub no_pass : pass ≡ 0 → said.falls ≡ []
+  pub no_day : day ≡ 0 → said.passes ≡ []
 
 -- ---- what is read was written
 record SaidSo (day pass row : ℕ) (texts : List (List ℕ)) (said : Said) : Type 0 where
   pub front : List (List ℕ)
   pub ended : texts ≡ front ++ [] ∷ []
   pub lines : WriteLines row front (further_lines day pass said.falls said.passes said.days)
-  pub stand : Stand day pass row said.falls said.pass_end said.passes said.day_end said.days
+  pub stand : StandsAfter day pass row said
 
 with_told : (row : ℕ) (line : Line) (rest : Result Said ChainFault) (said : Said)
     → said_with row (Some line) None rest ≡ Ok said
@@ -230,7 +229,8 @@ last_read day pass row text is = rw is refl
 written_read : (front : List (List ℕ)) (day pass row : ℕ) (falls : List FallLine) (pass_end : ℕ)
     (passes : List PassChain) (day_end : ℕ) (days : List DayChain)
     → WriteLines row front (further_lines day pass falls passes days)
-    → Stand day pass row falls pass_end passes day_end days
+    → StandsAfter day pass row
+    (record { falls = falls; pass_end = pass_end; passes = passes; day_end = day_end; days = days })
     → said_from day pass row (front ++ [] ∷ [])
     ≡ Ok (record { falls = falls; pass_end = pass_end; passes = passes; day_end = day_end; days = days })
 written_read [] day pass row (fall ∷ falls) pass_end passes day_end days are stand = absurd are

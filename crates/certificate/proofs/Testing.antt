@@ -203,23 +203,22 @@ pub top_told : (told s : State) (orders : List CallOrder) (bars : List ℕ) (h :
 top_told told s orders bars h found same is =
     is ∙ ap (λ (t : State). slice_get (demanded_ranks t orders bars h) (free_beds t h)) same
 
--- what a check of a line has found first: the place of its school, and the rank there that finds no
+-- what a check of a line has found first in a round: the place of its school, and the rank there that finds no
 -- bed; and the bars are at most the ceilings
-pub record IsLookedUp (s : State) (orders : List CallOrder) (ceilings bars : List ℕ)
-    (line : FallLine) (h : ℕ) (found : Option ℕ) : Type 0 where
-  pub is : school_of_line s line ≡ h
-  pub lt : h < length ceilings
-  pub told : found ≡ slice_get (demanded_ranks s orders bars h) (free_beds s h)
-  pub under : IsAtMost bars ceilings
+pub record IsLookedUp (x : Round) (line : FallLine) (h : ℕ) (found : Option ℕ) : Type 0 where
+  pub is : school_of_line x.state line ≡ h
+  pub lt : h < length x.ceilings
+  pub told : found ≡ slice_get (demanded_ranks x.state x.orders x.bars h) (free_beds x.state h)
+  pub under : IsAtMost x.bars x.ceilings
 
 module _ {s : State} (r : Round) {x : Round} (view : round_of s r ≡ x) where
   pub looked_up : {index : Ids} {h : ℕ} {found : Option ℕ} (line : FallLine) → IsPassTest r s index
       → position (nat_eq line.school) index.schools ≡ Some h
       → found ≡ slice_get (demanded_ranks r.state r.orders r.bars h) (free_beds r.state h)
-      → IsLookedUp x.state x.orders x.ceilings x.bars line h found
+      → IsLookedUp x line h found
   looked_up {index = index} {h = h} {found = found} line test there answered =
       let place = line_place s index line h test.index there in
-      subst (λ (y : Round). IsLookedUp y.state y.orders y.ceilings y.bars line h found) view (record {
+      subst (λ (y : Round). IsLookedUp y line h found) view (record {
         is = place.1;
         lt = omega (arith, place.0, test.ceilings);
         told = top_told r.state s r.orders r.bars h found test.same answered;
@@ -231,18 +230,17 @@ module _ {s : State} (r : Round) {x : Round} (view : round_of s r ≡ x) where
   bar_seen h from is = subst (λ (y : Round). from ≡ slice_index (bar_each y.ceilings y.bars) h) view is
 
 -- what it has found then: the ranks up to that one, and whether the wishes of the line show them
-pub record AreShown (s : State) (orders : List CallOrder) (bars : List ℕ) (line : FallLine)
-    (h over : ℕ) (ranks : List ℕ) (shows : Bool) : Type 0 where
-  pub long : length s.marks ≡ length s.dossier.wishes
-  pub are : ranks ≡ filter (λ rank. nat_le rank over) (demanded_ranks s orders bars h)
-  pub shown : shows ≡ shows_ranks s orders bars h ranks line.wishes
+pub record AreShown (x : Round) (line : FallLine) (h over : ℕ) (ranks : List ℕ) (shows : Bool) : Type 0 where
+  pub long : length x.state.marks ≡ length x.state.dossier.wishes
+  pub are : ranks ≡ filter (λ rank. nat_le rank over) (demanded_ranks x.state x.orders x.bars h)
+  pub shown : shows ≡ shows_ranks x.state x.orders x.bars h ranks line.wishes
 
 pub are_shown : {s : State} {x : Round} {marks : List Mark} {ranks wishes : List ℕ} {shows : Bool} (r : Round)
     (view : round_of s r ≡ x) (line : FallLine) (h over : ℕ)
     → marks ≡ s.marks → length marks ≡ length s.dossier.wishes
     → ranks ≡ filter (λ rank. nat_le rank over) (demanded_ranks x.state x.orders x.bars h)
     → wishes ≡ line.wishes → shows ≡ shows_ranks x.state x.orders x.bars h ranks wishes
-    → AreShown x.state x.orders x.bars line h over ranks shows
+    → AreShown x line h over ranks shows
 are_shown {x = x} {ranks = ranks} r view line h over marks_are long are named shown =
     record {
       long = subst (λ (y : Round). length y.state.marks ≡ length y.state.dossier.wishes) view
@@ -252,75 +250,71 @@ are_shown {x = x} {ranks = ranks} r view line h over marks_are long are named sh
     }
 
 -- the fault of a line, with its row
-abbrev fault_there : State → List CallOrder → List ℕ → List ℕ → FallLine
-    → Option (ℕ × CheckReason)
-fault_there s orders ceilings bars line =
-    option_map (λ reason. (line.row, reason)) (line_fault s orders ceilings bars line)
+abbrev fault_there : Round → FallLine → Option (ℕ × CheckReason)
+fault_there x line =
+    option_map (λ reason. (line.row, reason)) (line_fault x.state x.orders x.ceilings x.bars line)
 
-module _ {s : State} {orders : List CallOrder} {ceilings bars : List ℕ} {line : FallLine} {h : ℕ} where
-  pub stops_not_over : IsLookedUp s orders ceilings bars line h None
-      → fault_there s orders ceilings bars line ≡ Some (line.row, NotOver)
+module _ {x : Round} {line : FallLine} {h : ℕ} where
+  pub stops_not_over : IsLookedUp x line h None → fault_there x line ≡ Some (line.row, NotOver)
   stops_not_over seen =
       ap (option_map (λ (reason : CheckReason). (line.row, reason)))
-      (is_not_over s orders ceilings bars line h seen.is seen.lt seen.told)
+      (is_not_over x.state x.orders x.ceilings x.bars line h seen.is seen.lt seen.told)
 
-  module _ {over : ℕ} (seen : IsLookedUp s orders ceilings bars line h (Some over)) where
-    pub school_over : is_overfilled (boarding s orders ceilings) bars (school_of_line s line) ≡ true
-    school_over = ap (is_overfilled (boarding s orders ceilings) bars) seen.is
-        ∙ is_over s orders ceilings bars line h seen.is seen.lt seen.under over seen.told
+  module _ {over : ℕ} (seen : IsLookedUp x line h (Some over)) where
+    pub school_over : is_overfilled (boarding x.state x.orders x.ceilings) x.bars (school_of_line x.state line) ≡ true
+    school_over = ap (is_overfilled (boarding x.state x.orders x.ceilings) x.bars) seen.is
+        ∙ is_over x.state x.orders x.ceilings x.bars line h seen.is seen.lt seen.under over seen.told
 
     pub over_from_one : 1 ≤ over
-    over_from_one = from_one s orders ceilings bars line h seen.is seen.lt seen.under over seen.told
+    over_from_one = from_one x.state x.orders x.ceilings x.bars line h seen.is seen.lt seen.under over seen.told
 
-    pub over_below : over - 1 < slice_index bars h
-    over_below = below s orders ceilings bars line h seen.is seen.lt seen.under over seen.told
+    pub over_below : over - 1 < slice_index x.bars h
+    over_below = below x.state x.orders x.ceilings x.bars line h seen.is seen.lt seen.under over seen.told
 
-    module _ {ranks : List ℕ} {shows : Bool}
-        (shown : AreShown s orders bars line h over ranks shows) where
-      pub stops_wrong_wishes : shows ≡ false
-          → fault_there s orders ceilings bars line ≡ Some (line.row, WrongWishes)
+    module _ {ranks : List ℕ} {shows : Bool} (shown : AreShown x line h over ranks shows) where
+      pub stops_wrong_wishes : shows ≡ false → fault_there x line ≡ Some (line.row, WrongWishes)
       stops_wrong_wishes fails =
           ap (option_map (λ (reason : CheckReason). (line.row, reason)))
-          (has_wrong_wishes s orders ceilings bars line h seen.is seen.lt seen.under over seen.told
+          (has_wrong_wishes x.state x.orders x.ceilings x.bars line h seen.is seen.lt seen.under over seen.told
           shown.long ranks shown.are shows shown.shown fails)
 
-      module _ {from : ℕ} {tells : Bool} (from_is : from ≡ slice_index (bar_each ceilings bars) h)
+      module _ {from : ℕ} {tells : Bool} (from_is : from ≡ slice_index (bar_each x.ceilings x.bars) h)
           (told : tells ≡ ((line.from == from) && (line.to == over - 1))) (good : shows ≡ true) where
-        from_there : from ≡ slice_index bars h
-        from_there = from_is ∙ ap (λ (bs : List ℕ). slice_index bs h) (bar_each_is ceilings bars seen.under.as_many)
+        from_there : from ≡ slice_index x.bars h
+        from_there = from_is ∙ ap (λ (bs : List ℕ). slice_index bs h)
+            (bar_each_is x.ceilings x.bars seen.under.as_many)
 
-        pub stops_wrong_bar : tells ≡ false
-            → fault_there s orders ceilings bars line ≡ Some (line.row, WrongBar)
+        pub stops_wrong_bar : tells ≡ false → fault_there x line ≡ Some (line.row, WrongBar)
         stops_wrong_bar fails =
             ap (option_map (λ (reason : CheckReason). (line.row, reason)))
-            (has_wrong_bar s orders ceilings bars line h seen.is seen.lt seen.under over seen.told
+            (has_wrong_bar x.state x.orders x.ceilings x.bars line h seen.is seen.lt seen.under over seen.told
             shown.long ranks shown.are shows shown.shown from tells from_there told good fails)
 
-        pub passes_line : tells ≡ true → fault_there s orders ceilings bars line ≡ None
+        pub passes_line : tells ≡ true → fault_there x line ≡ None
         passes_line holds =
             ap (option_map (λ (reason : CheckReason). (line.row, reason)))
-            (has_none s orders ceilings bars line h seen.is seen.lt seen.under over seen.told
+            (has_none x.state x.orders x.ceilings x.bars line h seen.is seen.lt seen.under over seen.told
             shown.long ranks shown.are shows shown.shown from tells from_there told good holds)
 
 -- no school has the id of the line
-pub stops_unknown : (s : State) (orders : List CallOrder) (ceilings bars : List ℕ) (index : Ids)
-    (line : FallLine) → index ≡ ids_in s.dossier → length ceilings ≡ length s.dossier.schools
-    → position (nat_eq line.school) index.schools ≡ None
-    → fault_there s orders ceilings bars line ≡ Some (line.row, NotOver)
+pub stops_unknown : (x : Round) (index : Ids) (line : FallLine) → index ≡ ids_in x.state.dossier
+    → length x.ceilings ≡ length x.state.dossier.schools → position (nat_eq line.school) index.schools ≡ None
+    → fault_there x line ≡ Some (line.row, NotOver)
 unfolding line_tests
-stops_unknown s orders ceilings bars index line are as_many none =
-    let sys = boarding s orders ceilings in
+stops_unknown x index line are as_many none =
+    let s = x.state in
+    let sys = boarding s x.orders x.ceilings in
     let h = school_of_line s line in
-    let past = no_place (nat_eq line.school) (map (λ (x : School). x.id) s.dossier.schools)
+    let past = no_place (nat_eq line.school) (map (λ (school : School). school.id) s.dossier.schools)
     (ap (λ (i : Ids). position (nat_eq line.school) i.schools) (sym are) ∙ none) in
-    let beyond : length ceilings ≤ h =
-    omega (arith, past, as_many, length-map s.dossier.schools (λ (x : School). x.id)) in
-    let idle : is_overfilled sys bars h ≡ false =
-    ap (λ (b : Bool). b && nat_lt (slice_index sys.free h) (length (sys.ranks bars h)))
-    (le-ltb h (length ceilings) beyond) in
+    let beyond : length x.ceilings ≤ h =
+    omega (arith, past, as_many, length-map s.dossier.schools (λ (school : School). school.id)) in
+    let idle : is_overfilled sys x.bars h ≡ false =
+    ap (λ (b : Bool). b && nat_lt (slice_index sys.free h) (length (sys.ranks x.bars h)))
+    (le-ltb h (length x.ceilings) beyond) in
     ap (λ (b : Bool). option_map (λ (reason : CheckReason). (line.row, reason))
-    (line_tests b (shows_ranks s orders bars h (ranks_up_to_over sys bars h) line.wishes)
-    (tells_bars line (fall_of sys bars h)))) idle
+    (line_tests b (shows_ranks s x.orders x.bars h (ranks_up_to_over sys x.bars h) line.wishes)
+    (tells_bars line (fall_of sys x.bars h)))) idle
 
 -- a fault at a line, or none there
 pub stops_at : (found : CheckStop) (fault rest all : Option (ℕ × CheckReason)) → all ≡ option_or fault rest

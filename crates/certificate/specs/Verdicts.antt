@@ -16,8 +16,8 @@ fault_told (Proved evening) = None
 fault_told (Rejected row reason) = Some (row, reason)
 
 -- the verdict on a day that has no pass
-abbrev pub missing : DayChain → Option Verdict
-missing chain =
+abbrev pub missing_pass : DayChain → Option Verdict
+missing_pass chain =
     cond (nat_eq (length chain.passes) 0)
     (Some (Rejected chain.next_row PassMissing)) None
 

@@ -1,10 +1,10 @@
-//! Whether the chain of a day is valid.
+//! The verdict on the chain of a day.
 ghost use Rattle.std.specs.Prelude.{◌≡◌, ◌<◌, ◌^◌, [], IfOk, IsOk, length};
 ghost use Rattle.admit_core.specs.CallOrder.{AreCallOrders};
 ghost use Rattle.admit_core.specs.Chains.{day_fault};
 ghost use Rattle.certificate.specs.Checked.{ids_in};
 ghost use Rattle.certificate.specs.ProvedDays.{IsProvedDay};
-ghost use Rattle.certificate.specs.Verdicts.{IfProved, IfRejected, KeepsSchool, fault_told, missing};
+ghost use Rattle.certificate.specs.Verdicts.{IfProved, IfRejected, KeepsSchool, fault_told, missing_pass};
 
 use crate::grounds::Grounds;
 use crate::passes::check_day_on;
@@ -16,7 +16,7 @@ use dossier_check::Index;
 use linked_demand::Roster;
 use std::alloc::Global;
 
-/// What a check of a day's chain says: proved, with the evening of the day; or the first fault.
+/// The verdict on a day's chain: proved, with the evening of the day, or its first fault.
 #[derive(Drop)]
 pub enum Verdict<'d> {
     Proved { evening: DayState<'d> },
@@ -52,7 +52,7 @@ pub fn check_day<'d>(
     // A day without a pass is rejected without memory.
     ensures always { chain.now.passes ≡ [] → IsOk result }
 {
-    if let Some(verdict) = missing(chain) {
+    if let Some(verdict) = missing_pass(chain) {
         return Ok(verdict);
     }
     let roster = Roster::build(alloc, morning, orders)?;
@@ -60,7 +60,8 @@ pub fn check_day<'d>(
     check_day_along(alloc, &grounds, morning, ceilings, day, chain)
 }
 
-/// The same on grounds that the days of a chain share.
+/// Tests the chain of a day as [`check_day`] does, on grounds that are made once for all days of
+/// the chain.
 pub fn check_day_along<'d>(
     alloc: Global,
     grounds: &Grounds<'_, '_>,
@@ -81,7 +82,7 @@ pub fn check_day_along<'d>(
         IfProved v (IsProvedDay grounds.now.orders ceilings.now day chain.now morning.now)) }
     ensures always { chain.now.passes ≡ [] → IsOk result }
 {
-    if let Some(verdict) = missing(chain) {
+    if let Some(verdict) = missing_pass(chain) {
         return Ok(verdict);
     }
     let mut present = Present::begin(morning.copy(alloc)?);
@@ -98,8 +99,8 @@ pub fn check_day_along<'d>(
 }
 
 /// The verdict on a day that has no pass.
-fn missing<'d>(chain: &DayChain) -> Option<Verdict<'d>>
-    ensures { result ≡ missing chain.now }
+fn missing_pass<'d>(chain: &DayChain) -> Option<Verdict<'d>>
+    ensures { result ≡ missing_pass chain.now }
 {
     if chain.passes.is_empty() {
         Some(Verdict::Rejected {

@@ -8,7 +8,7 @@ use crate::cut::cut;
 use crate::line::{Kind, is_word, number_of};
 use admit_core::{ChainFault, ChainReason, MAX_DAY};
 
-/// Whether a number is the next one after so many.
+/// Whether a number is one more than this count.
 fn is_next(number: u32, count: u32) -> bool
     ensures { result ≡ nat_eq number (count + 1) }
 {
@@ -76,7 +76,7 @@ fn fall_kind(text: &[u8]) -> Option<Kind>
     if count >= 4 { Some(Kind::Fall) } else { None }
 }
 
-/// What a word and the text behind it write.
+/// Which kind of line a first word and the text behind it are.
 fn kind_with(word: &[u8], after: &[u8]) -> Option<Kind>
     ensures { result ≡ kind_with word.now (numbers (parts 32 after.now)) }
 {
@@ -91,7 +91,7 @@ fn kind_with(word: &[u8], after: &[u8]) -> Option<Kind>
     }
 }
 
-/// What a text without its line feed is; none where it is no line.
+/// Which kind of line a text without its line feed is; none where it is no line.
 fn kind_at(text: &[u8]) -> Option<Kind>
     ensures { (row : ℕ) → result ≡ option_map kind_of (line_of row (parts 32 text.now)) }
 {
@@ -104,7 +104,7 @@ fn kind_at(text: &[u8]) -> Option<Kind>
     }
 }
 
-/// How many day lines there are with a line, which tells its number.
+/// How many day lines there are once this line is counted. A day line tells that number.
 fn days_by(days: u32, kind: Kind) -> u32
     ensures { result ≡ days_by days kind }
 {
@@ -114,7 +114,8 @@ fn days_by(days: u32, kind: Kind) -> u32
     }
 }
 
-/// How many pass lines of the last day there are with a line, which tells its number.
+/// How many pass lines of the last day there are once this line is counted. A pass line tells that
+/// number.
 fn passes_by(passes: u32, kind: Kind) -> u32
     ensures { result ≡ passes_by passes kind }
 {

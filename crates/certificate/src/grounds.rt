@@ -1,4 +1,4 @@
-//! What all days of a chain are tested on.
+//! What the tests of all days of a chain share.
 ghost use Rattle.std.specs.Prelude.{◌≡◌};
 ghost use Rattle.certificate.specs.Checked.{ids_in};
 

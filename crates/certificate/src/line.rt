@@ -15,7 +15,7 @@ pub(crate) enum Line {
     End,
 }
 
-/// What a line is, without what a fall names.
+/// The kind of a line: all that it says but what a fall names.
 #[derive(Clone, Copy)]
 pub(crate) enum Kind {
     Day(u32),
@@ -81,7 +81,7 @@ fn numbers_of(alloc: Global, text: &[u8]) -> Result<Option<Vec<u32>>, OutOfMemor
     Ok(Some(found))
 }
 
-/// The only number of some.
+/// The only number of a list; none where it has none or several.
 fn only(numbers: &[u32]) -> Option<u32>
     ensures { result ≡ only numbers.now }
 {
@@ -112,7 +112,7 @@ fn fall_at(row: u64, numbers: Vec<u32>) -> Option<FallLine>
     })
 }
 
-/// Whether a word is this one.
+/// Whether two words are alike.
 pub(crate) fn is_word(word: &[u8], other: &str) -> bool
     ensures { result ≡ is_word word.now other.now }
 {

@@ -78,7 +78,7 @@ impl PassTest<'_, '_> {
         }
     }
 
-    /// Whether the wishes show the ranks, each its own.
+    /// Whether each of the wishes shows the rank at its place of the list.
     pub(crate) fn show_ranks(&self, school: u32, ranks: &[u32], ids: &[u32]) -> bool
         ensures { result ≡ shows_ranks self.now.state self.now.orders self.now.bars school
             ranks.now ids.now }

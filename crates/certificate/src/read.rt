@@ -1,4 +1,4 @@
-//! The chain that a text writes.
+//! The reading of a chain.
 ghost use Rattle.std.specs.Prelude.{◌≡◌, ◌+◌, ◌<◌, ◌^◌, Err, IfOk, IsOk};
 ghost use Rattle.certificate.specs.Counted.{IsCounted};
 ghost use Rattle.certificate.specs.Grammar.{end_at, fault_at, parts, read};
@@ -20,8 +20,8 @@ fn fault_at(row: u64, reason: ChainReason) -> ChainRefusal
     ChainRefusal::Fault(ChainFault { row, reason })
 }
 
-/// The chain that an `end` line ends, where nothing follows it.
-fn ended(alloc: Global, reading: Reading, row: u64, after: &[u8]) -> Result<Chain, ChainRefusal>
+/// Ends the chain at an `end` line, where nothing follows it.
+fn end_chain(alloc: Global, reading: Reading, row: u64, after: &[u8]) -> Result<Chain, ChainRefusal>
     requires { row + 1 < 2 ^ 64 }
     ensures { Answers (λ chain. chain) result
         (chain_with reading (end_at row (parts 10 after.now))) }
@@ -46,7 +46,7 @@ fn read_lines(alloc: Global, bytes: &[u8]) -> Result<Chain, ChainRefusal>
         };
         let kind = line.kind();
         if kind.is_end() {
-            return ended(alloc, reading, row, after);
+            return end_chain(alloc, reading, row, after);
         }
         if let Some(reason) = reading.misplaced(kind) {
             return Err(fault_at(row, reason));
@@ -58,7 +58,7 @@ fn read_lines(alloc: Global, bytes: &[u8]) -> Result<Chain, ChainRefusal>
     Err(fault_at(row, unended(rest)))
 }
 
-/// Why there is no chain of a text for which memory ran out.
+/// Why no chain came of a text for which memory ran out: its first fault, if it has one.
 fn refusal_of(bytes: &[u8]) -> ChainRefusal
     ensures exact { Refuses result (read bytes.now) }
     ensures told { result ≡ refused.OutOfMemory → IsOk (read bytes.now) }

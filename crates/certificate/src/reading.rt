@@ -1,4 +1,4 @@
-//! A chain that is read line by line.
+//! What has been read of a chain, line by line.
 ghost use Rattle.std.specs.Prelude.{◌≡◌, [], OnOk, IfOk};
 ghost use Rattle.certificate.specs.Grammar.{misplaced_at};
 ghost use Rattle.certificate.specs.Open.{days_until, opened, passes_until};

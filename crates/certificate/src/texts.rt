@@ -20,7 +20,8 @@ pub fn chain_fault_text(alloc: Global, fault: ChainFault) -> Result<Vec<u8>, Out
     Ok(text.into_bytes())
 }
 
-/// Ends the line of a chain that is not valid, with the id of the school that is still overfilled.
+/// Ends the line of a chain that is not valid. Where a school is still overfilled, its id comes
+/// first.
 fn push_kept(text: &mut String, dossier: &Dossier, reason: CheckReason) -> Result<(), AllocError>
     requires { KeepsSchool (length dossier.now.schools) reason }
     ensures { Pushes result text.old text.new (further 32 (kept_id dossier.now reason)) }

@@ -22,7 +22,7 @@ returns-then-is_end c =
     let ends : is_end (Some c.in-Some-2.line) ≡ true = ap is_end_kind (sym c.kind-kind.ensures) ∙ sym c.is_end.ensures
     ∙ c.if-is_end.true in
     rw (has_ended c.lines.reading c.lines.row c.in-Some.text.now c.in-Some.after.now _
-    c.in-Some-2.line _ first line ends c.lines.invariant.whole) c.ended.ensures
+    c.in-Some-2.line _ first line ends c.lines.invariant.whole) c.end_chain.ensures
 
 pub returns-in-Some-misplaced : goal.returns-in-Some-misplaced
 returns-in-Some-misplaced c =

@@ -5,6 +5,7 @@ use Rattle.admit_core.specs.Chains.{line_fault}
 use Rattle.admit_core.specs.declared.chain.CheckReason.{CheckReason}
 use Rattle.admit_core.specs.declared.chain.CheckReason.TheVariants.{NotOver}
 use Rattle.linked_demand.specs.Rounds.{Round}
+use Rattle.certificate.specs.PassTests.{round_of}
 use Rattle.certificate.proofs.Testing.{are_shown, bar_seen, looked_up, over_below, over_from_one, school_over}
 use Rattle.certificate.proofs.Testing.{passes_line, stops_not_over, stops_unknown, stops_wrong_bar}
 use Rattle.certificate.proofs.Testing.{stops_wrong_wishes}
@@ -17,7 +18,7 @@ returns-in_default-clause-found c =
     let line = c.args.line.now in
     rw c.rejected_at.ensures (subst (λ (x : Round). option_map (λ (reason : CheckReason). (line.row, reason))
     (line_fault x.state x.orders x.ceilings x.bars line) ≡ Some (line.row, NotOver)) c.self.view_is
-    (stops_unknown s r.orders r.ceilings r.bars c.self.inside.index.now line c.self.invariant.index
+    (stops_unknown (round_of s r) c.self.inside.index.now line c.self.invariant.index
     c.self.invariant.ceilings (sym c.school_place.ensures ∙ c.in_default.is)))
 
 pub returns-in_default-first_over-clause-found : goal.returns-in_default-first_over-clause-found

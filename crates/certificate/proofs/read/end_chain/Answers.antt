@@ -1,7 +1,7 @@
 use Rattle.std.proofs.Common.{◌<◌, length, rules, ap}
 use Rattle.certificate.specs.Open.{chain_with}
 use Rattle.certificate.proofs.Saying.{bytes_follow}
-use Rattle.certificate.proofs.read.ended.Goals as goal
+use Rattle.certificate.proofs.read.end_chain.Goals as goal
 
 pub returns-then-not-is_empty : goal.returns-then-not-is_empty
 returns-then-not-is_empty c =
