@@ -64,7 +64,8 @@ impl BedQuestions<'_, '_> {
     }
 }
 
-/// The same as `BedQuestions::grown_bars`, along a roster of its own.
+/// Finds the bars before and after more beds, as [`BedQuestions::grown_bars`] does, along a roster
+/// that is made for it.
 pub fn grown_bars(
     alloc: Global,
     state: &DayState<'_>,

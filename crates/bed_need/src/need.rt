@@ -74,7 +74,8 @@ impl BedQuestions<'_, '_> {
     }
 }
 
-/// The same as `BedQuestions::least_beds`, along a roster of its own.
+/// Finds the least beds of a school, as [`BedQuestions::least_beds`] does, along a roster that is
+/// made for it.
 pub fn least_beds(
     alloc: Global,
     state: &DayState<'_>,

@@ -38,7 +38,7 @@ pub(crate) fn settled<'a, 'd>(
     counted::<Brand>(alloc, Blank::new(1), questions, beds, ceilings, picker)
 }
 
-/// The same with a counter of steps that nobody reads.
+/// Settles the bars of a round, with a counter of steps that nobody reads.
 fn counted<'a, 'd, L: Ledger>(
     alloc: Global,
     blank: Blank,

@@ -71,8 +71,8 @@ pub fn blocking_pairs_along<'a, 'd>(
     listed_blocks(alloc, &noted)
 }
 
-/// The same, along a roster that is made for it: a walk along the call order of each group. Where
-/// days were run, theirs serves (`blocking_pairs_along`).
+/// Lists the wishes that block a state, along a roster that is made for it: a walk along the call
+/// order of each group. Where days were run, theirs serves ([`blocking_pairs_along`]).
 pub fn blocking_pairs(
     alloc: Global,
     state: &DayState<'_>,

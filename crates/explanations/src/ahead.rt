@@ -1,4 +1,4 @@
-//! Those who stand before a candidate in a call order.
+//! Who stands ahead of a candidate in a call order.
 ghost use Rattle.std.specs.Prelude.{◌≡◌, ◌==◌, ◌≤◌, length, nat_eq, count_by, position};
 ghost use Rattle.std.specs.List.{before_first};
 ghost use Rattle.admit_core.specs.Proposals.{wants_seat};
@@ -39,7 +39,8 @@ fn place_in(order: &[u32], candidate: u32) -> Option<usize>
     order.iter().position(|called| candidate == *called)
 }
 
-/// Those who stand before a candidate in a call order; all of it where the candidate isn't in it.
+/// Those who stand before a candidate in a call order, or the whole order where it does not have
+/// the candidate.
 pub(crate) fn before(order: &[u32], candidate: u32) -> &[u32]
     ensures before { result.now ≡ before_first (nat_eq candidate) order.now }
     ensures no_longer { length result.now ≤ length order.now }

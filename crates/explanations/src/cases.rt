@@ -97,7 +97,7 @@ fn is_barred(last: &Closing<'_, '_>, place: u32) -> bool
     mark_at(last.opening, place).is_waiting() && !is_open(last.opening, last.bars, place)
 }
 
-/// The bar of a school, and why it is as low as it is, beside a rank there.
+/// Explains a rank that a school bars: by its bar, and by why that is as low as it is.
 fn barred_at(last: &Closing<'_, '_>, rank: u32, school: u32) -> Explanation
     requires { school < length last.now.opening.dossier.schools }
     ensures { result ≡ barred_at last.now rank (Some school) }
@@ -125,7 +125,8 @@ fn cause_of(last: &Closing<'_, '_>, school: u32) -> BarCause
     }
 }
 
-/// How many stand ahead and how many seats are left, the position and the call limit.
+/// Explains a wish without a seat: by how many stand ahead, how many seats are left, the position
+/// and the call limit.
 fn no_seat(last: &Closing<'_, '_>, wish: Wish) -> Explanation
     requires { wish.programme < length last.now.opening.dossier.programmes }
     ensures { result ≡ no_seat last.now wish }
