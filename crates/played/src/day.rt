@@ -1,4 +1,4 @@
-//! One day of a run.
+//! One day of a run, with its picker.
 ghost use Rattle.std.specs.Prelude.{◌≡◌, IsSome, option_copied};
 ghost use Rattle.admit_core.specs.Lapses.{AreTermsFor};
 ghost use Rattle.admit_core.specs.Ranges.{IsDay as IsDayNumber};
@@ -18,7 +18,7 @@ use request::{PickerName, picker_on};
 use round::Falls;
 use std::alloc::Global;
 
-/// Runs a day under its own ceilings, with this picker.
+/// Runs a day under the ceilings of that day, with this picker.
 fn run_with(
     alloc: Global,
     desk: &mut Desk<'_>,
@@ -49,7 +49,7 @@ fn run_with(
     run_day_by(alloc, desk, roster, plan, picker)
 }
 
-/// Runs a day with the picker of this place, which is there again afterwards.
+/// Lends the picker in this place to a day, and puts it back.
 fn run_lent(
     alloc: Global,
     desk: &mut Desk<'_>,
@@ -78,6 +78,7 @@ fn run_lent(
           choice = choice_in choice place.new;
         })) result }
 {
+    // Pickers are in their places between two days: `there`.
     let Some(mut picker) = place.take() else {
         unreachable!()
     };
@@ -86,7 +87,8 @@ fn run_lent(
     done
 }
 
-/// Runs a day with the picker of the day; an answer that does not fit leaves the evening before.
+/// Runs a day with the picker whose turn it is. After an answer that does not fit the state is that
+/// of the evening before.
 pub(crate) fn next_day(
     alloc: Global,
     desk: &mut Desk<'_>,

@@ -70,8 +70,8 @@ fn play_days(
     Ok(())
 }
 
-/// A run for which no day is asked.
-fn unplayed<'a, 'd>(alloc: Global, dossier: &'d Dossier, orders: &'a CallOrders) -> Played<'a, 'd>
+/// What a run of no days leaves: its first desk, which is made only when it is asked for.
+fn play_none<'a, 'd>(alloc: Global, dossier: &'d Dossier, orders: &'a CallOrders) -> Played<'a, 'd>
     requires { AreCallOrders dossier.now.groups orders.now.orders }
     ensures days { result.days.items ≡ [] }
     ensures end { result.end ≡ Ok (record {
@@ -169,7 +169,7 @@ pub fn play<'a, 'd>(
     play_wanted(alloc, dossier, orders, terms, wanted, pickers)
 }
 
-/// Runs days as [`play`] does. Where their falls are not kept, the records have none, and the days
+/// Runs days as [`play`] does. Where their falls are left out, the records have none, and the days
 /// take no memory for them.
 pub fn play_wanted<'a, 'd>(
     alloc: Global,
@@ -198,7 +198,7 @@ pub fn play_wanted<'a, 'd>(
         result (λ p. record { days = p.days.items; end = p.end }) }
 {
     if wanted.number == 0 {
-        return Ok(unplayed(alloc, dossier, orders));
+        return Ok(play_none(alloc, dossier, orders));
     }
     play_some(alloc, dossier, orders, terms, wanted, pickers)
 }

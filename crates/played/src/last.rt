@@ -68,7 +68,7 @@ impl<'a, 'd> DeskAlong<'a, 'd> {
         &self.roster
     }
 
-    /// Both.
+    /// Takes the pair apart.
     pub(crate) fn into_parts(self) -> (Desk<'d>, Roster<'a, 'd>)
         ensures desk { result.0 ≡ self.entry.desk }
         ensures dossier { result.1.dossier ≡ self.entry.desk.present.dossier }
@@ -78,7 +78,7 @@ impl<'a, 'd> DeskAlong<'a, 'd> {
         (desk, roster)
     }
 
-    /// The present state alone, and the roster.
+    /// Gives back the other states, and returns the present one and the roster.
     pub fn into_now(self) -> (DayState<'d>, Roster<'a, 'd>)
         ensures state { result.0 ≡ self.entry.desk.present }
         ensures dossier { result.1.dossier ≡ self.entry.desk.present.dossier }
@@ -198,8 +198,8 @@ impl<'a, 'd> LastDesk<'a, 'd> {
         }
     }
 
-    /// The present state alone, and the roster. Where days were run both are there, and no memory
-    /// is taken; elsewhere no other state is begun.
+    /// The present state and the roster, without the other states. Where days were run both are
+    /// there, and no memory is taken; elsewhere only these two are made.
     pub fn into_now_along(
         self,
         alloc: Global,
@@ -222,8 +222,8 @@ impl<'a, 'd> LastDesk<'a, 'd> {
         }
     }
 
-    /// The present state alone. Where days were run it is there, and no memory is taken; elsewhere
-    /// no other state is begun, and no roster made.
+    /// The present state, without the others and the roster. Where days were run it is there, and
+    /// no memory is taken; elsewhere it alone is made.
     pub fn into_now(self, alloc: Global) -> Result<DayState<'d>, OutOfMemory>
         ensures now { IfOk result (λ state. state ≡ self.entry.desk.present) }
         ensures begun { self.entry.is_begun ≡ true → IsOk result }
@@ -239,8 +239,8 @@ impl<'a, 'd> LastDesk<'a, 'd> {
         }
     }
 
-    /// The dossier, and of the present state the marks of its wishes alone. Where days were run,
-    /// both are there, and no memory is taken.
+    /// The dossier, and the marks of its wishes in the present state. Where days were run, both are
+    /// there, and no memory is taken.
     pub fn into_marks(self, alloc: Global) -> Result<(&'d Dossier, Marks), OutOfMemory>
         ensures dossier { IfOk result (λ parts. parts.0.now ≡ self.entry.desk.present.dossier) }
         ensures marks { IfOk result (λ parts. parts.1 ≡ self.entry.desk.present.marks) }

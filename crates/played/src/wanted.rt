@@ -9,6 +9,6 @@ pub struct Wanted {
     /// At most 366.
     pub number: u32,
     pub who: PickerChoice,
-    /// What the records have of the falls of their passes.
+    /// Whether the records keep the falls of their passes.
     pub falls: Falls,
 }

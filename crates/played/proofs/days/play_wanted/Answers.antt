@@ -4,5 +4,5 @@ use Rattle.played.proofs.days.play_wanted.Goals as goal
 
 pub returns-then-wanted-eq0-clause-ends : goal.returns-then-wanted-eq0-clause-ends
 returns-then-wanted-eq0-clause-ends g c =
-    none_played_kept _ _ _ _ _ c.requires.orders c.unplayed.ensures.days c.unplayed.ensures.end
+    none_played_kept _ _ _ _ _ c.requires.orders c.play_none.ensures.days c.play_none.ensures.end
     (omega (arith, c.if-wanted-eq0.true))
