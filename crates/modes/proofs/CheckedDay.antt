@@ -1,7 +1,8 @@
 -- A day whose chain is tested.
 use Rattle.std.proofs.Common.{◌≡◌, ◌≢◌, ◌∙◌, ℕ, ◌+◌, List, [], ◌∷◌, Option, None, Some, Result, Ok, Err, IfOk, IfSome}
 use Rattle.std.proofs.Common.{All, ap, length, map, refl, subst, sym}
-use Rattle.std.specs.Prelude.{Vec}
+use Rattle.std.specs.Prelude.{◌==◌, Bool, Vec, false}
+use Rattle.std.proofs.lemmas.Bool.{false≢true}
 use Rattle.std.specs.declared.alloc.Global.{Global}
 use Rattle.std.specs.Prelude.{option_map}
 use Rattle.std.specs.List.{range_with_len}
@@ -33,7 +34,8 @@ use Rattle.intake.specs.Dated.{AreDatedFor}
 use Rattle.intake.specs.declared.terms.DatedTerms.{DatedTerms}
 use Rattle.modes.proofs.Writable.{finals_dated, first_known}
 use Rattle.modes.specs.CheckedDays.{IsEveningOfDay, StopsBy, TellsWhy, why_of}
-use Rattle.modes.specs.Checking.{EndsProof, IsRefused, IsReply, Replies, rejected_at, why_none, why_not, why_without}
+use Rattle.modes.specs.Checking.{IsDoneUnless, IsRefused, IsReply, IsReplyAfterTest, MayLackMemory, rejected_at}
+use Rattle.modes.specs.Checking.{why_not, why_not_all, why_without_pass}
 use Rattle.modes.specs.Replay.{CanBeDated, CanBeWritten}
 use Rattle.modes.specs.declared.exit.Exit.{Exit}
 use Rattle.modes.specs.declared.exit.Exit.TheVariants as exits
@@ -66,19 +68,25 @@ days_stay terms orders day old (chain ∷ chains) =
 
 -- why a day is refused whose chain has no pass
 pub without_pass : (terms : Option Terms) (orders : List CallOrder) (day : ℕ) (old : State) (chain : DayChain)
-    → chain.passes ≡ [] → why_not terms orders day old chain ≡ why_without terms day old chain
+    → chain.passes ≡ [] → why_not terms orders day old chain ≡ why_without_pass terms day old chain
 without_pass terms orders day old chain none =
     ap (λ (passes : List PassChain).
     option_or (option_map (λ x. Unfit (unfit_refusal old.dossier day x)) (unfit_on terms day old))
     (rejected_at (passes_fault orders (ceilings_of old.dossier day) day chain.next_row 1 (morning terms day old)
     passes))) none
 
+-- passes of which it was found that they are not empty
+pub not_empty : (passes : List PassChain) (is_empty : Bool) → is_empty ≡ (length passes == 0) → is_empty ≡ false
+    → passes ≢ []
+not_empty passes is_empty is apart none =
+    false≢true (sym apart ∙ is ∙ ap (λ (ps : List PassChain). length ps == 0) none)
+
 never_none : (o : Option Why) (why : Why) → option_or o (Some why) ≡ None → ⊥
 never_none None why e = cc
 never_none (Some x) why e = cc
 
 -- a day that is proved has a pass
-pub has_pass : (terms : Option Terms) (orders : List CallOrder) (day : ℕ) (old : State) (chain : DayChain)
+has_pass : (terms : Option Terms) (orders : List CallOrder) (day : ℕ) (old : State) (chain : DayChain)
     → why_not terms orders day old chain ≡ None → chain.passes ≢ []
 has_pass terms orders day old chain proved none =
     never_none _ _ (sym (without_pass terms orders day old chain none) ∙ proved)
@@ -89,13 +97,21 @@ none_first f None o e = refl
 none_first f (Some x) o e = cc
 
 -- each answer of a day that is proved fits
-pub has_fit : (terms : Option Terms) (orders : List CallOrder) (day : ℕ) (old : State) (chain : DayChain)
+has_fit : (terms : Option Terms) (orders : List CallOrder) (day : ℕ) (old : State) (chain : DayChain)
     → why_not terms orders day old chain ≡ None → unfit_on terms day old ≡ None
 has_fit terms orders day old chain proved =
     none_first (λ (x : ℕ × Status). Unfit (unfit_refusal old.dossier day x)) (unfit_on terms day old)
     (rejected_at (day_fault orders (ceilings_of old.dossier day) day (morning terms day old) chain)) proved
 
--- so does each of a day whose beginning ran out of memory
+-- so memory may have run out on it
+pub may_lack : (terms : Option Terms) (orders : List CallOrder) (day : ℕ) (old : State) (chain : DayChain)
+    → why_not terms orders day old chain ≡ None → MayLackMemory terms day old chain
+may_lack terms orders day old chain proved = record {
+  fits = has_fit terms orders day old chain proved;
+  has_pass = has_pass terms orders day old chain proved;
+}
+
+-- each answer fits too of a day whose beginning ran out of memory
 pub fits_begun : (d : DossierRows) (day : ℕ) (unfit : Option (ℕ × Status)) (refusal : DayRefusal)
     → IsUnfitOf d day unfit refusal → why_of refusal ≡ unproved.OutOfMemory → unfit ≡ None
 fits_begun d day unfit (refusals.Unfit refusal) is e = cc
@@ -169,9 +185,9 @@ why_goes_on why rest all is none = is ∙ ap (λ o. option_or o rest) none
 
 -- a stop of the test is that of the days
 pub stop_ends : (d : DossierRows) (found : Why) (why : Option Why) (whole : List ℕ) (exit : Exit)
-    (text : List ℕ) → why ≡ Some found → IsRefused d found exit text → EndsProof d why whole exit text
+    (text : List ℕ) → why ≡ Some found → IsRefused d found exit text → IsDoneUnless d why whole exit text
 stop_ends d found why whole exit text stops is =
-    subst (λ (o : Option Why). EndsProof d o whole exit text) (sym stops) is
+    subst (λ (o : Option Why). IsDoneUnless d o whole exit text) (sym stops) is
 
 -- days that are proved have nothing against them, and lead to their evening
 none_against : (terms : Option Terms) (orders : List CallOrder) (day : ℕ) (old : State) (chain : DayChain)
@@ -186,61 +202,61 @@ none_against terms orders day old chain evening fits valid =
     (evening, valid))
 
 pub proved_none : (terms : Option Terms) (orders : List CallOrder) (d : ℕ) (old : State) (chains : List DayChain)
-    (new : State) → AreProvedDays terms orders d old chains new → why_none terms orders d old chains ≡ None
+    (new : State) → AreProvedDays terms orders d old chains new → why_not_all terms orders d old chains ≡ None
 proved_none terms orders d old [] new are = refl
 proved_none terms orders d old (chain ∷ chains) new are =
     let evening = are.0 in
     let leads_to = evening_is orders (ceilings_of old.dossier d) d 1 (morning terms d old) chain.passes evening are.2 in
-    ap (λ (o : Option Why). option_or o (why_none terms orders (d + 1)
+    ap (λ (o : Option Why). option_or o (why_not_all terms orders (d + 1)
     (evening_by terms orders d old chain) chains)) (none_against terms orders d old chain evening are.1 are.2)
-    ∙ ap (λ (s : State). why_none terms orders (d + 1) s chains) (sym leads_to)
+    ∙ ap (λ (s : State). why_not_all terms orders (d + 1) s chains) (sym leads_to)
     ∙ proved_none terms orders (d + 1) evening chains new are.3
 
 -- the test goes on after a day that is proved, and stops at one that is not
 module _ (terms : Option Terms) (orders : List CallOrder) (k : ℕ) (s next : State) (chain : DayChain)
     (rest : List DayChain) where
-  pub days_go_on : (whole : Option Why) → whole ≡ why_none terms orders k s (chain ∷ rest)
+  pub days_go_on : (whole : Option Why) → whole ≡ why_not_all terms orders k s (chain ∷ rest)
       → why_not terms orders k s chain ≡ None → next ≡ evening_by terms orders k s chain
-      → whole ≡ why_none terms orders (k + 1) next rest
+      → whole ≡ why_not_all terms orders (k + 1) next rest
   days_go_on whole e none is =
       why_goes_on (why_not terms orders k s chain)
-      (why_none terms orders (k + 1) (evening_by terms orders k s chain) rest) whole e none
-      ∙ ap (λ (t : State). why_none terms orders (k + 1) t rest) (sym is)
+      (why_not_all terms orders (k + 1) (evening_by terms orders k s chain) rest) whole e none
+      ∙ ap (λ (t : State). why_not_all terms orders (k + 1) t rest) (sym is)
 
   pub evening_goes_on : (whole : State) → whole ≡ evening_after terms orders k s (chain ∷ rest)
       → next ≡ evening_by terms orders k s chain → whole ≡ evening_after terms orders (k + 1) next rest
   evening_goes_on whole e is = e ∙ ap (λ (t : State). evening_after terms orders (k + 1) t rest) (sym is)
 
-  pub days_stop : (found : Unproved) (whole : Option Why) → whole ≡ why_none terms orders k s (chain ∷ rest)
+  pub days_stop : (found : Unproved) (whole : Option Why) → whole ≡ why_not_all terms orders k s (chain ∷ rest)
       → StopsBy found (why_not terms orders k s chain) → StopsBy found whole
   days_stop found whole e stops = why_stops found (why_not terms orders k s chain)
-      (why_none terms orders (k + 1) (evening_by terms orders k s chain) rest) whole e stops
+      (why_not_all terms orders (k + 1) (evening_by terms orders k s chain) rest) whole e stops
 
 -- the same days along the same orders from the same evening
 module _ {terms told : Option Terms} {orders lent : List CallOrder} {first begun : State} (days : List DayChain)
     (as_told : told ≡ terms) (as_lent : lent ≡ orders) (as_begun : begun ≡ first) where
-  pub why_alike : why_none told lent 1 begun days ≡ why_none terms orders 1 first days
-  why_alike = λ i. why_none (as_told i) (as_lent i) 1 (as_begun i) days
+  pub why_alike : why_not_all told lent 1 begun days ≡ why_not_all terms orders 1 first days
+  why_alike = λ i. why_not_all (as_told i) (as_lent i) 1 (as_begun i) days
 
   pub evening_alike : evening_after told lent 1 begun days ≡ evening_after terms orders 1 first days
   evening_alike = λ i. evening_after (as_told i) (as_lent i) 1 (as_begun i) days
 
 -- a run is done where nothing is against its days
 pub proof_ends : (d : DossierRows) (found : Option Why) (whole : List ℕ) (exit : Exit) (text : List ℕ)
-    → found ≡ None → IsReply exits.Done whole exit text → EndsProof d found whole exit text
+    → found ≡ None → IsReply exits.Done whole exit text → IsDoneUnless d found whole exit text
 proof_ends d found whole exit text none is =
-    subst (λ (o : Option Why). EndsProof d o whole exit text) (sym none) is
+    subst (λ (o : Option Why). IsDoneUnless d o whole exit text) (sym none) is
 
 -- a reply is by what the test of the days told
-pub proof_replied : (d : DossierRows) (why : Option Why) (whole : List ℕ) (tested : Result (Vec ℕ Global) Unproved)
+pub reply_as_tested : (d : DossierRows) (why : Option Why) (whole : List ℕ) (tested : Result (Vec ℕ Global) Unproved)
     (result : Result Reply OutOfMemory) → TellsWhy tested why → IfOk tested (λ text. text.items ≡ whole)
-    → Replies d tested result → IfOk result (λ reply. EndsProof d why whole reply.exit reply.text.items)
-proof_replied d why whole (Ok text) (Ok reply) none is ends =
+    → IsReplyAfterTest d tested result → IfOk result (λ reply. IsDoneUnless d why whole reply.exit reply.text.items)
+reply_as_tested d why whole (Ok text) (Ok reply) none is ends =
     proof_ends d why whole reply.exit reply.text.items none (ends.0, ends.1 ∙ is)
-proof_replied d why whole (Err (Refused found)) (Ok reply) stops is ends =
+reply_as_tested d why whole (Err (Refused found)) (Ok reply) stops is ends =
     stop_ends d found why whole reply.exit reply.text.items stops ends
-proof_replied d why whole (Err unproved.OutOfMemory) (Ok reply) stops is ends = absurd ends
-proof_replied d why whole tested (Err e) tells is ends = tt
+reply_as_tested d why whole (Err unproved.OutOfMemory) (Ok reply) stops is ends = absurd ends
+reply_as_tested d why whole tested (Err e) tells is ends = tt
 
 -- the evening after days from the first one on can be written with its dates
 pub evening_dated : (d : DossierRows) (dated : Option DatedTerms) (begun evening : State) → begun ≡ first_evening d

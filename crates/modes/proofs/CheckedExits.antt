@@ -11,7 +11,7 @@ use Rattle.certificate.specs.ProvedDays.{AreProvedDays, evening_after}
 use Rattle.intake.specs.Dated.{terms_in}
 use Rattle.intake.specs.declared.terms.DatedTerms.{DatedTerms}
 use Rattle.modes.proofs.CheckedDay.{proved_none}
-use Rattle.modes.specs.Checking.{EndsCheck, EndsProof, IsChecked, proved_text}
+use Rattle.modes.specs.Checking.{EndsCheck, IsDoneUnless, IsChecked, proved_text}
 use Rattle.modes.specs.declared.exit.Exit.{Exit}
 use Rattle.modes.specs.declared.exit.Exit.TheVariants as exits
 use Rattle.modes.specs.declared.unproved.Why.{Why}
@@ -28,7 +28,7 @@ pub is_after : (exit is : Exit) → exit ≡ is → IsAfterDays is → IsAfterDa
 is_after exit is e after = subst IsAfterDays (sym e) after
 
 proof_exit : (d : DossierRows) (why : Option Why) (whole : List ℕ) (exit : Exit) (text : List ℕ)
-    → EndsProof d why whole exit text → IsAfterDays exit
+    → IsDoneUnless d why whole exit text → IsAfterDays exit
 proof_exit d None whole exit text ends = is_after exit exits.Done ends.0 tt
 proof_exit d (Some (whys.NoChain fault)) whole exit text ends = is_after exit exits.NotProved ends.0 tt
 proof_exit d (Some (whys.Unfit refusal)) whole exit text ends = is_after exit exits.Refused ends.0 tt
@@ -54,6 +54,6 @@ check_done d dated orders bytes chain evening exit text reads are ends =
     let whole = proved_text (length chain.days)
     (evening_after (terms_in dated) orders 1 (first_evening d) chain.days) dated in
     let none = proved_none (terms_in dated) orders 1 (first_evening d) chain.days evening are in
-    let done : EndsProof d None whole exit text =
-    subst (λ (o : Option Why). EndsProof d o whole exit text) none told in
+    let done : IsDoneUnless d None whole exit text =
+    subst (λ (o : Option Why). IsDoneUnless d o whole exit text) none told in
     done.0

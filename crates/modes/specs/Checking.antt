@@ -50,22 +50,28 @@ why_not terms orders d old chain =
     (rejected_at (day_fault orders (ceilings_of old.dossier d) d (morning terms d old) chain))
 
 -- why a day is not proved whose chain has no pass
-abbrev pub why_without : Option Terms → ℕ → State → DayChain → Option Why
-why_without terms d old chain =
+abbrev pub why_without_pass : Option Terms → ℕ → State → DayChain → Option Why
+why_without_pass terms d old chain =
     option_or (option_map (λ x. Unfit (unfit_refusal old.dossier d x)) (unfit_on terms d old))
     (Some (Rejected (record { row = chain.next_row; reason = PassMissing })))
 
--- the first of these days has a pass
-abbrev pub BeginsWithPass : List DayChain → Type 0
-BeginsWithPass [] = ⊥
-BeginsWithPass (chain ∷ chains) = chain.passes ≢ []
+-- memory may run out on a day only where its answers fit and its chain has a pass
+pub record MayLackMemory (terms : Option Terms) (day : ℕ) (old : State) (chain : DayChain)
+    : Type 0 where
+  pub fits : unfit_on terms day old ≡ None
+  pub has_pass : chain.passes ≢ []
+
+-- on days from this one on it may run out only where it may on the first of them
+abbrev pub DaysMayLackMemory : Option Terms → ℕ → State → List DayChain → Type 0
+DaysMayLackMemory terms day old [] = ⊥
+DaysMayLackMemory terms day old (chain ∷ chains) = MayLackMemory terms day old chain
 
 -- why days from day d on are not all proved: by the first of them that is not
-abbrev pub why_none : Option Terms → List CallOrder → ℕ → State → List DayChain → Option Why
-why_none terms orders d old [] = None
-why_none terms orders d old (chain ∷ chains) =
+abbrev pub why_not_all : Option Terms → List CallOrder → ℕ → State → List DayChain → Option Why
+why_not_all terms orders d old [] = None
+why_not_all terms orders d old (chain ∷ chains) =
     option_or (why_not terms orders d old chain)
-    (why_none terms orders (d + 1) (evening_by terms orders d old chain) chains)
+    (why_not_all terms orders (d + 1) (evening_by terms orders d old chain) chains)
 
 -- the exit and the text of a run
 abbrev pub IsReply : Exit → List ℕ → Exit → List ℕ → Type 0
@@ -76,12 +82,13 @@ abbrev pub proved_text : ℕ → State → Option DatedTerms → List ℕ
 proved_text number evening dated =
     line (codes "proved" ∷ decimal number ∷ []) ++ final_lines evening dated
 
--- how a run ends whose chain is refused, and its line
+-- the exit of a run whose chain is refused
 abbrev pub exit_by : Why → Exit
 exit_by (NoChain fault) = NotProved
 exit_by (Unfit refusal) = Refused
 exit_by (Rejected found) = NotProved
 
+-- the line that tells why a chain is refused
 abbrev pub why_line : DossierRows → Why → List ℕ
 why_line d (NoChain fault) = chain_fault_text fault ++ 10 ∷ []
 why_line d (Unfit refusal) = refusal_line refusal
@@ -90,10 +97,10 @@ why_line d (Rejected found) = verdict_text d found.row found.reason
 abbrev pub IsRefused : DossierRows → Why → Exit → List ℕ → Type 0
 IsRefused d why = IsReply (exit_by why) (why_line d why)
 
--- a run is done with its whole text where nothing stands against it
-abbrev pub EndsProof : DossierRows → Option Why → List ℕ → Exit → List ℕ → Type 0
-EndsProof d None whole = IsReply Done whole
-EndsProof d (Some why) whole = IsRefused d why
+-- a run is done with its whole text, unless this stands against it: then it is refused
+abbrev pub IsDoneUnless : DossierRows → Option Why → List ℕ → Exit → List ℕ → Type 0
+IsDoneUnless d None whole = IsReply Done whole
+IsDoneUnless d (Some why) whole = IsRefused d why
 
 -- a text that is no chain has one line; else the days of the chain are tested, from the first
 -- evening on
@@ -101,24 +108,24 @@ abbrev pub EndsCheck : DossierRows → Option DatedTerms → List CallOrder → 
     → Exit → List ℕ → Type 0
 EndsCheck d dated orders (Err fault) = IsRefused d (NoChain fault)
 EndsCheck d dated orders (Ok chain) =
-    EndsProof d (why_none (terms_in dated) orders 1 (first_evening d) chain.days)
+    IsDoneUnless d (why_not_all (terms_in dated) orders 1 (first_evening d) chain.days)
     (proved_text (length chain.days)
     (evening_after (terms_in dated) orders 1 (first_evening d) chain.days) dated)
 
--- what is replied to a chain that is refused: its line, unless this is longer than the room of one
+-- the reply to a chain that is refused: its line, unless this is longer than the room of one
 abbrev pub TellsRefused : DossierRows → Why → Result Reply OutOfMemory → Type 0
 TellsRefused d why result =
     MatchResult result (λ reply. IsRefused d why reply.exit reply.text.items)
     (λ _. 128 < length (why_line d why))
 
--- what is replied where the days of a chain have been tested: memory runs out where it did in the
--- test
-abbrev pub Replies : DossierRows → Result (Vec ℕ Global) Unproved → Result Reply OutOfMemory
-    → Type 0
-Replies d (Ok text) result =
+-- the reply once the days of a chain have been tested: memory runs out exactly where it did in the
+-- test, or for a line that is longer than its room
+abbrev pub IsReplyAfterTest : DossierRows → Result (Vec ℕ Global) Unproved
+    → Result Reply OutOfMemory → Type 0
+IsReplyAfterTest d (Ok text) result =
     MatchResult result (λ reply. IsReply Done text.items reply.exit reply.text.items) (λ _. ⊥)
-Replies d (Err (unproved.Refused why)) result = TellsRefused d why result
-Replies d (Err unproved.OutOfMemory) result = MatchResult result (λ _. ⊥) (λ _. ⊤)
+IsReplyAfterTest d (Err (unproved.Refused why)) result = TellsRefused d why result
+IsReplyAfterTest d (Err unproved.OutOfMemory) result = MatchResult result (λ _. ⊥) (λ _. ⊤)
 
 -- how a run ends whose chain slot has these bytes
 abbrev pub IsChecked : DossierRows → List ℕ → Option DatedTerms → List CallOrder → Exit

@@ -50,7 +50,8 @@ asked_by asking.Market = Market
 
 -- what was played where all days have led to a desk
 abbrev pub played_by : AllPlayed → Played
-played_by played = record { orders = played.last.orders; days = played.days.items; end = Ok played.last.desk }
+played_by played =
+    record { orders = played.last.orders; days = played.days.items; end = Ok played.last.desk }
 
 -- a run is done with its whole text
 abbrev pub IsDoneWith : List ℕ → Exit → List ℕ → Type 0
@@ -135,14 +136,14 @@ pub record EndsLent {E : Type 0} (view : JobView) (played : Played) (desk : Desk
 
 -- how a run ends after its days, with the pickers as they stand between the days and the ending,
 -- and afterwards
-pub record EndsAfter {E : Type 0} (end : Result DeskStates Refusal) (view : JobView) (played : Played)
-    (between after : Lent) (result : Result Reply E) : Type 0 where
+pub record EndsAfter {E : Type 0} (end : Result DeskStates Refusal) (view : JobView)
+    (played : Played) (between after : Lent) (result : Result Reply E) : Type 0 where
   pub ends : IfOk result (λ reply. EndsWith end view played reply.exit reply.text.items)
   pub tells : IfOk result (λ reply. TellsAfter end view played between after)
   pub breaks : OnErr result (BreaksEnding end view played between after)
   pub lends : IsLent (picker_after view.request) between after
 
--- the same of what a run is to do, and of days that led to a desk
+-- what an ending rests on, and how it ends, by what a run is to do and by days that led to a desk
 abbrev pub CanEndPlayed : Task → AllPlayed → Type 0
 CanEndPlayed task played = CanBeEnded (view_in task) (played_by played) played.last.desk
 

@@ -64,7 +64,8 @@ fn figures_of(
     beds_text(alloc, dossier, place, need, &growth)
 }
 
-/// The same for a state and the roster of its dossier.
+/// Makes the figures of a school in the pass that opened with this state, along a roster of its
+/// dossier.
 fn figures_text<'a, 'd>(
     alloc: Global,
     dossier: &Dossier,
@@ -119,9 +120,11 @@ fn school_text(
         })) }
     ensures choice { choice picker.new ≡ choice picker.old }
 {
+    // `take_in` found the school in the index: `named`.
     let Some(place) = school_place(&input.index, school) else {
         unreachable!()
     };
+    // The words of `beds` ask for a day at least: `some_day`.
     let Some(day) = days.last() else {
         unreachable!()
     };
@@ -138,9 +141,8 @@ fn school_text(
     )
 }
 
-/// How the mode `beds` ends, which needs the opening of the last pass too, and asks along the
-/// roster of the days.
-pub(crate) fn needed(
+/// Replies to `beds`, with the opening of the last pass and along the roster of the days.
+pub(crate) fn reply_to_beds(
     alloc: Global,
     input: &Input,
     played: AllPlayed<'_, '_>,

@@ -24,9 +24,9 @@ fn blocked_text<'a, 'd>(
     envy_text(alloc, evening.dossier(), &blocks)
 }
 
-/// How the mode `envy` ends, along the roster of the days. All of the desk but its present state
-/// is given up before the wishes are gone through.
-pub(crate) fn envied(alloc: Global, played: AllPlayed<'_, '_>) -> Result<Reply, OutOfMemory>
+/// Replies to `envy`, along the roster of the days. All of the desk but its present state is given
+/// up before the wishes are gone through.
+pub(crate) fn reply_to_envy(alloc: Global, played: AllPlayed<'_, '_>) -> Result<Reply, OutOfMemory>
     ensures { IfOk result (λ reply. IsDoneWith
         (blocked_text played.entry.last.desk.present played.entry.last.orders)
         reply.exit reply.text.items) }

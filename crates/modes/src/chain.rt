@@ -9,8 +9,8 @@ use admit_core::{Dossier, OutOfMemory};
 use certificate::write_chain;
 use std::alloc::Global;
 
-/// How the mode `chain` ends. The desk and the roster are given up before the text is made.
-pub(crate) fn chained(
+/// Replies to `chain`. The desk and the roster are given up before the text is made.
+pub(crate) fn reply_to_chain(
     alloc: Global,
     dossier: &Dossier,
     played: AllPlayed<'_, '_>,

@@ -1,7 +1,11 @@
 //! The mode `check`: the days of a chain, tested one after another.
-ghost use Rattle.std.specs.Prelude.{◌≡◌, ◌≢◌, ◌≤◌, ◌<◌, ◌^◌, [], All, Err, IfErr, IfOk, IfSome, None, Some, OnErr, OnOk, length, option_copied};
+//!
+//! `reply_to_check` takes the room of a line and calls `read_and_check`, which reads the chain and
+//! calls `check_and_reply`. That calls `check_chain`, which tests the days (`check_days`, and
+//! `check_next` for each), and then `reply_after_test`, which makes a reply of the outcome.
+ghost use Rattle.std.specs.Prelude.{◌≡◌, ◌≤◌, ◌<◌, ◌^◌, All, Err, IfErr, IfOk, IfSome, Some, OnErr, OnOk, length, option_copied};
 ghost use Rattle.admit_core.specs.Chains.{IsDayChain, day_fault};
-ghost use Rattle.admit_core.specs.Days.{first_evening, unfit_on};
+ghost use Rattle.admit_core.specs.Days.{first_evening};
 ghost use Rattle.admit_core.specs.Lapses.{AreTermsFor};
 ghost use Rattle.admit_core.specs.Ranges.{IsDay as IsDayNumber};
 ghost use Rattle.certificate.specs.Checked.{ids_in};
@@ -9,8 +13,8 @@ ghost use Rattle.certificate.specs.Grammar.{read};
 ghost use Rattle.certificate.specs.ProvedDays.{evening_after};
 ghost use Rattle.intake.specs.Dated.{AreDatedFor, terms_in};
 ghost use Rattle.modes.specs.CheckedDays.{IsEveningOfDay, IsEveningOfDays, KeepsIn, NamesSchool, TellsWhy};
-ghost use Rattle.modes.specs.Checking.{BeginsWithPass, EndsProof, IsChecked, Replies, proved_text, rejected_at};
-ghost use Rattle.modes.specs.Checking.{why_line, why_none, why_not, why_without};
+ghost use Rattle.modes.specs.Checking.{DaysMayLackMemory, IsChecked, IsDoneUnless, IsReplyAfterTest, MayLackMemory, proved_text, rejected_at};
+ghost use Rattle.modes.specs.Checking.{why_line, why_not_all, why_not, why_without_pass};
 ghost use Rattle.modes.specs.Replay.{CanBeDated};
 ghost use Rattle.modes.specs.declared.unproved.Unproved.TheVariants as unproved;
 ghost use Rattle.modes.specs.declared.unproved.Why.TheVariants.{NoChain};
@@ -18,7 +22,7 @@ ghost use Rattle.modes.specs.declared.unproved.Why.TheVariants.{NoChain};
 use crate::all_played::AllPlayed;
 use crate::job::terms_in;
 use crate::replay::push_final_lines;
-use crate::reply::{Reply, StopLine, done, told};
+use crate::reply::{Reply, StopLine, done, tell_refused};
 use crate::unproved::{Unproved, Why};
 use admit_core::{CheckReason, DayChain, Dossier, OutOfMemory, Terms};
 use certificate::{ChainRefusal, Grounds, Rejection, check_day_on, read_chain};
@@ -28,7 +32,7 @@ use intake::{DatedTerms, Input};
 use played::LastDesk;
 use std::alloc::Global;
 
-/// Tests the chain of a day in its morning, and leaves the evening of the day.
+/// Tests the chain of a day from its morning on, and leaves the evening of the day.
 fn check_morning(
     alloc: Global,
     grounds: &Grounds<'_, '_>,
@@ -52,7 +56,7 @@ fn check_morning(
 }
 
 /// Why a day is refused whose chain has no pass: its first answer that does not fit, or else the
-/// pass that is missing. Whether there is memory for what lapses does not matter.
+/// pass that is missing. It says so too where there is no memory for the list of lapses.
 fn refuse_day(
     alloc: Global,
     present: &mut Present<'_>,
@@ -62,7 +66,8 @@ fn refuse_day(
 ) -> Why
     requires terms { AreTermsFor present.old.dossier (option_copied terms) }
     requires day { IsDayNumber day }
-    ensures why { why_without (option_copied terms.entry) day present.old chain.now ≡ Some result }
+    ensures why { why_without_pass (option_copied terms.entry) day present.old chain.now
+        ≡ Some result }
     ensures school { NamesSchool (length present.old.dossier.schools) result }
 {
     match present.begin_day(alloc, terms, day) {
@@ -74,8 +79,8 @@ fn refuse_day(
     }
 }
 
-/// Tests the chain of a day from the evening before, and leaves the evening of the day. A day whose
-/// chain has no pass, or with an answer that does not fit, is refused whatever memory there is.
+/// Tests the chain of a day from the evening before on, and leaves the evening of the day. Without
+/// a pass, or with an answer that does not fit, it is refused whatever memory there is.
 fn check_next(
     alloc: Global,
     grounds: &Grounds<'_, '_>,
@@ -93,9 +98,8 @@ fn check_next(
         present.old chain.now) }
     ensures evening { OnOk result (IsEveningOfDay (option_copied terms.entry) grounds.now.orders day
         present.old chain.now present.new) }
-    ensures memory { result ≡ Err unproved.OutOfMemory → chain.now.passes ≢ [] }
-    ensures fits { result ≡ Err unproved.OutOfMemory
-        → unfit_on (option_copied terms.entry) day present.old ≡ None }
+    ensures memory { result ≡ Err unproved.OutOfMemory
+        → MayLackMemory (option_copied terms.entry) day present.old chain.now }
     ensures school { IfErr result (KeepsIn (length present.old.dossier.schools)) }
 {
     if chain.passes.is_empty() {
@@ -119,14 +123,13 @@ fn check_days(
     requires days { length days.now ≤ 366 }
     requires passes { All (λ day. length day.passes < 2 ^ 32) days.now }
 
-    ensures found { TellsWhy result (why_none (option_copied terms.entry) grounds.now.orders 1
+    ensures found { TellsWhy result (why_not_all (option_copied terms.entry) grounds.now.orders 1
         present.old days.now) }
     ensures evening { OnOk result (IsEveningOfDays (option_copied terms.entry) grounds.now.orders
         present.old days.now present.new) }
     ensures school { IfErr result (KeepsIn (length present.old.dossier.schools)) }
-    ensures memory { result ≡ Err unproved.OutOfMemory → BeginsWithPass days.now }
-    ensures fits { result ≡ Err unproved.OutOfMemory
-        → unfit_on (option_copied terms.entry) 1 present.old ≡ None }
+    ensures memory { result ≡ Err unproved.OutOfMemory
+        → DaysMayLackMemory (option_copied terms.entry) 1 present.old days.now }
 {
     for (place, chain) in days.iter().enumerate() {
         check_next(alloc, grounds, terms, present, place as u32 + 1, chain)?;
@@ -134,8 +137,8 @@ fn check_days(
     Ok(())
 }
 
-/// The text where so many days are proved, and lead to this evening, of which the marks alone are
-/// kept while the text is made.
+/// The text where so many days are proved, and lead to this evening. Of the evening only the marks
+/// are kept while the text is made.
 fn proved_text(
     alloc: Global,
     number: usize,
@@ -155,25 +158,25 @@ fn proved_text(
     Ok(text.into_bytes())
 }
 
-/// The reply where the days of a chain have been tested, in the room that was taken for the line of
-/// one that is refused.
-fn replied(
+/// Makes the reply of what the test of the days came to. The line of a chain that is refused has
+/// its room already.
+fn reply_after_test(
     line: StopLine,
     dossier: &Dossier,
     tested: Result<Vec<u8>, Unproved>,
 ) -> Result<Reply, OutOfMemory>
     requires { IfErr tested (KeepsIn (length dossier.now.schools)) }
-    ensures { Replies dossier.now tested result }
+    ensures { IsReplyAfterTest dossier.now tested result }
 {
     match tested {
         Ok(text) => Ok(done(text)),
-        Err(Unproved::Refused(why)) => told(line, dossier, why),
+        Err(Unproved::Refused(why)) => tell_refused(line, dossier, why),
         Err(Unproved::OutOfMemory) => Err(OutOfMemory),
     }
 }
 
-/// Tests these days of a chain from the first evening on, along the roster of the run. The text is
-/// that where all are proved.
+/// Tests the days of a chain from the first evening on, along the roster of the run, and makes the
+/// text where all are proved.
 fn check_chain(
     alloc: Global,
     input: &Input,
@@ -187,7 +190,7 @@ fn check_chain(
     requires days { length days.now ≤ 366 }
     requires passes { All (λ day. length day.passes < 2 ^ 32) days.now }
 
-    ensures tells { TellsWhy result (why_none (terms_in (option_copied dated.entry))
+    ensures tells { TellsWhy result (why_not_all (terms_in (option_copied dated.entry))
         last.entry.orders 1 (first_evening input.now.dossier) days.now) }
     ensures text { IfOk result (λ text. text.items ≡ proved_text (length days.now)
         (evening_after (terms_in (option_copied dated.entry)) last.entry.orders 1
@@ -202,8 +205,8 @@ fn check_chain(
     Ok(proved_text(alloc, days.len(), present.into_now(), dated)?)
 }
 
-/// Tests these days of a chain, and replies.
-fn check_told(
+/// Tests the days of a chain, and makes the reply.
+fn check_and_reply(
     alloc: Global,
     line: StopLine,
     input: &Input,
@@ -217,8 +220,8 @@ fn check_told(
     requires days { length days.now ≤ 366 }
     requires passes { All (λ day. length day.passes < 2 ^ 32) days.now }
 
-    ensures { IfOk result (λ reply. EndsProof input.now.dossier
-        (why_none (terms_in (option_copied dated.entry)) last.entry.orders 1
+    ensures { IfOk result (λ reply. IsDoneUnless input.now.dossier
+        (why_not_all (terms_in (option_copied dated.entry)) last.entry.orders 1
         (first_evening input.now.dossier) days.now)
         (proved_text (length days.now)
         (evening_after (terms_in (option_copied dated.entry)) last.entry.orders 1
@@ -227,12 +230,12 @@ fn check_told(
         reply.exit reply.text.items) }
 {
     let tested = check_chain(alloc, input, dated, last, days);
-    replied(line, &input.dossier, tested)
+    reply_after_test(line, &input.dossier, tested)
 }
 
-/// Reads the chain that is handed in, tests its days, and replies. Where the text is no chain,
-/// neither a state nor a roster is made.
-fn tested_with(
+/// Reads the chain that is handed in, tests its days, and makes the reply. Where the text is no
+/// chain, neither a state nor a roster is made.
+fn read_and_check(
     alloc: Global,
     line: StopLine,
     input: &Input,
@@ -249,15 +252,15 @@ fn tested_with(
         128 < length (why_line input.now.dossier (NoChain fault)))) }
 {
     match read_chain(alloc, input.chain.as_slice()) {
-        Ok(chain) => check_told(alloc, line, input, dated, last, chain.days.as_slice()),
-        Err(ChainRefusal::Fault(fault)) => told(line, &input.dossier, Why::NoChain(fault)),
+        Ok(chain) => check_and_reply(alloc, line, input, dated, last, chain.days.as_slice()),
+        Err(ChainRefusal::Fault(fault)) => tell_refused(line, &input.dossier, Why::NoChain(fault)),
         Err(ChainRefusal::OutOfMemory) => Err(OutOfMemory),
     }
 }
 
-/// How the mode `check` ends, whose desk is the first one. No picker is asked. The room of the line
-/// of a chain that is refused is taken before the chain is read.
-pub(crate) fn tested(
+/// Replies to `check`, which runs no day, so the desk is the first one. The room for the line of a
+/// refused chain is taken before the chain is read. No picker is asked.
+pub(crate) fn reply_to_check(
     alloc: Global,
     input: &Input,
     dated: Option<&DatedTerms>,
@@ -272,5 +275,5 @@ pub(crate) fn tested(
 {
     let last = played.into_last();
     let line = StopLine::new(alloc)?;
-    tested_with(alloc, line, input, dated, last)
+    read_and_check(alloc, line, input, dated, last)
 }

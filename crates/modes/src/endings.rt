@@ -1,4 +1,4 @@
-//! How a run ends after its days, by its mode.
+//! The reply of a run after its days, by its mode.
 ghost use Rattle.std.specs.Prelude.{◌≡◌, All, IfOk, IsSome, Ok, Err, option_copied};
 ghost use Rattle.modes.specs.Endings.{CanEnd, CanEndPlayed, EndsAfter, EndsPlayed, IsRefusedWith, LendsPlayed, asked_by, lines_before, view_in};
 ghost use Rattle.modes.specs.Jobs.{view_of};
@@ -7,18 +7,18 @@ ghost use Rattle.played.specs.LastDesks.{desk_in};
 ghost use Rattle.played.specs.Lent.{AreThere, choice_in, standing, told_in};
 
 use crate::all_played::AllPlayed;
-use crate::beds::needed;
-use crate::blocked::envied;
-use crate::chain::chained;
-use crate::checked::tested;
+use crate::beds::reply_to_beds;
+use crate::blocked::reply_to_envy;
+use crate::chain::reply_to_chain;
+use crate::checked::reply_to_check;
 use crate::exit::Exit;
-use crate::explained::explained;
+use crate::explained::reply_to_explain;
 use crate::job::picker_after;
-use crate::market::matched;
-use crate::order::ordered;
-use crate::replay::{days_text, replayed};
+use crate::market::reply_to_market;
+use crate::order::reply_to_order;
+use crate::replay::{days_text, reply_to_replay};
 use crate::reply::Reply;
-use crate::sample::sampled;
+use crate::sample::reply_to_sample;
 use crate::task::{Asking, Task};
 use admit_core::{CallOrders, DayRecord, OutOfMemory, Refusal};
 use bar_fixpoint::Picker;
@@ -28,8 +28,8 @@ use report::refusal_text;
 use request::{Mode, PickerName, Request};
 use std::alloc::Global;
 
-/// A run that ends with an answer that does not fit, after these lines.
-fn refused(alloc: Global, before: Vec<u8>, refusal: Refusal) -> Result<Reply, OutOfMemory>
+/// Refuses a run for an answer that does not fit, after these lines.
+fn refuse_after(alloc: Global, before: Vec<u8>, refusal: Refusal) -> Result<Reply, OutOfMemory>
     ensures { IfOk result (λ reply. IsRefusedWith refusal before.items reply.exit
         reply.text.items) }
 {
@@ -41,8 +41,9 @@ fn refused(alloc: Global, before: Vec<u8>, refusal: Refusal) -> Result<Reply, Ou
     })
 }
 
-/// A run whose days were cut short by an answer that does not fit.
-fn cut_short(
+/// Replies where an answer that does not fit has cut the days short. Only `replay` tells the days
+/// before it.
+fn end_cut_short(
     alloc: Global,
     task: &Task<'_>,
     orders: &CallOrders,
@@ -60,14 +61,14 @@ fn cut_short(
             let called = orders.orders.as_slice();
             let dossier = &task.input.dossier;
             let before = days_text(alloc, dossier, task.dated, called, days.as_slice())?;
-            refused(alloc, before, refusal)
+            refuse_after(alloc, before, refusal)
         }
-        _ => refused(alloc, Vec::new(alloc), refusal),
+        _ => refuse_after(alloc, Vec::new(alloc), refusal),
     }
 }
 
-/// How a mode ends that asks this of the picker.
-fn answered(
+/// Replies to a mode that asks this of a picker.
+fn ask_picker(
     alloc: Global,
     task: &Task<'_>,
     played: AllPlayed<'_, '_>,
@@ -81,13 +82,13 @@ fn answered(
         (record { told = told picker.new; choice = choice picker.new }) result }
 {
     match asking {
-        Asking::Beds { school } => needed(alloc, task.input, played, school, picker),
-        Asking::Market => matched(alloc, &task.input.dossier, played, picker),
+        Asking::Beds { school } => reply_to_beds(alloc, task.input, played, school, picker),
+        Asking::Market => reply_to_market(alloc, &task.input.dossier, played, picker),
     }
 }
 
-/// The same with the picker of this place, which is there again afterwards.
-fn lent(
+/// Lends the picker in this place to a mode that asks it, and puts it back.
+fn lend_picker(
     alloc: Global,
     task: &Task<'_>,
     played: AllPlayed<'_, '_>,
@@ -108,16 +109,17 @@ fn lent(
           choice = choice_in choice place.new;
         }) result }
 {
+    // Pickers are in their places between two calls: `there`.
     let Some(mut picker) = place.take() else {
         unreachable!()
     };
-    let reply = answered(alloc, task, played, asking, &mut *picker);
+    let reply = ask_picker(alloc, task, played, asking, &mut *picker);
     *place = Some(picker);
     reply
 }
 
-/// The same with the picker of the day after which it is asked.
-fn asked(
+/// Replies to a mode that asks a picker: that of the day after which it asks.
+fn ask_after_days(
     alloc: Global,
     task: &Task<'_>,
     played: AllPlayed<'_, '_>,
@@ -131,19 +133,20 @@ fn asked(
     ensures ends { EndsPlayed task.now played.entry
         (standing told choice pickers.old) (standing told choice pickers.new) result }
 {
+    // Each mode that asks has a day in the table `picks_after`: `asks`.
     let Some(name) = picker_after(task.request) else {
         unreachable!()
     };
     match name {
-        PickerName::First => lent(alloc, task, played, asking, &mut pickers.first),
-        PickerName::Last => lent(alloc, task, played, asking, &mut pickers.last),
-        PickerName::Turn => lent(alloc, task, played, asking, &mut pickers.turn),
+        PickerName::First => lend_picker(alloc, task, played, asking, &mut pickers.first),
+        PickerName::Last => lend_picker(alloc, task, played, asking, &mut pickers.last),
+        PickerName::Turn => lend_picker(alloc, task, played, asking, &mut pickers.turn),
     }
 }
 
-/// How each mode ends once its days have led to a desk. What its text does not need of the desk is
+/// Replies once the days have led to a desk. What the mode's text does not need of the desk is
 /// given up before.
-fn ended(
+fn reply_by_mode(
     alloc: Global,
     task: &Task<'_>,
     played: AllPlayed<'_, '_>,
@@ -157,20 +160,26 @@ fn ended(
 {
     let input = task.input;
     match task.request.mode {
-        Mode::Order => ordered(alloc, &input.dossier, played),
-        Mode::Replay => replayed(alloc, input, task.dated, played),
-        Mode::Chain => chained(alloc, &input.dossier, played),
-        Mode::Check => tested(alloc, input, task.dated, played),
-        Mode::Explain { wish } => explained(alloc, input, played, wish),
-        Mode::Envy => envied(alloc, played),
-        Mode::Beds { school } => asked(alloc, task, played, Asking::Beds { school }, pickers),
-        Mode::Market => asked(alloc, task, played, Asking::Market, pickers),
-        Mode::Sample { number } => sampled(alloc, &input.dossier, number, played),
+        Mode::Order => reply_to_order(alloc, &input.dossier, played),
+        Mode::Replay => reply_to_replay(alloc, input, task.dated, played),
+        Mode::Chain => reply_to_chain(alloc, &input.dossier, played),
+        Mode::Check => reply_to_check(alloc, input, task.dated, played),
+        Mode::Explain { wish } => reply_to_explain(alloc, input, played, wish),
+        Mode::Envy => reply_to_envy(alloc, played),
+        Mode::Beds { school } => ask_after_days(
+            alloc,
+            task,
+            played,
+            Asking::Beds { school },
+            pickers,
+        ),
+        Mode::Market => ask_after_days(alloc, task, played, Asking::Market, pickers),
+        Mode::Sample { number } => reply_to_sample(alloc, &input.dossier, number, played),
     }
 }
 
-/// How a run ends after its days, and what it writes. The call orders are those by which the days
-/// were run. The picker that the mode asks is lent for it, and is in its place again afterwards.
+/// Replies to a run after its days, which were run by these call orders. A picker that the mode
+/// asks is lent for it, and is in its place again afterwards.
 pub fn ending(
     alloc: Global,
     request: &Request,
@@ -206,7 +215,7 @@ pub fn ending(
     };
     let Played { days, end } = played;
     match end {
-        Ok(last) => ended(alloc, &task, AllPlayed { days, last }, pickers),
-        Err(refusal) => cut_short(alloc, &task, orders, days, refusal),
+        Ok(last) => reply_by_mode(alloc, &task, AllPlayed { days, last }, pickers),
+        Err(refusal) => end_cut_short(alloc, &task, orders, days, refusal),
     }
 }

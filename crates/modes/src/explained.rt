@@ -42,9 +42,11 @@ fn explained_text(
     ensures { IfOk result (λ text. IsExplained
         (left_on input.now days.now along.now) wish text.items) }
 {
+    // `take_in` found the wish in the index: `named`.
     let Some(place) = wish_place(&input.index, wish) else {
         unreachable!()
     };
+    // The words of `explain` ask for a day at least: `some_day`.
     let Some(day) = days.last() else {
         unreachable!()
     };
@@ -55,8 +57,8 @@ fn explained_text(
     explain_text(alloc, &input.dossier, place, why)
 }
 
-/// How the mode `explain` ends, which needs the opening of the last pass too.
-pub(crate) fn explained(
+/// Replies to `explain`, with the opening of the last pass.
+pub(crate) fn reply_to_explain(
     alloc: Global,
     input: &Input,
     played: AllPlayed<'_, '_>,

@@ -44,7 +44,7 @@ pub fn wanted_of(request: &Request) -> Wanted
     }
 }
 
-/// The picker that the ending is lent, of the modes that ask one once their days are over.
+/// The picker that the mode asks once its days are over, if it asks one.
 pub(crate) fn picker_after(request: &Request) -> Option<PickerName>
     ensures { result ≡ Jobs.picker_after request.now }
 {
@@ -65,7 +65,7 @@ pub fn deadlines_of(request: &Request) -> Option<Deadlines>
     }
 }
 
-/// The terms alone.
+/// The terms without the dates.
 pub fn terms_in<'a>(dated: Option<&'a DatedTerms>) -> Option<&'a Terms>
     ensures { option_copied result ≡ Dated.terms_in (option_copied dated.entry) }
 {

@@ -89,8 +89,8 @@ fn matched_text(
     text_of(alloc, dossier, orders, &named, picker)
 }
 
-/// How the mode `market` ends, for which the days count for nothing.
-pub(crate) fn matched(
+/// Replies to `market`, which looks at no day.
+pub(crate) fn reply_to_market(
     alloc: Global,
     dossier: &Dossier,
     played: AllPlayed<'_, '_>,

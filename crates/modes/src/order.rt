@@ -39,8 +39,8 @@ fn orders_text(
     Ok(text.into_bytes())
 }
 
-/// How the mode `order` ends, for which the days count for nothing.
-pub(crate) fn ordered(
+/// Replies to `order`, which looks at no day.
+pub(crate) fn reply_to_order(
     alloc: Global,
     dossier: &Dossier,
     played: AllPlayed<'_, '_>,

@@ -101,9 +101,9 @@ fn replay_text(
     Ok(text.into_bytes())
 }
 
-/// How the mode `replay` ends. All of the desk but the marks of its present state, and the roster,
-/// are given up before the text is made, which is the longest of all modes.
-pub(crate) fn replayed(
+/// Replies to `replay`. Before the text is made, which is the longest of all modes, the roster is
+/// given up, and all of the desk but the marks of its present state.
+pub(crate) fn reply_to_replay(
     alloc: Global,
     input: &Input,
     dated: Option<&DatedTerms>,

@@ -1,4 +1,4 @@
-//! What a run answers and writes.
+//! The reply of a run: its exit and its text.
 ghost use Rattle.std.specs.Prelude.{◌≡◌, IfOk, OnErr, length};
 ghost use Rattle.modes.specs.CheckedDays.{NamesSchool};
 ghost use Rattle.modes.specs.Checking.{TellsRefused};
@@ -11,7 +11,7 @@ use intake::Stop;
 use std::alloc::Global;
 use std::marker::Model;
 
-/// What a run answers and writes.
+/// The reply of a run: how it ends, and the whole text that it writes.
 #[derive(Drop)]
 pub struct Reply {
     pub exit: Exit,
@@ -55,7 +55,7 @@ impl StopLine {
     }
 }
 
-/// The line of what stopped a run before its days, in the room that was taken for it.
+/// Replies with the line of what stopped a run before its days, in the room that was taken for it.
 pub fn stopped(line: StopLine, stop: Stop) -> Result<Reply, OutOfMemory>
     ensures line { IfOk result (λ reply. IsStoppedBy stop reply.exit reply.text.items) }
     ensures memory { OnErr result (HasNoLine stop) }
@@ -70,8 +70,12 @@ pub fn stopped(line: StopLine, stop: Stop) -> Result<Reply, OutOfMemory>
     })
 }
 
-/// The line of a chain that is refused, in the room that was taken for it.
-pub(crate) fn told(line: StopLine, dossier: &Dossier, why: Why) -> Result<Reply, OutOfMemory>
+/// Replies to a chain that is refused: its line, in the room that was taken for it.
+pub(crate) fn tell_refused(
+    line: StopLine,
+    dossier: &Dossier,
+    why: Why,
+) -> Result<Reply, OutOfMemory>
     requires { NamesSchool (length dossier.now.schools) why }
     ensures { TellsRefused dossier.now why result }
 {

@@ -9,8 +9,8 @@ use admit_core::{Dossier, OutOfMemory};
 use report::sample_text;
 use std::alloc::Global;
 
-/// How the mode `sample` ends, of so many candidates.
-pub(crate) fn sampled(
+/// Replies to `sample`, whose dossier was made up with so many candidates.
+pub(crate) fn reply_to_sample(
     alloc: Global,
     dossier: &Dossier,
     number: u32,

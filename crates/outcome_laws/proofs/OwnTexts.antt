@@ -24,7 +24,7 @@ use Rattle.chain_laws.proofs.ValidDays.{own_chains_are_proved}
 use Rattle.intake.specs.Dated.{terms_in}
 use Rattle.modes.proofs.CheckedDay.{proved_none}
 use Rattle.intake.specs.declared.terms.DatedTerms.{DatedTerms}
-use Rattle.modes.specs.Checking.{EndsCheck, EndsProof, IsChecked, IsReply, proved_text}
+use Rattle.modes.specs.Checking.{EndsCheck, IsDoneUnless, IsChecked, IsReply, proved_text}
 use Rattle.modes.specs.declared.exit.Exit.{Exit}
 use Rattle.modes.specs.declared.exit.Exit.TheVariants.{Done}
 use Rattle.report.specs.Words.{further, line}
@@ -90,7 +90,7 @@ ends_as d dated orders days evening valid few fits are =
     let chains : List DayChain = days_from d 1 days in
     let whole : List ℕ = proved_text (length chains) (evening_after terms orders 1 first chains) dated in
     ap (EndsCheck d dated orders) own.0
-    ∙ ap (λ why. EndsProof d why whole) (proved_none terms orders 1 first chains evening own.1)
+    ∙ ap (λ why. IsDoneUnless d why whole) (proved_none terms orders 1 first chains evening own.1)
     ∙ ap (λ (n : ℕ). IsReply Done (proved_text n (evening_after terms orders 1 first chains) dated))
     (days_as_many d 1 days)
     ∙ ap (λ (s : State). IsReply Done (proved_text (length days) s dated))

@@ -10,7 +10,7 @@ use Rattle.modes.specs.LentPicker.{TellsPicks}
 use Rattle.modes.specs.AfterDays.{after_days, left_by}
 use Rattle.modes.specs.Beds.{BreaksFigures, PicksForFigures, TellsFigures}
 use Rattle.modes.proofs.Lending.{same_led}
-use Rattle.modes.proofs.beds.needed.Goals as goal
+use Rattle.modes.proofs.beds.reply_to_beds.Goals as goal
 
 pub school_text-requires-clause-some_day : goal.school_text-requires-clause-some_day
 school_text-requires-clause-some_day g c =

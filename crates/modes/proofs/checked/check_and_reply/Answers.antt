@@ -1,6 +1,6 @@
-use Rattle.modes.proofs.CheckedDay.{proof_replied}
-use Rattle.modes.proofs.checked.check_told.Goals as goal
+use Rattle.modes.proofs.CheckedDay.{reply_as_tested}
+use Rattle.modes.proofs.checked.check_and_reply.Goals as goal
 
 pub returns : goal.returns
-returns c = proof_replied c.args.input.now.dossier _ _ c.check_chain-tested.result c.replied.result
-    c.check_chain-tested.ensures.tells c.check_chain-tested.ensures.text c.replied.ensures
+returns c = reply_as_tested c.args.input.now.dossier _ _ c.check_chain-tested.result c.reply_after_test.result
+    c.check_chain-tested.ensures.tells c.check_chain-tested.ensures.text c.reply_after_test.ensures

@@ -7,8 +7,8 @@ use Rattle.admit_core.specs.Lapses.{AreTermsFor}
 use Rattle.admit_core.specs.State.{State}
 use Rattle.certificate.proofs.Lowering.{drop_item}
 use Rattle.certificate.specs.ProvedDays.{evening_after}
-use Rattle.modes.specs.Checking.{BeginsWithPass, why_none}
-use Rattle.modes.proofs.CheckedDay.{days_go_on, evening_goes_on, evening_stays, has_fit, has_pass}
+use Rattle.modes.specs.Checking.{DaysMayLackMemory, why_not_all}
+use Rattle.modes.proofs.CheckedDay.{days_go_on, evening_goes_on, evening_stays, may_lack}
 use Rattle.modes.proofs.checked.check_days.Goals as goal
 
 pub check_next-requires-clause-same : goal.check_next-requires-clause-same
@@ -35,15 +35,14 @@ loop-place-preserved c =
     let within : i + 1 ≤ 366 = omega (arith, c.requires.days) in
     record {
       why = days_go_on terms orders (i + 1) s next chain rest _
-          (inv.why ∙ ap (why_none terms orders (i + 1) s) here) after.found after.evening.is;
+          (inv.why ∙ ap (why_not_all terms orders (i + 1) s) here) after.found after.evening.is;
       evening = evening_goes_on terms orders (i + 1) s next chain rest _
           (inv.evening ∙ ap (evening_after terms orders (i + 1) s) here) after.evening.is;
       dossier = ap (λ (t : State). t.dossier) after.evening.is
           ∙ evening_stays terms orders (i + 1) s chain ∙ inv.dossier;
       stamped = λ all. after.evening.stamps 366 within (inv.stamped all);
-      begins = λ more. inv.begins (subst BeginsWithPass (sym here)
-          (has_pass terms orders (i + 1) s chain after.found));
-      fits = λ _. inv.fits (has_fit terms orders (i + 1) s chain after.found);
+      lacks = λ more. inv.lacks (subst (DaysMayLackMemory terms (i + 1) s) (sym here)
+          (may_lack terms orders (i + 1) s chain after.found));
     }
 
 pub returns-clause-evening : goal.returns-clause-evening
@@ -65,11 +64,6 @@ returns-in_err-check_next-clause-memory c =
     let here = drop_item c.args.days.now c.loop-place.place c.index-days-place.result c.loop-place-test.true
     c.index-days-place.is in
     let told = err_from_is_err_and c.from_residual.result c.from_residual.ensures.1 in
-    λ ended. c.loop-place.invariant.begins (subst BeginsWithPass (sym here)
+    λ ended. c.loop-place.invariant.lacks
+    (subst (DaysMayLackMemory (option_copied c.args.terms) (c.loop-place.place + 1) c.loop-place.present) (sym here)
     (c.in_err-check_next.ensures.memory (ap Err (sym told.2) ∙ sym told.1 ∙ ended)))
-
-pub returns-in_err-check_next-clause-fits : goal.returns-in_err-check_next-clause-fits
-returns-in_err-check_next-clause-fits c =
-    let told = err_from_is_err_and c.from_residual.result c.from_residual.ensures.1 in
-    λ ended. c.loop-place.invariant.fits
-    (c.in_err-check_next.ensures.fits (ap Err (sym told.2) ∙ sym told.1 ∙ ended))

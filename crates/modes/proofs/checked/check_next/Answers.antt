@@ -6,7 +6,7 @@ use Rattle.admit_core.specs.DossierRows.{DossierRows}
 use Rattle.admit_core.specs.State.{State}
 use Rattle.modes.specs.CheckedDays.{KeepsIn}
 use Rattle.modes.specs.declared.unproved.Unproved.TheVariants as unproved
-use Rattle.modes.proofs.CheckedDay.{chain_tells, fits_begun, is_evening}
+use Rattle.modes.proofs.CheckedDay.{chain_tells, fits_begun, is_evening, not_empty}
 use Rattle.modes.proofs.checked.check_next.Goals as goal
 
 pub check_morning-requires-clause-same : goal.check_morning-requires-clause-same
@@ -46,11 +46,23 @@ returns-clause-evening c =
     c.in_ok-begin_day.ensures.begun.fits c.in_ok-begin_day.ensures.begun.state under c.check_morning.new.present)
     c.check_morning.ensures.valid
 
-pub returns-in_err-begin_day-clause-fits : goal.returns-in_err-begin_day-clause-fits
-returns-in_err-begin_day-clause-fits c =
+pub returns-in_err-begin_day-clause-memory : goal.returns-in_err-begin_day-clause-memory
+returns-in_err-begin_day-clause-memory c =
     let told = err_from_is_err_and c.from_residual.result c.from_residual.ensures.1 in
     λ ended. let none : told.0 ≡ unproved.OutOfMemory = cc (sym told.1 ∙ ended) in
-    fits_begun c.args.present.now.dossier c.args.day _ _ c.in_err-begin_day.ensures.unfit (sym told.2 ∙ none)
+    record {
+      fits = fits_begun c.args.present.now.dossier c.args.day _ _ c.in_err-begin_day.ensures.unfit (sym told.2 ∙ none);
+      has_pass = not_empty c.args.chain.now.passes c.is_empty.result c.is_empty.ensures c.if-is_empty.false;
+    }
 
-pub returns-clause-fits : goal.returns-clause-fits
-returns-clause-fits c = λ _. c.in_ok-begin_day.ensures.begun.fits
+pub returns-in_err-ceilings-clause-memory : goal.returns-in_err-ceilings-clause-memory
+returns-in_err-ceilings-clause-memory c = λ _. record {
+  fits = c.in_ok-begin_day.ensures.begun.fits;
+  has_pass = not_empty c.args.chain.now.passes c.is_empty.result c.is_empty.ensures c.if-is_empty.false;
+}
+
+pub returns-clause-memory : goal.returns-clause-memory
+returns-clause-memory c = λ _. record {
+  fits = c.in_ok-begin_day.ensures.begun.fits;
+  has_pass = not_empty c.args.chain.now.passes c.is_empty.result c.is_empty.ensures c.if-is_empty.false;
+}

@@ -7,7 +7,7 @@ use Rattle.played.specs.LastDesks.{DeskBy}
 use Rattle.modes.specs.AfterDays.{after_days, left_by}
 use Rattle.modes.specs.Explained.{IsExplained}
 use Rattle.modes.proofs.Lending.{same_led}
-use Rattle.modes.proofs.explained.explained.Goals as goal
+use Rattle.modes.proofs.explained.reply_to_explain.Goals as goal
 
 pub explained_text-requires-clause-some_day : goal.explained_text-requires-clause-some_day
 explained_text-requires-clause-some_day c =

@@ -4,7 +4,7 @@ use Rattle.admit_core.specs.CallOrder.{AreCallOrders}
 use Rattle.admit_core.specs.declared.ranking.CallOrder.{CallOrder}
 use Rattle.modes.specs.LentPicker.{TellsPicks}
 use Rattle.modes.specs.Market.{BreaksMarket, PicksForMarket, TellsMarket}
-use Rattle.modes.proofs.market.matched.Goals as goal
+use Rattle.modes.proofs.market.reply_to_market.Goals as goal
 
 pub matched_text-requires : goal.matched_text-requires
 matched_text-requires g c =

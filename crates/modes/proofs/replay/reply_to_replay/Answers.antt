@@ -4,7 +4,7 @@ use Rattle.admit_core.specs.State.{State}
 use Rattle.admit_core.specs.declared.records.DayRecord.{DayRecord}
 use Rattle.played.specs.LastDesks.{DeskLeft}
 use Rattle.modes.specs.Replay.{CanBeDated, CanBeWritten, replay_text}
-use Rattle.modes.proofs.replay.replayed.Goals as goal
+use Rattle.modes.proofs.replay.reply_to_replay.Goals as goal
 
 pub replay_text-requires-clause-days : goal.replay_text-requires-clause-days
 replay_text-requires-clause-days c =
