@@ -1,4 +1,4 @@
-//! What a run answers, before anything is written.
+//! The reply of a run, made before anything is written.
 ghost use Rattle.std.specs.Prelude.{◌≡◌, MatchResult, map, string_bytes};
 ghost use Rattle.certificate.specs.Checked.{ids_in};
 ghost use Rattle.intake.specs.Input.{IsInputOf, IsJobOf, Job, NamesIn};
@@ -29,8 +29,8 @@ fn take<S: Shelf>(alloc: Global, words: &[String], shelf: &mut S) -> Result<(Req
     Ok((request, input))
 }
 
-/// Runs the days that are asked for, and ends by the mode. The call orders are made here, and lent
-/// to both: so the roster of the days serves the ending too.
+/// Runs the days that are asked for, and makes the reply of the mode. The call orders are made here
+/// and lent to both. So the roster of the days serves the reply too.
 fn play_out(
     alloc: Global,
     request: &Request,
@@ -63,7 +63,7 @@ fn play_out(
     ending(alloc, request, input, dated, &orders, played, pickers)
 }
 
-/// What a run answers, before anything is written.
+/// Makes the reply of a run, or the line of what stopped it. Nothing is written here.
 pub(crate) fn answer<S: Shelf>(
     alloc: Global,
     words: &[String],

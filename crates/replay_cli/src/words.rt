@@ -15,8 +15,8 @@ fn after_first(alloc: Global, mut args: Args) -> Result<Vec<String>, AllocError>
     args.collect(alloc)
 }
 
-/// The words after the program's name. Where one of them is no text, there are none, which are bad
-/// words too.
+/// The words after the program's name. Where one of them is no text, there are none: these are bad
+/// words as well.
 pub(crate) fn words_of(alloc: Global, args: io::Result<Args>) -> Result<Vec<String>, AllocError>
     ensures { ReadsWords args result }
 {
