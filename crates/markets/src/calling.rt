@@ -30,7 +30,7 @@ impl Drop for Walk {
     }
 }
 
-/// The number of a candidate of the market; one past the last for one who isn't in it.
+/// The number of a candidate in the market; one past the last for somebody who is not in it.
 fn number_of(names: &IndexSet<u32, Keyed>, candidate: u32) -> u32
     requires { length names.now.keys ≤ 16000000 }
     ensures { result ≡ position_or_len (nat_eq candidate) names.now.keys }
@@ -93,7 +93,7 @@ fn numbers_at(alloc: Global, numbers: &[u32], places: &[usize]) -> Result<Vec<u3
     Ok(found)
 }
 
-/// Those who list a programme, in the order in which they stand in a list of numbers.
+/// Those who list a programme, in the order in which these numbers stand.
 fn called(
     alloc: Global,
     numbers: &[u32],
@@ -111,7 +111,7 @@ fn called(
 }
 
 impl Walk {
-    /// A walk that hasn't begun.
+    /// A walk along no call order yet.
     pub fn new(alloc: Global, names: &IndexSet<u32, Keyed>) -> Result<Walk, OutOfMemory>
         ensures group { IfOk result (λ w. w.group ≡ None) }
         ensures numbers { IfOk result (λ w. w.numbers.items ≡ []) }

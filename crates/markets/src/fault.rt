@@ -5,7 +5,7 @@ use admit_core::OutOfMemory;
 /// Why rows are no market.
 #[derive(Clone, Copy, Debug, PartialEq, Eq)]
 pub enum MarketFault {
-    /// There aren't as many seats as orders.
+    /// There are not as many seats as orders.
     BadCount,
     /// A list names a programme out of range, or one twice. This is the least such candidate.
     BadList { candidate: u32 },

@@ -87,7 +87,7 @@ impl Filling {
         Ok(listed.to_vec(alloc)?)
     }
 
-    /// The same, lent.
+    /// Lends the places that [`Filling::overfilled`] copies.
     pub fn listed(&self) -> &[u32]
         ensures { result.now ≡ overfilled self.now }
     {

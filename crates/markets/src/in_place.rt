@@ -65,8 +65,8 @@ fn in_order(alloc: Global, mut rows: Vec<Sequence<u32>>) -> Vec<Sequence<u32>>
     rows
 }
 
-/// What is noted of an order once one more candidate is met by it: how many were, and one more; 0
-/// where a candidate isn't the next one.
+/// What is noted of an order once it has met one more candidate: how many it has met, and one more.
+/// It is 0 from the first candidate on who was not the next one in it.
 fn met_more(order: &[u32], noted: u32, candidate: u32) -> u32
     requires { noted ≤ 16000000 }
     ensures { result ≡ met_more order.now noted candidate }
@@ -110,7 +110,7 @@ fn meet_all(lists: &[Sequence<u32>], orders: &[Sequence<u32>], notes: &mut [u32]
     }
 }
 
-/// The first order that isn't whole by what is noted of it.
+/// The first order that is not whole by what is noted of it.
 fn first_unmet(orders: &[Sequence<u32>], notes: &[u32]) -> Option<u32>
     requires programmes { length orders.now ≤ 16000000 }
     requires as_many { length notes.now ≡ length orders.now }

@@ -25,7 +25,8 @@ pub fn first_bad_list(
     Ok(bad_among(lists, room.as_mut_slice()))
 }
 
-/// The same, with room for a stamp on each number: this takes no memory.
+/// The first of these lists that has a number out of range, or one twice, by a stamp on each
+/// number. It takes no memory.
 pub fn bad_among(lists: &[Sequence<u32>], stamps: &mut [u32]) -> Option<u32>
     requires few { length lists.now ≤ 16000000 }
     requires fresh { AreUpTo 0 stamps.old }

@@ -130,7 +130,7 @@ fn listed(alloc: Global, dossier: &Dossier) -> Result<Listing, OutOfMemory>
 }
 
 /// The market of a dossier with these call orders: its candidates are those who rank their wishes
-/// and have one without boarding. Statuses and call limits aren't used.
+/// and have one without boarding. Statuses and call limits are not used.
 pub fn from_dossier(
     alloc: Global,
     dossier: &Dossier,

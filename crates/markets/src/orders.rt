@@ -32,8 +32,8 @@ pub fn first_bad_order(
     Ok(bad_among(lists, orders, rows.as_slice(), room.as_mut_slice()))
 }
 
-/// The same, with the candidates who list each programme, and room for a stamp on each candidate:
-/// this takes no memory.
+/// The first programme with a bad order, by the candidates who list each programme and a stamp on
+/// each candidate. It takes no memory.
 fn bad_among(
     lists: &[Sequence<u32>],
     orders: &[Sequence<u32>],

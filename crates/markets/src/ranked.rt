@@ -65,7 +65,7 @@ impl<'a> Ranked<'a> {
     }
 
     /// The position of a candidate in the order of a programme, from 1; one past the end where they
-    /// aren't in it.
+    /// are not in it.
     pub fn position_of(&self, programme: u32, candidate: u32) -> u32
         requires programme { programme < length self.now.orders }
         requires candidate { candidate < length self.now.lists }
@@ -78,7 +78,7 @@ impl<'a> Ranked<'a> {
     }
 }
 
-/// The first of one's own ranks whose programme isn't below this one.
+/// The first of one's own ranks whose programme is not below this one.
 fn first_not_below(own: &[Rank], programme: u32) -> usize
     requires { IsNonDecreasingBy (λ r. r.programme) own.now }
     ensures within { result ≤ length own.now }
