@@ -1,13 +1,14 @@
 -- How a run over a job ends after its days.
-use Rattle.std.proofs.Common.{◌≡◌, ◌∙◌, ℕ, List, Option, None, Some, Result, Ok, Err, IfOk, IfSome, true, false, ap}
-use Rattle.std.proofs.Common.{inl, inr, is_err, option_map, refl, subst, sym}
-use Rattle.std.proofs.lemmas.Bool.{false≢true}
+use Rattle.std.proofs.Common.{◌≡◌, ◌∙◌, ℕ, List, Option, None, Some, Result, Ok, Err, IfOk, IfSome, ap}
+use Rattle.std.proofs.Common.{inl, inr, option_map, subst, sym}
 use Rattle.std.proofs.lemmas.Simd.{map-map}
 use Rattle.admit_core.specs.DossierRows.{DossierRows}
 use Rattle.admit_core.specs.Relations.{first_fault}
 use Rattle.admit_core.specs.Standing.{dossier_of, school_of_row, wish_of_row}
 use Rattle.admit_core.specs.declared.dossier.School.{School}
 use Rattle.admit_core.specs.declared.dossier.Wish.{Wish}
+use Rattle.admit_core.specs.declared.ranking.CallOrder.{CallOrder}
+use Rattle.admit_core.specs.declared.records.DayRecord.{DayRecord}
 use Rattle.admit_core.specs.declared.records.Terms.{Terms}
 use Rattle.admit_core.specs.declared.refusal.Refusal.{Refusal}
 use Rattle.admit_core.specs.declared.slot.Slot.{Slot}
@@ -27,7 +28,7 @@ use Rattle.modes.specs.Jobs.{dated_of, days_of, deadlines_of, dossier, view_of, 
 use Rattle.modes.specs.Replay.{CanBeDated}
 use Rattle.modes.specs.declared.exit.Exit.{Exit}
 use Rattle.modes.specs.declared.reply.Reply.{Reply}
-use Rattle.played.specs.LastDesks.{DeskLeft, desk_in}
+use Rattle.played.specs.LastDesks.{DeskLeft, EndsBy}
 use Rattle.played.specs.Lent.{Lent}
 use Rattle.played.specs.PlayedDays.{IsPlayed, Played}
 use Rattle.replay_cli.proofs.Played.{can_end, reply_ends}
@@ -57,25 +58,12 @@ pub indexed : (words : List (List ℕ)) (before after : OnShelf) (x : Asked × I
     → TakesAsked words before after (Ok x) → x.1.index ≡ ids_in x.1.dossier
 indexed words before after x takes = indexed_for (asked_of words) before after x takes.takes
 
--- the days led to one desk
-pub same_desk : (end : Result DeskStates Refusal) (found desk : DeskStates) → end ≡ Ok found → end ≡ Ok desk
-    → found ≡ desk
-same_desk (Ok x) found desk a b =
-    let one : x ≡ found = cc in
-    let other : x ≡ desk = cc in
-    sym one ∙ other
-same_desk (Err refusal) found desk a b = absurd (cc)
-
--- days were cut short, or they were not
-pub err_in : (end : Result DeskLeft Refusal) → is_err (desk_in end) ≡ is_err end
-err_in (Ok last) = refl
-err_in (Err refusal) = refl
-
--- what holds of the states of the desk that days leave
-pub on_desk : (end : Result DeskLeft Refusal) (P : DeskStates → Type 0) → IfOk (desk_in end) P
-    → IfOk end (λ last. P last.desk)
-on_desk (Ok last) P holds = holds
-on_desk (Err refusal) P holds = tt
+-- days that were played end as what their end is
+pub ends_as : {orders : List CallOrder} {number : ℕ} {P : Played → Type 0} {days : List DayRecord}
+    {end found : Result DeskLeft Refusal} → EndsBy orders number P days end → end ≡ found
+    → EndsBy orders number P days found
+ends_as {orders = orders} {number = number} {P = P} {days = days} ends is =
+    subst (EndsBy orders number P days) is ends
 
 -- what is played and written is the job's
 module _ (job : Job) (request : Request) (d : DossierRows) (dates : List (Option Since)) (dated : Option DatedTerms)
@@ -124,10 +112,8 @@ module _ (asked : Asked) (known : IsAsked asked) (input : Input) {dated given : 
       can_end asked.request known.request input same is terms_are number_is plays
       (subst (λ (mode : Mode). NamesIn mode input.index) (sym known.replay) tt) own
 
-  pub offers_dated : (end : Result DeskStates Refusal) → played.end ≡ end
-      → IfOk end (λ desk. CanBeDated dated desk.present)
-  offers_dated (Ok desk) e = (ends_led (view_of asked.request input dated) played desk can e).offers
-  offers_dated (Err refusal) e = tt
+  pub offers_dated : (desk : DeskStates) → played.end ≡ Ok desk → CanBeDated dated desk.present
+  offers_dated desk e = (ends_led (view_of asked.request input dated) played desk can e).offers
 
   module _ (job : Job) (is_job : IsJobOf asked.request job) (is_input : IsInputOf job input)
       (given_is : given ≡ option_map (dated_from input.dossier input.dates) (deadlines_of asked.request)) where
@@ -135,30 +121,27 @@ module _ (asked : Asked) (known : IsAsked asked) (input : Input) {dated given : 
     Text t desk = morning_text asked.slot t desk.present number dated
 
     -- all of them came about
-    pub ends_morning : {E : Type 0} (result : Result Reply E) (end : Result DeskStates Refusal) → played.end ≡ end
-        → is_err end ≡ false
-        → ((t : Tables) (desk : DeskStates) → played.end ≡ Ok desk → desk.present.dossier ≡ dossier_of t
-        → first_fault t ≡ None → IfOk result (λ reply. IsDoneWith (Text t desk) reply.exit reply.text.items))
+    pub ends_morning : {E : Type 0} (result : Result Reply E) (desk : DeskStates) → played.end ≡ Ok desk
+        → ((t : Tables) → desk.present.dossier ≡ dossier_of t → first_fault t ≡ None
+        → IfOk result (λ reply. IsDoneWith (Text t desk) reply.exit reply.text.items))
         → IfOk result (λ reply. IsSlotEnding asked.slot job before between reply.exit reply.text.items)
-    ends_morning result (Err refusal) e ok ends = absurd (false≢true (sym ok))
-    ends_morning (Err lack) (Ok desk) e ok ends = tt
-    ends_morning (Ok reply) (Ok desk) e ok ends =
+    ends_morning (Err lack) desk e ends = tt
+    ends_morning (Ok reply) desk e ends =
         let there : desk.present.dossier ≡ input.dossier =
         (ends_led (view_of asked.request input dated) played desk can e).last.dossier in
         inl (is_morning job asked.request input.dossier input.dates dated number is_job.request is_input.dossier
         is_input.dates (same ∙ given_is) number_is asked.slot before between played desk reply.exit reply.text.items
         (subst (λ (t : Option Terms). IsPlayed input.dossier t number asked.request.picker before played between)
         terms_are plays)
-        e (ends job.tables desk e (there ∙ is_input.dossier) is_job.faultless))
+        e (ends job.tables (there ∙ is_input.dossier) is_job.faultless))
 
     -- an answer did not fit
-    pub ends_refused : {E : Type 0} (after : Lent) (result : Result Reply E) (end : Result DeskStates Refusal)
-        → played.end ≡ end → is_err end ≡ true
+    pub ends_refused : {E : Type 0} (after : Lent) (result : Result Reply E) (refusal : Refusal)
+        → played.end ≡ Err refusal
         → EndsAfter played.end (view_of asked.request input dated) played between after result
         → IfOk result (λ reply. IsSlotEnding asked.slot job before after reply.exit reply.text.items)
-    ends_refused after result (Ok desk) e err ends = absurd (false≢true err)
-    ends_refused after (Err lack) (Err refusal) e err ends = tt
-    ends_refused after (Ok reply) (Err refusal) e err ends =
+    ends_refused after (Err lack) refusal e ends = tt
+    ends_refused after (Ok reply) refusal e ends =
         let by : EndsWith (Err refusal) (view_of asked.request input dated) played reply.exit reply.text.items =
         subst (λ (x : Result DeskStates Refusal).
         EndsWith x (view_of asked.request input dated) played reply.exit reply.text.items) e ends.ends in

@@ -1,16 +1,14 @@
-//! What a run answers, before anything is written.
-ghost use Rattle.std.specs.Prelude.{◌≡◌, IfOk, IsOk, IsTrue, None, Ok, map, option_copied};
+//! The reply of a run, made before anything is written.
+ghost use Rattle.std.specs.Prelude.{◌≡◌, IfOk, IsTrue, None, map, option_copied};
 ghost use Rattle.std.specs.Prelude.{string_bytes};
 ghost use Rattle.admit_core.specs.Relations.{first_fault};
 ghost use Rattle.admit_core.specs.Standing.{dossier_of};
 ghost use Rattle.admit_core.specs.declared.tables.Tables.{Tables};
 ghost use Rattle.certificate.specs.Checked.{ids_in};
-ghost use Rattle.desk_day.specs.DeskStates.{DeskStates};
 ghost use Rattle.intake.specs.Input.{IsInputOf, IsJobOf, Job};
 ghost use Rattle.intake.specs.Shelves.{on_shelf};
 ghost use Rattle.modes.specs.Endings.{IsDoneWith};
 ghost use Rattle.modes.specs.Replay.{CanBeDated};
-ghost use Rattle.played.specs.LastDesks.{desk_in};
 ghost use Rattle.played.specs.Lent.{AreBack, AreThere, standing};
 ghost use Rattle.morning_cli.specs.SlotWanted.{IsAsked, is_daily};
 ghost use Rattle.morning_cli.specs.Answering.{RepliesSlot, TakesAsked};
@@ -22,7 +20,7 @@ use admit_core::{OutOfMemory, Slot};
 use call_order::call_orders;
 use intake::{DatedTerms, Input, Stop, dated_terms, take_in};
 use modes::{Reply, StopLine, days_of, deadlines_of, ending, stopped, terms_in};
-use played::{Pickers, Played, play};
+use played::{LastDesk, Pickers, Played, play};
 use slot_io::Shelf;
 use std::alloc::Global;
 
@@ -37,25 +35,21 @@ fn take<S: Shelf>(alloc: Global, words: &[String], shelf: &mut S) -> Result<(Ask
     Ok((asked, input))
 }
 
-/// The reply after days that have all come about.
+/// Replies with the slot of the morning after days that all came about, and left this desk.
 fn morning_after(
     alloc: Global,
     slot: Slot,
     day: u32,
     dated: Option<&DatedTerms>,
-    played: Played<'_, '_>,
+    last: LastDesk<'_, '_>,
 ) -> Result<Reply, OutOfMemory>
     requires daily { IsTrue (is_daily slot) }
-    requires all { IsOk played.end }
-    requires dates { IfOk played.end (λ last. CanBeDated (option_copied dated) last.desk.present) }
-    ensures { (t : Tables) (desk : DeskStates) → desk_in played.entry.end ≡ Ok desk
-        → desk.present.dossier ≡ dossier_of t → first_fault t ≡ None
+    requires dates { CanBeDated (option_copied dated) last.desk.present }
+    ensures { (t : Tables) → last.entry.desk.present.dossier ≡ dossier_of t → first_fault t ≡ None
         → IfOk result (λ reply. IsDoneWith
-        (morning_text slot t desk.present day (option_copied dated.entry))
+        (morning_text slot t last.entry.desk.present day (option_copied dated.entry))
         reply.exit reply.text.items) }
 {
-    let Played { days: _, end } = played;
-    let Ok(last) = end else { unreachable!() };
     let evening = last.into_now(alloc)?;
     slot_reply(alloc, slot, &evening, day, dated)
 }
@@ -94,13 +88,18 @@ fn play_out(
         request.picker,
         pickers,
     )?;
-    if played.end.is_err() {
-        return ending(alloc, request, input, dated, &orders, played, pickers);
+    let Played { days, end } = played;
+    match end {
+        Ok(last) => morning_after(alloc, asked.slot, number, dated, last),
+        Err(refusal) => {
+            let end = Err(refusal);
+            let cut_short = Played { days, end };
+            ending(alloc, request, input, dated, &orders, cut_short, pickers)
+        }
     }
-    morning_after(alloc, asked.slot, number, dated, played)
 }
 
-/// What a run answers, before anything is written.
+/// Makes the reply of a run, or the line of what stopped it. Nothing is written here.
 pub(crate) fn answer<S: Shelf>(
     alloc: Global,
     words: &[String],

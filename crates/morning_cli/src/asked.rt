@@ -15,7 +15,7 @@ pub(crate) struct Asked {
     pub(crate) request: Request,
 }
 
-/// The slot of a word, of those that a day changes.
+/// The slot that a word names, if a day changes it.
 fn slot_named(word: &str) -> Option<Slot>
     ensures value { result ≡ Words.slot_named word.now }
     ensures daily { IfSome result (λ slot. IsTrue (is_daily slot)) }
@@ -43,8 +43,8 @@ fn asked_with(slot: Slot, request: Request) -> Option<Asked>
     }
 }
 
-/// The slot after a run, by what its words were read as. It takes no memory, so it tells want of it
-/// only where the reading did.
+/// The slot after a run whose words were read so. It takes no memory, and tells want of it only
+/// where the reading did.
 fn asked_by(slot: Slot, read: Result<Request, WordsRefusal>) -> Result<Asked, WordsRefusal>
     requires daily { IsTrue (is_daily slot) }
     requires known { IfOk read IsRequest }

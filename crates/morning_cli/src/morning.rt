@@ -17,7 +17,7 @@ use next_morning::next_rows;
 use slot_text::push_slot;
 use std::alloc::Global;
 
-/// A run that is done with the text of a slot of the morning after a day.
+/// Replies with the text of a slot of the morning after a day.
 pub(crate) fn slot_reply(
     alloc: Global,
     slot: Slot,
