@@ -12,7 +12,7 @@ use Rattle.admit_core.specs.declared.tables.WishRow.{WishRow}
 use Rattle.admit_core.specs.Faults.{row_number, first_row}
 use Rattle.dossier_check.specs.Pairs.{pair_eq}
 use Rattle.dossier_check.specs.RowsBefore.{noted_wish, has_preference, AreFirstWishes}
-use Rattle.dossier_check.specs.declared.noted.FirstWish.{FirstWish}
+use Rattle.dossier_check.specs.declared.first_wishes.FirstWish.{FirstWish}
 use Rattle.admit_core.specs.Lists.{is_among}
 use Rattle.dossier_check.proofs.Places.{nat_eq_sound}
 
@@ -140,10 +140,10 @@ some_enumerate f p n (row ∷ rows) = by (p row) refl (some_enumerate f p (n + 1
     by true e rest = rw e refl
     by false e rest = rw (e, rest) refl
 
--- the candidates whose first wishes are kept are those of the wishes
-pub kept_candidates : (found : ℕ → Option FirstWish) (rows : List WishRow) → AreFirstWishes found rows → (candidate : ℕ)
+-- the candidates with a first wish are those of the wishes
+pub first_known : (found : ℕ → Option FirstWish) (rows : List WishRow) → AreFirstWishes found rows → (candidate : ℕ)
     → is_some (found candidate) ≡ is_among candidate (map (λ w. w.candidate) rows)
-kept_candidates found rows firsts candidate =
+first_known found rows firsts candidate =
     ap is_some (firsts candidate) ∙ some_enumerate noted_wish (λ r. nat_eq candidate r.candidate) 2 rows
     ∙ sym (any-map (nat_eq candidate) (λ w. w.candidate) rows)
 

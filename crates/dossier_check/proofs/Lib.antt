@@ -1,5 +1,5 @@
 -- Reading order. Each file says in its first line what it shows.
--- Finding: Firsts, Places, Found, FirstRows, NotedKeys, KeyPlaces; ids that rise: Rising,
+-- Finding: Firsts, Places, Found, FirstRows, FirstWishes, NotedKeys, KeyPlaces; ids that rise: Rising,
 -- RisingIds; keys of hashes: MixedNumbers; numbers in order: SortedNumbers; tags of rows in order:
 -- KeyAndPlace, DealtTags, TaggedRows.
 -- Scans of a slot: Scans, LastRow, AcceptedRows, Outcomes.
@@ -19,6 +19,7 @@ pub mod DealtTags
 pub mod FaultFree
 pub mod Faultless
 pub mod FirstRows
+pub mod FirstWishes
 pub mod Firsts
 pub mod Found
 pub mod InOrder

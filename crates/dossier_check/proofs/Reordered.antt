@@ -22,7 +22,6 @@ use Rattle.admit_core.specs.Lists.{is_among}
 use Rattle.admit_core.specs.Relations.{same_school, same_wish, programme_ids, school_ids, is_ranked, is_boarded}
 use Rattle.admit_core.specs.Relations.{are_mixed, first_wish_of, preference_mixed, preference_taken}
 use Rattle.admit_core.specs.Relations.{wish_tests}
-use Rattle.dossier_check.specs.declared.noted.FirstWish.{FirstWish}
 use Rattle.dossier_check.specs.RowsBefore.{KnowsCandidates}
 use Rattle.dossier_check.specs.Wished.{has_preference}
 use Rattle.dossier_check.specs.WishTests.{id_repeats, other_tests}
@@ -206,9 +205,9 @@ no_wish_fault t ids others =
     (pass_all slots.Wishes (other_tests t) t.wishes others))
 
 -- who has a wish in one order has one in the other
-pub candidates_moved : (found : ℕ → Option FirstWish) (rows ordered : List WishRow) → IsPermutation rows ordered
-    → KnowsCandidates found ordered → KnowsCandidates found rows
-candidates_moved found rows ordered moved knows candidate =
+pub candidates_moved : (candidates : List ℕ) (rows ordered : List WishRow) → IsPermutation rows ordered
+    → KnowsCandidates candidates ordered → KnowsCandidates candidates rows
+candidates_moved candidates rows ordered moved knows candidate =
     knows candidate
     ∙ list_any-IsPermutation (nat_eq candidate) (map (λ w. w.candidate) ordered) (map (λ w. w.candidate) rows)
     (IsPermutation-map (λ w. w.candidate) ordered rows (IsPermutation-sym rows ordered moved))

@@ -1,6 +1,6 @@
 -- What a scan keeps of the rows before.
-use Rattle.std.specs.Prelude.{◌≡◌, ℕ, Bool, ◌&&◌, nat_eq, nat_lt, List, map, Option, Some, IfSome, is_some}
-use Rattle.std.specs.Prelude.{option_map}
+use Rattle.std.specs.Prelude.{◌≡◌, ℕ, Bool, ◌&&◌, nat_eq, nat_lt, length, List, map, Option, Some, IfSome, position}
+use Rattle.std.specs.Prelude.{option_and_then, option_map, slice_get}
 use Rattle.std.specs.Option.{option_map_or}
 use Rattle.admit_core.specs.declared.tables.StateRow.{StateRow}
 use Rattle.admit_core.specs.declared.tables.WishRow.{WishRow}
@@ -8,7 +8,8 @@ use Rattle.admit_core.specs.declared.tables.Tables.{Tables}
 use Rattle.admit_core.specs.Faults.{first_row}
 use Rattle.admit_core.specs.Lists.{is_among}
 use Rattle.admit_core.specs.Relations.{first_wish_of, last_row, is_accepted, same_candidate, candidate_with}
-use Rattle.dossier_check.specs.declared.noted.FirstWish.{FirstWish}
+use Rattle.dossier_check.specs.declared.first_wishes.FirstWish.{FirstWish}
+use Rattle.dossier_check.specs.declared.first_wishes.FirstWishes.{FirstWishes}
 use Rattle.dossier_check.specs.declared.preferences.LastCandidate.{LastCandidate}
 
 -- the pairs that boarding rows are found by
@@ -38,14 +39,23 @@ abbrev pub AreFirstWishes : (ℕ → Option FirstWish) → List WishRow → Type
 AreFirstWishes found before =
     (candidate : ℕ) → found candidate ≡ option_map noted_wish (first_wish_of before candidate)
 
--- `found` gives something for exactly those who have a wish
-abbrev pub KnowsCandidates : (ℕ → Option FirstWish) → List WishRow → Type 0
-KnowsCandidates found rows =
-    (candidate : ℕ) → is_some (found candidate) ≡ is_among candidate (map (λ w. w.candidate) rows)
+-- the first wish that is kept of a candidate
+abbrev pub first_of : FirstWishes → ℕ → Option FirstWish
+first_of firsts candidate =
+    option_and_then (slice_get firsts.wishes.items) (position (nat_eq candidate) firsts.candidates.keys)
+
+-- a wish is kept of each candidate
+abbrev pub AreAsMany : FirstWishes → Type 0
+AreAsMany firsts = length firsts.wishes.items ≡ length firsts.candidates.keys
+
+-- these are just those who have a wish
+abbrev pub KnowsCandidates : List ℕ → List WishRow → Type 0
+KnowsCandidates candidates rows =
+    (candidate : ℕ) → is_among candidate candidates ≡ is_among candidate (map (λ w. w.candidate) rows)
 
 -- what is kept of the last row's candidate is their first wish
-abbrev pub IsLastCandidate : (ℕ → Option FirstWish) → Option LastCandidate → Type 0
-IsLastCandidate found last = IfSome last (λ l. found l.candidate ≡ Some l.first)
+abbrev pub IsLast : FirstWishes → Option LastCandidate → Type 0
+IsLast firsts last = AreAsMany firsts × IfSome last (λ l. first_of firsts l.candidate ≡ Some l.first)
 
 -- the day of the last row, or 0
 abbrev pub IsLastDay : {R : Type 0} → (R → ℕ) → List R → ℕ → Type 0

@@ -9,6 +9,7 @@ mod apart;
 mod by_key;
 mod dates;
 mod day_falls;
+mod first_wishes;
 mod groups;
 mod hashing;
 mod index;

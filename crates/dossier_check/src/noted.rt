@@ -90,13 +90,6 @@ pub(crate) fn row_near<R: Copy>(
     row_at(rows, keys.get_index_of(&pair))
 }
 
-/// What is kept of a candidate's first wish: the row's number, and the preference.
-#[derive(Clone, Copy)]
-pub(crate) struct FirstWish {
-    pub(crate) row: u64,
-    pub(crate) preference: u32,
-}
-
 /// Notes a value of a key, unless one was noted before; answers the one noted before.
 pub(crate) fn note_first<K: Hash + Eq + Copy + Drop, V: Copy + Drop>(
     firsts: &mut IndexMap<K, V, Keyed>,

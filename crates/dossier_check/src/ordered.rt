@@ -1,6 +1,5 @@
 //! Wishes that are shown to have no fault by a look at them in order by candidate.
-ghost use Rattle.std.specs.Prelude.{◌≡◌, ◌<◌, ◌^◌, ◌∷◌, [], IfOk, IfSome, IsSome, None, Ok, length, nat_eq};
-ghost use Rattle.indexmap.specs.IndexMap.{get};
+ghost use Rattle.std.specs.Prelude.{◌≡◌, ◌<◌, ◌^◌, ◌∷◌, [], IfOk, IfSome, IsSome, None, Ok, length};
 ghost use Rattle.admit_core.specs.declared.slot.Slot.TheVariants as slots;
 ghost use Rattle.admit_core.specs.Faults.{first_in};
 ghost use Rattle.admit_core.specs.Relations.{wish_tests, wish_ids};
@@ -58,7 +57,7 @@ fn kept_in_order<'a>(
     ensures fault { IfOk result (λ found. IsSome found →
         first_in slots.Wishes (other_tests tables.now) tables.now.wishes ≡ None) }
     ensures candidates { IfOk result (λ found. IfSome found (λ kept.
-        KnowsCandidates (get nat_eq kept.firsts) tables.now.wishes)) }
+        KnowsCandidates kept.candidates.keys tables.now.wishes)) }
 {
     let ordered = by_key(alloc, &ItsCandidate, tables.wishes.as_slice())?;
     let rows = ordered.rows.as_slice();
@@ -85,7 +84,7 @@ pub(crate) fn shown_in_order<'a>(
     ensures ids { IfOk result (λ found.
         IfSome found (λ keys. keys.ids.keys ≡ wish_ids tables.now)) }
     ensures candidates { IfOk result (λ found. IfSome found (λ keys.
-        KnowsCandidates (get nat_eq keys.firsts) tables.now.wishes)) }
+        KnowsCandidates keys.candidates.keys tables.now.wishes)) }
 {
     let Some(kept) = kept_in_order(alloc, tables, known)? else {
         return Ok(None);

@@ -2,10 +2,12 @@
 ghost use Rattle.std.specs.Prelude.{◌≡◌, [], nat_eq, IfOk};
 ghost use Rattle.indexmap.specs.IndexMap.{get};
 ghost use Rattle.dossier_check.specs.Pairs.{pair_eq};
-ghost use Rattle.dossier_check.specs.RowsBefore.{has_preference, AreFirstRows, AreFirstWishes, IsLastCandidate};
+ghost use Rattle.dossier_check.specs.RowsBefore.{has_preference, AreFirstRows, AreFirstWishes, IsLast, first_of};
 
 use crate::apart::Apart;
-use crate::noted::{FirstWish, note_first};
+use crate::first_wishes::{FirstWish, FirstWishes};
+use crate::noted::note_first;
+use crate::row_ids::RowIds;
 use crate::row_tests::{NoTest, RowTest, Then, Unless};
 use admit_core::{OutOfMemory, Reason, WishRow};
 use indexmap::IndexMap;
@@ -21,12 +23,12 @@ pub(crate) struct LastCandidate {
 
 /// Of this wish and the candidate's first one, one has a preference and the other has none.
 pub(crate) struct PreferenceMixed {
-    pub(crate) firsts: IndexMap<u32, FirstWish, Keyed>,
+    pub(crate) firsts: FirstWishes,
     /// The candidate of the row before: a candidate's wishes mostly stand together.
     pub(crate) last: Option<LastCandidate>,
 }
 
-// Not derived: so it is dropped in one step where it is held, and not by each list of the map.
+// Not derived: so it is dropped in one step where it is held, and not by each list.
 impl Drop for PreferenceMixed {
     fn drop(self) {
         let PreferenceMixed { firsts: _, last: _ } = self;
@@ -35,12 +37,12 @@ impl Drop for PreferenceMixed {
 
 impl PreferenceMixed {
     ghost use Rattle.std.specs.Prelude.{ℕ, if◌then◌else◌, IsSome, IfSome, OnErr, None, Some};
-    ghost use Rattle.dossier_check.specs.RowsBefore.{IsLastCandidate};
+    ghost use Rattle.dossier_check.specs.RowsBefore.{IsLast, first_of};
 
     /// The first wish of a candidate who is that of the row before.
     fn first_of_last(&self, candidate: u32) -> Option<FirstWish>
-        ensures { IsLastCandidate (get nat_eq self.now.firsts) self.now.last →
-            IfSome result (λ first. get nat_eq self.now.firsts candidate ≡ Some first) }
+        ensures { IsLast self.now.firsts self.now.last →
+            IfSome result (λ first. first_of self.now.firsts candidate ≡ Some first) }
     {
         match self.last {
             Some(last) if last.candidate == candidate => Some(last.first),
@@ -51,21 +53,21 @@ impl PreferenceMixed {
     /// Notes a wish of a candidate, unless they had one before; then answers that one.
     #[inline(always)]
     fn note(&mut self, candidate: u32, own: FirstWish) -> Result<Option<FirstWish>, OutOfMemory>
-        ensures first { IsLastCandidate (get nat_eq self.old.firsts) self.old.last →
-            IfOk result (λ first. first ≡ get nat_eq self.old.firsts candidate) }
+        ensures first { IsLast self.old.firsts self.old.last →
+            IfOk result (λ first. first ≡ first_of self.old.firsts candidate) }
         ensures kept { IfOk result (λ first. IsSome first →
-            (k : ℕ) → get nat_eq self.new.firsts k ≡ get nat_eq self.old.firsts k) }
-        ensures noted { IfOk result (λ first. first ≡ None → (k : ℕ) →
-            get nat_eq self.new.firsts k ≡
-            (if nat_eq candidate k then Some own else get nat_eq self.old.firsts k)) }
-        ensures last { IsLastCandidate (get nat_eq self.old.firsts) self.old.last →
-            IfOk result (λ first. IsLastCandidate (get nat_eq self.new.firsts) self.new.last) }
-        ensures told { OnErr result (get nat_eq self.old.firsts candidate ≡ None) }
+            (k : ℕ) → first_of self.new.firsts k ≡ first_of self.old.firsts k) }
+        ensures noted { IsLast self.old.firsts self.old.last →
+            IfOk result (λ first. first ≡ None → (k : ℕ) → first_of self.new.firsts k ≡
+            (if nat_eq candidate k then Some own else first_of self.old.firsts k)) }
+        ensures last { IsLast self.old.firsts self.old.last →
+            IfOk result (λ first. IsLast self.new.firsts self.new.last) }
+        ensures told { OnErr result (first_of self.old.firsts candidate ≡ None) }
     {
         if let Some(first) = self.first_of_last(candidate) {
             return Ok(Some(first));
         }
-        let first = note_first(&mut self.firsts, candidate, own)?;
+        let first = self.firsts.note(candidate, own)?;
         self.last = Some(LastCandidate {
             candidate,
             first: first.unwrap_or(own),
@@ -73,25 +75,23 @@ impl PreferenceMixed {
         Ok(first)
     }
 
-    /// The candidates' first wishes.
-    fn into_firsts(self) -> IndexMap<u32, FirstWish, Keyed>
-        ensures { result ≡ self.firsts }
+    /// The candidates.
+    fn into_candidates(self) -> RowIds
+        ensures { result ≡ self.firsts.candidates }
     {
         let PreferenceMixed { firsts, last: _ } = self;
-        firsts
+        firsts.into_candidates()
     }
 }
 
 impl RowTest<WishRow> for PreferenceMixed {
-    ghost use Rattle.std.specs.Prelude.{nat_eq};
-    ghost use Rattle.indexmap.specs.IndexMap.{get};
     ghost use Rattle.admit_core.specs.Relations.{preference_mixed};
-    ghost use Rattle.dossier_check.specs.RowsBefore.{AreFirstWishes, IsLastCandidate};
+    ghost use Rattle.dossier_check.specs.RowsBefore.{AreFirstWishes, IsLast, first_of};
 
     ghost test = { λ c. preference_mixed };
 
-    ghost has_seen = { λ c before. AreFirstWishes (get nat_eq c.firsts) before
-        × IsLastCandidate (get nat_eq c.firsts) c.last };
+    ghost has_seen = { λ c before. AreFirstWishes (first_of c.firsts) before
+        × IsLast c.firsts c.last };
 
     ghost takes_memory = { Unit {0} };
 
@@ -156,14 +156,14 @@ pub(crate) fn preference_tests(
     by_wish: Keyed,
     apart: Apart,
 ) -> PreferenceTests
-    ensures firsts { AreFirstWishes (get nat_eq result.first.firsts) [] }
-    ensures last { IsLastCandidate (get nat_eq result.first.firsts) result.first.last }
+    ensures firsts { AreFirstWishes (first_of result.first.firsts) [] }
+    ensures last { IsLast result.first.firsts result.first.last }
     ensures known { result.rest.first.is_known ≡ apart.preferences }
     ensures rows { AreFirstRows has_preference (get pair_eq result.rest.first.test.rows) [] }
 {
     Then {
         first: PreferenceMixed {
-            firsts: IndexMap::with_hasher(alloc, keyed),
+            firsts: FirstWishes::new(alloc, keyed),
             last: None,
         },
         rest: Then {
@@ -178,10 +178,10 @@ pub(crate) fn preference_tests(
     }
 }
 
-/// What the tests of preferences keep of the candidates.
-pub(crate) fn firsts_in(tests: PreferenceTests) -> IndexMap<u32, FirstWish, Keyed>
-    ensures { result ≡ tests.first.firsts }
+/// The candidates, as the tests of preferences keep them.
+pub(crate) fn candidates_in(tests: PreferenceTests) -> RowIds
+    ensures { result ≡ tests.first.firsts.candidates }
 {
     let Then { first, rest: _ } = tests;
-    first.into_firsts()
+    first.into_candidates()
 }

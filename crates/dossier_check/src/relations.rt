@@ -63,7 +63,7 @@ fn check_wishes_on<'a>(
     let wishes = check_wishes(alloc, tables, known)?;
     let state = check_state(alloc, keyed, tables, &wishes.ids)?;
     check_ceilings(alloc, keyed, tables, schools)?;
-    check_answers(tables, &wishes.ids, &wishes.firsts)?;
+    check_answers(tables, &wishes.ids, &wishes.candidates)?;
     Ok((wishes, state))
 }
 

@@ -1,11 +1,10 @@
 //! The ids of a slot's rows: found by order where they rise, and by hash elsewhere.
-ghost use Rattle.std.specs.Prelude.{◌≡◌, ◌++◌, ◌∷◌, ◌<◌, [], List, nat_eq, position, is_some, length, slice_get, map, option_map, true, false, None, Some, IfOk, IfSome, IsOk, OnErr};
+ghost use Rattle.std.specs.Prelude.{◌≡◌, ◌++◌, ◌∷◌, ◌<◌, ◌^◌, [], List, nat_eq, position, is_some, length, slice_get, true, false, None, Some, IfOk, IfSome, IsOk, IsSome, OnErr};
 ghost use Rattle.std.specs.List.{IsDistinct, list_any};
-ghost use Rattle.admit_core.specs.Faults.{first_row, row_number};
 ghost use Rattle.dossier_check.specs.Noted.{Notes};
 ghost use Rattle.dossier_check.specs.RowIds.{Rises};
 
-use crate::noted::{Key, note};
+use crate::noted::Key;
 use admit_core::{FIRST_ROW, OutOfMemory};
 use indexmap::IndexSet;
 use keyed_hash::Keyed;
@@ -129,13 +128,19 @@ fn hashed_with(
     Ok(set)
 }
 
-/// The number of the row that has an id, where the ids are those of the rows by place.
-fn row_among(ids: &[u32], id: u32) -> Option<u64>
-    requires { Rises ids.now }
-    ensures { result ≡ option_map row_number (position (nat_eq id) ids.now) }
+/// The place of an id among hashed ones, to which it is added where it is not there.
+fn add_hashed(ids: &mut IndexSet<u32, Keyed>, id: u32) -> Result<Option<usize>, OutOfMemory>
+    ensures found { IfOk result (λ place. place ≡ position (nat_eq id) ids.old.keys) }
+    ensures kept { IfOk result (λ place. IsSome place → ids.new.keys ≡ ids.old.keys) }
+    ensures added { IfOk result (λ place.
+        place ≡ None → ids.new.keys ≡ ids.old.keys ++ id ∷ []) }
+    ensures told { OnErr result (list_any (nat_eq id) ids.old.keys ≡ false) }
 {
-    let place = by_halves(ids, id)?;
-    Some(place as u64 + FIRST_ROW)
+    let (place, is_new) = ids.insert_full(id)?;
+    if is_new {
+        return Ok(None);
+    }
+    Ok(Some(place))
 }
 
 impl RowIds {
@@ -175,30 +180,53 @@ impl RowIds {
         }
     }
 
-    /// Notes the id of the next row, which may be that of a row before. This is not inlined: where
-    /// ids rise, it is never called.
+    /// The place of an id that may be there; it is added where it is not. This is not inlined:
+    /// where ids rise, it is never called.
     #[inline(never)]
-    fn note_any<R, Q: Key<R, u32>>(
+    fn add_any(
         &mut self,
         alloc: Global,
         keyed: Keyed,
-        rule: &Q,
-        row: &R,
-    ) -> Result<Option<u64>, OutOfMemory>
-        ensures { Notes nat_eq Q.key row.now self.old.keys self.new.keys result }
+        id: u32,
+    ) -> Result<Option<usize>, OutOfMemory>
+        ensures found { IfOk result (λ place. place ≡ position (nat_eq id) self.old.keys) }
+        ensures kept { IfOk result (λ place. IsSome place → self.new.keys ≡ self.old.keys) }
+        ensures added { IfOk result (λ place.
+            place ≡ None → self.new.keys ≡ self.old.keys ++ id ∷ []) }
+        ensures told { OnErr result (list_any (nat_eq id) self.old.keys ≡ false) }
     {
         match &mut self.way {
             Way::Rising(ids) => {
-                let id = rule.key_of(row);
-                if let Some(first) = row_among(ids.as_slice(), id) {
-                    return Ok(Some(first));
+                if let Some(place) = by_halves(ids.as_slice(), id) {
+                    return Ok(Some(place));
                 }
                 let set = hashed_with(alloc, keyed, ids, id)?;
                 self.way = Way::Hashed(set);
                 Ok(None)
             }
-            Way::Hashed(ids) => note(ids, rule, row),
+            Way::Hashed(ids) => add_hashed(ids, id),
         }
+    }
+
+    /// The place of an id, which is added where it is not there. The place is told whatever memory
+    /// there is. This is inlined, as the tests that ask it are.
+    #[inline(always)]
+    pub(crate) fn add(
+        &mut self,
+        alloc: Global,
+        keyed: Keyed,
+        id: u32,
+    ) -> Result<Option<usize>, OutOfMemory>
+        ensures found { IfOk result (λ place. place ≡ position (nat_eq id) self.old.keys) }
+        ensures kept { IfOk result (λ place. IsSome place → self.new.keys ≡ self.old.keys) }
+        ensures added { IfOk result (λ place.
+            place ≡ None → self.new.keys ≡ self.old.keys ++ id ∷ []) }
+        ensures told { OnErr result (list_any (nat_eq id) self.old.keys ≡ false) }
+    {
+        if self.add_last(id)? {
+            return Ok(None);
+        }
+        self.add_any(alloc, keyed, id)
     }
 
     /// Notes the id of the next row, and answers the number of the row of the same id where there
@@ -213,10 +241,11 @@ impl RowIds {
     ) -> Result<Option<u64>, OutOfMemory>
         ensures { Notes nat_eq Q.key row.now self.old.keys self.new.keys result }
     {
-        if self.add_last(rule.key_of(row))? {
-            return Ok(None);
+        let _ = self.len();
+        match self.add(alloc, keyed, rule.key_of(row))? {
+            Some(place) => Ok(Some(place as u64 + FIRST_ROW)),
+            None => Ok(None),
         }
-        self.note_any(alloc, keyed, rule, row)
     }
 
     /// The place of an id among rising ones without gaps.
@@ -300,6 +329,7 @@ impl RowIds {
     /// The number of ids.
     pub(crate) fn len(&self) -> usize
         ensures len { result ≡ length self.now.keys }
+        ensures small { result < 2 ^ 63 }
         ensures unique { IsDistinct nat_eq self.now.keys }
     {
         match &self.way {

@@ -1,6 +1,5 @@
 //! The tests of wishes.
 ghost use Rattle.std.specs.Prelude.{◌≡◌, ◌<◌, ◌^◌, ◌&&◌, [], All, true, length, nat_eq, IfOk, if◌then◌else◌};
-ghost use Rattle.indexmap.specs.IndexMap.{get};
 ghost use Rattle.admit_core.specs.declared.slot.Slot.TheVariants as slots;
 ghost use Rattle.admit_core.specs.declared.tables.Tables.{Tables};
 ghost use Rattle.admit_core.specs.Faults.{first_in};
@@ -9,16 +8,15 @@ ghost use Rattle.dossier_check.specs.Hashing.{numbers_of_wishes};
 ghost use Rattle.dossier_check.specs.Known.{IsKnown};
 ghost use Rattle.dossier_check.specs.Outcome.{AnswersFault, MayLack};
 ghost use Rattle.dossier_check.specs.WishTests.{IsRanked, others_unless, tests_unless};
-ghost use Rattle.dossier_check.specs.RowsBefore.{AreFirstWishes, KnowsCandidates};
+ghost use Rattle.dossier_check.specs.RowsBefore.{KnowsCandidates};
 ghost use Rattle.keyed_hash.specs.Keys.{keyed_by};
 
 use crate::apart::{Apart, shown_apart};
 use crate::hashing::hashing_of_wishes;
 use crate::known::Known;
 use crate::near::{NamedPlaces, first_places, in_file_order};
-use crate::noted::FirstWish;
 use crate::ordered::{candidates_rise, shown_in_order};
-use crate::preferences::{PreferenceTests, firsts_in, preference_tests};
+use crate::preferences::{PreferenceTests, candidates_in, preference_tests};
 use crate::row_ids::RowIds;
 use crate::row_tests::{Repeats, RepeatsId, Shared, Then, Unless};
 use crate::rules::{OwnId, WhatIsWished};
@@ -27,15 +25,15 @@ use crate::tag::Tag;
 use crate::who_is_ranked::all_ranked;
 use crate::wish_ranks::MayNotWish;
 use admit_core::{InFault, OutOfMemory, Slot, Tables, WishRow};
-use indexmap::{IndexMap, IndexSet};
+use indexmap::IndexSet;
 use keyed_hash::Keyed;
 use std::alloc::Global;
 
 /// The ids of the wishes by place, and who has a wish.
 pub(crate) struct WishKeys {
     pub(crate) ids: RowIds,
-    /// What is kept of the first wish that was tested of each candidate.
-    pub(crate) firsts: IndexMap<u32, FirstWish, Keyed>,
+    /// The candidates, in the order in which their wishes were tested.
+    pub(crate) candidates: RowIds,
     /// Where the tests found what the wishes name, by the wishes' places.
     pub(crate) places: Vec<NamedPlaces>,
 }
@@ -45,7 +43,7 @@ impl Drop for WishKeys {
     fn drop(self) {
         let WishKeys {
             ids: _,
-            firsts: _,
+            candidates: _,
             places: _,
         } = self;
     }
@@ -59,7 +57,7 @@ impl WishKeys {
     {
         let WishKeys {
             ids,
-            firsts: _,
+            candidates: _,
             places,
         } = self;
         (ids, places)
@@ -87,10 +85,9 @@ fn hashing_by(keyed: Keyed, apart: Apart, rows: &[WishRow]) -> Keyed
     hashing_of_wishes(rows)
 }
 
-/// What the tests but that of ids keep: the candidates' first wishes, and where what the wishes
-/// name was found.
+/// What the tests but that of ids keep: the candidates, and where what the wishes name was found.
 pub(crate) struct Kept {
-    pub(crate) firsts: IndexMap<u32, FirstWish, Keyed>,
+    pub(crate) candidates: RowIds,
     pub(crate) places: Vec<NamedPlaces>,
 }
 
@@ -98,7 +95,7 @@ pub(crate) struct Kept {
 impl Drop for Kept {
     fn drop(self) {
         let Kept {
-            firsts: _,
+            candidates: _,
             places: _,
         } = self;
     }
@@ -106,7 +103,7 @@ impl Drop for Kept {
 
 /// What the tests but that of ids keep.
 pub(crate) fn kept_in(tests: OtherTests<'_>) -> Kept
-    ensures { result.firsts ≡ tests.entry.rest.rest.first.firsts }
+    ensures { result.candidates ≡ tests.entry.rest.rest.first.firsts.candidates }
 {
     let Then { first: _, rest } = tests;
     let Then {
@@ -114,7 +111,7 @@ pub(crate) fn kept_in(tests: OtherTests<'_>) -> Kept
         rest: preferences,
     } = rest;
     Kept {
-        firsts: firsts_in(preferences),
+        candidates: candidates_in(preferences),
         places: named.into_places(),
     }
 }
@@ -123,11 +120,11 @@ impl Kept {
     /// What is kept of wishes that were tested in another order, put in that of the file. Tags tell
     /// the order.
     pub(crate) fn by_file(self, alloc: Global, tags: &[Tag]) -> Result<Kept, OutOfMemory>
-        ensures { IfOk result (λ kept. kept.firsts ≡ self.firsts) }
+        ensures { IfOk result (λ kept. kept.candidates ≡ self.candidates) }
     {
-        let Kept { firsts, places } = self;
+        let Kept { candidates, places } = self;
         Ok(Kept {
-            firsts,
+            candidates,
             places: in_file_order(alloc, tags, places.as_slice())?,
         })
     }
@@ -135,12 +132,12 @@ impl Kept {
     /// What the wishes with these ids are found by.
     pub(crate) fn into_keys(self, ids: RowIds) -> WishKeys
         ensures ids { result.ids ≡ ids }
-        ensures firsts { result.firsts ≡ self.firsts }
+        ensures candidates { result.candidates ≡ self.candidates }
     {
-        let Kept { firsts, places } = self;
+        let Kept { candidates, places } = self;
         WishKeys {
             ids,
-            firsts,
+            candidates,
             places,
         }
     }
@@ -149,7 +146,7 @@ impl Kept {
 /// What the tests of wishes keep.
 fn keys_in(tests: WishTests<'_>) -> WishKeys
     ensures ids { result.ids ≡ tests.entry.first.ids }
-    ensures firsts { result.firsts ≡ tests.entry.rest.rest.rest.first.firsts }
+    ensures candidates { result.candidates ≡ tests.entry.rest.rest.rest.first.firsts.candidates }
 {
     let Then { first: own, rest } = tests;
     kept_in(rest).into_keys(own.ids)
@@ -255,8 +252,8 @@ fn check_rows<'a>(alloc: Global, tables: &'a Tables, known: Known<'a>) -> Result
     ensures fault { AnswersFault result
         (first_in slots.Wishes (wish_tests tables.now) tables.now.wishes) }
     ensures ids { IfOk result (λ keys. keys.ids.keys ≡ wish_ids tables.now) }
-    ensures firsts { IfOk result (λ keys.
-        AreFirstWishes (get nat_eq keys.firsts) tables.now.wishes) }
+    ensures candidates { IfOk result (λ keys.
+        KnowsCandidates keys.candidates.keys tables.now.wishes) }
 {
     let rows = tables.wishes.as_slice();
     let apart = shown_apart(alloc, rows)?;
@@ -266,13 +263,13 @@ fn check_rows<'a>(alloc: Global, tables: &'a Tables, known: Known<'a>) -> Result
 }
 
 /// What no wishes are found by.
-fn no_keys(alloc: Global, keyed: Keyed) -> WishKeys
+fn no_keys(alloc: Global) -> WishKeys
     ensures ids { result.ids.keys ≡ [] }
-    ensures firsts { AreFirstWishes (get nat_eq result.firsts) [] }
+    ensures candidates { result.candidates.keys ≡ [] }
 {
     WishKeys {
         ids: RowIds::new(alloc),
-        firsts: IndexMap::with_hasher(alloc, keyed),
+        candidates: RowIds::new(alloc),
         places: Vec::new(alloc),
     }
 }
@@ -291,11 +288,11 @@ pub(crate) fn check_wishes<'a>(
         (first_in slots.Wishes (wish_tests tables.now) tables.now.wishes) }
     ensures ids { IfOk result (λ keys. keys.ids.keys ≡ wish_ids tables.now) }
     ensures candidates { IfOk result (λ keys.
-        KnowsCandidates (get nat_eq keys.firsts) tables.now.wishes) }
+        KnowsCandidates keys.candidates.keys tables.now.wishes) }
     ensures memory { MayLack (0 < length tables.now.wishes) result }
 {
     if tables.wishes.len() == 0 {
-        return Ok(no_keys(alloc, known.keyed));
+        return Ok(no_keys(alloc));
     }
     if !candidates_rise(tables.wishes.as_slice()) {
         if let Some(keys) = shown_in_order(alloc, tables, known)? {

@@ -1,9 +1,8 @@
-use Rattle.std.proofs.Common.{◌≡◌, ◌∙◌, nat_eq, Ok, ap, arith, length, subst, sym}
+use Rattle.std.proofs.Common.{◌≡◌, ◌∙◌, Ok, ap, arith, length, subst, sym}
 use Rattle.std.specs.List.Sorted.{IsPermutation}
-use Rattle.indexmap.specs.IndexMap.{get}
 use Rattle.admit_core.proofs.SortedLists.{IsPermutation-sorted_by, length-sorted_by}
-use Rattle.dossier_check.specs.RowsBefore.{AreFirstWishes}
-use Rattle.dossier_check.proofs.FirstRows.{kept_candidates}
+use Rattle.dossier_check.specs.RowsBefore.{KnowsCandidates}
+use Rattle.dossier_check.proofs.FirstWishes.{kept_candidates}
 use Rattle.dossier_check.proofs.Reordered.{candidates_moved, no_fault_moved}
 use Rattle.dossier_check.proofs.WishTests.{found_others}
 use Rattle.dossier_check.proofs.ordered.kept_in_order.Goals as goal
@@ -42,8 +41,9 @@ returns-clause-candidates c =
     (subst (IsPermutation _) (sym c.in_ok-ordered.ensures.rows) (IsPermutation-sorted_by _ _))) in
     let ok : c.scanned.result ≡ Ok c.in-Some.tests = rw c.in-Some.is at c.in_ok-tests-2.ensures in
     let seen = rw ok at c.scanned.ensures.seen in
-    let firsts : AreFirstWishes (get nat_eq c.in_ok-by_file.field-0.firsts) rows =
-    subst (λ m. AreFirstWishes (get nat_eq m) rows)
-    (sym (c.in_ok-by_file.ensures ∙ c.kept_in-kept.ensures)) seen.1.1.0.0 in
-    candidates_moved (get nat_eq c.in_ok-by_file.field-0.firsts) t.wishes rows moved
-    (kept_candidates (get nat_eq c.in_ok-by_file.field-0.firsts) rows firsts)
+    let kept = c.in_ok-by_file.field-0 in
+    let same : kept.candidates ≡ c.in-Some.tests.rest.rest.first.firsts.candidates =
+    c.in_ok-by_file.ensures ∙ c.kept_in-kept.ensures in
+    candidates_moved kept.candidates.keys t.wishes rows moved
+    (subst (λ ids. KnowsCandidates ids.keys rows) (sym same)
+    (kept_candidates c.in-Some.tests.rest.rest.first.firsts rows seen.1.1.0.0 seen.1.1.0.1.0))

@@ -6,4 +6,4 @@ pub returns-in-Quit : goal.returns-in-Quit
 returns-in-Quit c ids candidates =
     let t = c.args.self.now.tables.now in
     let row = c.args.row.now in
-    c.contains_key.ensures ∙ candidates row.target ∙ sym (ap (λ kind. is_target t kind row.target) c.in-Quit.is)
+    c.contains-in-Quit.ensures ∙ candidates row.target ∙ sym (ap (λ kind. is_target t kind row.target) c.in-Quit.is)
