@@ -95,14 +95,14 @@ claim_flagged s opens p c long marks =
 
 -- what is known where a wish is closed
 pub record Closes (s : State) (orders : List CallOrder) (opens : List Bool) (lines : List LineRow)
-    (claims : List (List (List ℕ))) (places : List ℕ) (sure : List Bool) (i : ℕ) (w : Wish) : Type 0 where
-  pub links : IsLinked s orders opens lines claims places sure
+    (claims : List (List (List ℕ))) (places : List ℕ) (exempt : List Bool) (i : ℕ) (w : Wish) : Type 0 where
+  pub links : IsLinked s orders opens lines claims places exempt
   pub mark : Mark
   pub at : WaitsAt s i w mark
 
 pub starts_within : {s : State} {orders : List CallOrder} {opens : List Bool} {lines : List LineRow}
-    {claims : List (List (List ℕ))} {places : List ℕ} {sure : List Bool}
-    → IsLinked s orders opens lines claims places sure → (row : LinksRow)
+    {claims : List (List (List ℕ))} {places : List ℕ} {exempt : List Bool}
+    → IsLinked s orders opens lines claims places exempt → (row : LinksRow)
     → record { state = s; orders = orders; opens = opens } ≡ row
     → (i : ℕ) → ((w : Wish) × (m : Mark) × WaitsAt row.state i w m) → i < length s.dossier.wishes
 starts_within {s} {orders} {opens} links row is i (w, m, at) =
@@ -111,12 +111,12 @@ starts_within {s} {orders} {opens} links row is i (w, m, at) =
     slice_get_within s.dossier.wishes i w (wish_of s.dossier.wishes s.marks i w m here.here)
 
 closes : {s : State} {orders : List CallOrder} {opens : List Bool} {lines : List LineRow}
-    {claims : List (List (List ℕ))} {places : List ℕ} {sure : List Bool}
-    → IsLinked s orders opens lines claims places sure → (row : LinksRow)
+    {claims : List (List (List ℕ))} {places : List ℕ} {exempt : List Bool}
+    → IsLinked s orders opens lines claims places exempt → (row : LinksRow)
     → record { state = s; orders = orders; opens = opens } ≡ row
     → (i : ℕ) → ((w : Wish) × (m : Mark) × WaitsAt row.state i w m) → (v : Wish) → slice_get s.dossier.wishes i ≡ Some v
-    → Closes s orders opens lines claims places sure i v
-closes {s} {orders} {opens} {lines} {claims} {places} {sure} links row is i (w, m, at) v found =
+    → Closes s orders opens lines claims places exempt i v
+closes {s} {orders} {opens} {lines} {claims} {places} {exempt} links row is i (w, m, at) v found =
     let P = λ (r : LinksRow). WaitsAt r.state i w m in
     let here = subst P (sym is) at in
     let same : Some w ≡ Some v = sym (wish_of s.dossier.wishes s.marks i w m here.here) ∙ found in
@@ -130,17 +130,17 @@ wish_there (w ∷ ws) zero v lt is = ap (λ (u : Wish). Some u) (sym is)
 wish_there (w ∷ ws) (suc i) v lt is = wish_there ws i v (omega arith) is
 
 pub closes_read : {s : State} {orders : List CallOrder} {opens : List Bool} {lines : List LineRow}
-    {claims : List (List (List ℕ))} {places : List ℕ} {sure : List Bool}
-    → IsLinked s orders opens lines claims places sure → (row : LinksRow)
+    {claims : List (List (List ℕ))} {places : List ℕ} {exempt : List Bool}
+    → IsLinked s orders opens lines claims places exempt → (row : LinksRow)
     → record { state = s; orders = orders; opens = opens } ≡ row
     → (i : ℕ) → ((w : Wish) × (m : Mark) × WaitsAt row.state i w m) → (v : Wish) → v ≡ wish_in s.dossier.wishes i
-    → Closes s orders opens lines claims places sure i v
+    → Closes s orders opens lines claims places exempt i v
 closes_read {s} links row is i waits v read = closes links row is i waits v
     (wish_there s.dossier.wishes i v (starts_within links row is i waits) read)
 
 module _ {s : State} {orders : List CallOrder} {opens : List Bool} {lines : List LineRow}
-    {claims : List (List (List ℕ))} {places : List ℕ} {sure : List Bool} {i : ℕ} {w : Wish}
-    (k : Closes s orders opens lines claims places sure i w) where
+    {claims : List (List (List ℕ))} {places : List ℕ} {exempt : List Bool} {i : ℕ} {w : Wish}
+    (k : Closes s orders opens lines claims places exempt i w) where
   pub wish_within : i < length s.dossier.wishes
   wish_within = slice_get_within s.dossier.wishes i w (wish_of s.dossier.wishes s.marks i w k.mark k.at.here)
 
@@ -175,7 +175,7 @@ module _ {s : State} {orders : List CallOrder} {opens : List Bool} {lines : List
   -- the links with the flag cleared and the lines right for it
   pub links_with : (after : List LineRow)
       → after ≡ map (seat_row s orders (set opens i false)) (range_with_len 0 (length s.dossier.programmes))
-      → IsLinked s orders (set opens i false) after claims places sure
+      → IsLinked s orders (set opens i false) after claims places exempt
   links_with after is =
       record {
         marks_each = k.links.marks_each;
@@ -185,8 +185,8 @@ module _ {s : State} {orders : List CallOrder} {opens : List Bool} {lines : List
         lines_are = is;
         claims_are = k.links.claims_are;
         places_are = k.links.places_are;
-        sure_each = k.links.sure_each;
-        sure_are = k.links.sure_are;
+        exempt_each = k.links.exempt_each;
+        exempt_are = k.links.exempt_are;
       }
 
   -- only the line of the wish's programme may change
@@ -247,59 +247,60 @@ any_at q (y ∷ xs) zero x at t = or_left (q y) (list_any q xs) (ap (λ o. q (un
 any_at q (y ∷ xs) (suc i) x at t = or_right (q y) (list_any q xs) (any_at q xs i x at t)
 
 module _ {s : State} {orders : List CallOrder} {opens : List Bool} {lines : List LineRow}
-    {claims : List (List (List ℕ))} {places : List ℕ} {sure : List Bool} {i : ℕ} {w : Wish}
-    (k : Closes s orders opens lines claims places sure i w) where
+    {claims : List (List (List ℕ))} {places : List ℕ} {exempt : List Bool} {i : ℕ} {w : Wish}
+    (k : Closes s orders opens lines claims places exempt i w) where
   pub applies_in_programme : applies_in s.dossier w.programme w.candidate ≡ true
   applies_in_programme =
       any_at (λ (v : Wish). (nat_eq v.candidate w.candidate) && (nat_eq v.programme w.programme))
       s.dossier.wishes i w (wish_of s.dossier.wishes s.marks i w k.mark k.at.here)
       (rw (eq-eqb w.candidate w.candidate refl, eq-eqb w.programme w.programme refl) refl)
 
-  pub sure_each : length sure ≡ length s.dossier.wishes
-  sure_each = k.links.sure_each
+  pub exempt_each : length exempt ≡ length s.dossier.wishes
+  exempt_each = k.links.exempt_each
 
   -- what is read says whether the wish is proposed
   pub proposed_right : (place : ℕ) → IsSeatPlace s.dossier orders w place → (line : LineRow)
       → line ≡ get_or lines w.programme line
-      → (flag sure_flag reached : Bool) → flag ≡ get_or opens i flag → sure_flag ≡ get_or sure i sure_flag
+      → (flag exempt_flag reached : Bool) → flag ≡ get_or opens i flag → exempt_flag ≡ get_or exempt i exempt_flag
       → reached ≡ is_reached line place
-      → (flag && (sure_flag || reached)) ≡ is_proposed_by s orders opens w k.mark (get_or opens i false)
-  proposed_right place at line read flag sure_flag reached flag_read sure_read by =
+      → (flag && (exempt_flag || reached)) ≡ is_proposed_by s orders opens w k.mark (get_or opens i false)
+  proposed_right place at line read flag exempt_flag reached flag_read exempt_read by =
       let wish = wish_of s.dossier.wishes s.marks i w k.mark k.at.here in
       let lt = slice_get_within s.dossier.wishes i w wish in
       let flag_is : flag ≡ get_or opens i false = get_or_read opens i flag
       (omega (arith, lt, k.links.opens_each)) flag_read false in
-      let sure_is : sure_flag ≡ needs_no_seat s orders w =
-      get_or_read sure i sure_flag (omega (arith, lt, k.links.sure_each)) sure_read false ∙ k.links.sure_are i w wish in
+      let exempt_is : exempt_flag ≡ needs_no_seat s orders w =
+      get_or_read exempt i exempt_flag (omega (arith, lt, k.links.exempt_each)) exempt_read false
+      ∙ k.links.exempt_are i w wish in
       let line_is = line_right k line read in
       let reach_is : reached ≡ nat_lt (ahead_by s orders opens w) (seats_left s w.programme) =
       by ∙ ap (λ (r : LineRow). is_reached r place) line_is
       ∙ reached_in_line s orders opens w place applies_in_programme at in
-      rw (flag_is, sure_is, reach_is, k.at.waits) refl
+      rw (flag_is, exempt_is, reach_is, k.at.waits) refl
 
 -- the same, as the call says it
 pub proposed_goal : {s : State} {orders : List CallOrder} {opens : List Bool} {lines : List LineRow}
-    {claims : List (List (List ℕ))} {places : List ℕ} {sure : List Bool}
-    → IsLinked s orders opens lines claims places sure → (row : LinksRow)
+    {claims : List (List (List ℕ))} {places : List ℕ} {exempt : List Bool}
+    → IsLinked s orders opens lines claims places exempt → (row : LinksRow)
     → record { state = s; orders = orders; opens = opens } ≡ row
     → (i : ℕ) (w : Wish) (m : Mark) → WaitsAt row.state i w m → (v : Wish) → v ≡ wish_in s.dossier.wishes i
     → (place : ℕ) → place ≡ get_or places i place → (line : LineRow) → line ≡ get_or lines v.programme line
-    → (flag sure_flag reached served : Bool)
-    → flag ≡ get_or opens i flag → sure_flag ≡ get_or sure i sure_flag → reached ≡ is_reached line place
-    → served ≡ (flag && (sure_flag || reached))
+    → (flag exempt_flag reached served : Bool)
+    → flag ≡ get_or opens i flag → exempt_flag ≡ get_or exempt i exempt_flag → reached ≡ is_reached line place
+    → served ≡ (flag && (exempt_flag || reached))
     → served ≡ is_proposed_by row.state row.orders row.opens w m (get_or row.opens i false)
-proposed_goal {s} {orders} {opens} {lines} {claims} {places} {sure} links row is i w m waits v wish_read
-    place place_read line line_read flag sure_flag reached served flag_read sure_read by served_is =
+proposed_goal {s} {orders} {opens} {lines} {claims} {places} {exempt} links row is i w m waits v wish_read
+    place place_read line line_read flag exempt_flag reached served flag_read exempt_read by served_is =
     let found = wish_there s.dossier.wishes i v (starts_within links row is i (w, m, waits)) wish_read in
     let P = λ (r : LinksRow). WaitsAt r.state i w m in
     let here : WaitsAt s i w m = subst P (sym is) waits in
     let same : v ≡ w = ap (λ (o : Option Wish). unwrap_or o w)
     (sym found ∙ wish_of s.dossier.wishes s.marks i w m here.here) in
-    let k : Closes s orders opens lines claims places sure i w = record { links = links; mark = m; at = here } in
+    let k : Closes s orders opens lines claims places exempt i w = record { links = links; mark = m; at = here } in
     let read : line ≡ get_or lines w.programme line = rw same at line_read in
     let Q = λ (r : LinksRow). served ≡ is_proposed_by r.state r.orders r.opens w m (get_or r.opens i false) in
-    subst Q is (served_is ∙ proposed_right k place (place_right k place place_read) line read flag sure_flag
-    reached flag_read sure_read by)
+    subst Q is (served_is ∙ proposed_right k place (place_right k place place_read) line read flag exempt_flag
+    reached flag_read exempt_read by)
 
 pub proposed_at_is : (row : LinksRow) (i : ℕ) (w : Wish) (m : Mark) → WaitsAt row.state i w m
     → is_proposed_at row i ≡ is_proposed_by row.state row.orders row.opens w m (get_or row.opens i false)

@@ -17,7 +17,7 @@ use Rattle.admit_core.specs.State.{State, holds_seat}
 use Rattle.day_state.specs.Kept.{has_seat_there}
 use Rattle.linked_demand.specs.Line.{LineRow}
 use Rattle.linked_demand.specs.Links.{claim_of, IsLinked}
-use Rattle.linked_demand.specs.Opens.{wants_by, line_of, seat_row, wanting_at, sure_at}
+use Rattle.linked_demand.specs.Opens.{wants_by, line_of, seat_row, wanting_at, exempt_at}
 use Rattle.linked_demand.specs.Notes.{Noted}
 use Rattle.linked_demand.specs.Seats.{IsLineup}
 use Rattle.linked_demand.specs.Wants.{wants_along, seat_rows, reach_in, IsReached}
@@ -117,13 +117,13 @@ row_within d orders p n row is n_is j lt =
 
 -- the links of a lineup with its lines and the flags of those who need no seat
 linked : (s : State) (orders : List CallOrder) (opens : List Bool) (lines : List LineRow)
-    (claims : List (List (List ℕ))) (notes : Noted) (sure : List Bool) (n : ℕ)
+    (claims : List (List (List ℕ))) (notes : Noted) (exempt : List Bool) (n : ℕ)
     → length s.marks ≡ length s.dossier.wishes → length opens ≡ length s.dossier.wishes
     → IsLineup s.dossier orders claims notes
     → n ≡ length s.dossier.programmes → lines ≡ map (seat_row s orders opens) (range_with_len 0 n)
-    → sure ≡ map (sure_at s notes.called_by_limit) (range_with_len 0 (length s.dossier.wishes))
-    → IsLinked s orders opens lines claims notes.places sure
-linked s orders opens lines claims notes sure n marks long lineup n_is lines_are sure_are =
+    → exempt ≡ map (exempt_at s notes.called_by_limit) (range_with_len 0 (length s.dossier.wishes))
+    → IsLinked s orders opens lines claims notes.places exempt
+linked s orders opens lines claims notes exempt n marks long lineup n_is lines_are exempt_are =
     let ws = s.dossier.wishes in
     record {
       marks_each = marks;
@@ -133,10 +133,10 @@ linked s orders opens lines claims notes sure n marks long lineup n_is lines_are
       lines_are = lines_are ∙ ap (λ k. map (seat_row s orders opens) (range_with_len 0 k)) n_is;
       claims_are = lineup.claims_are;
       places_are = lineup.notes_are.places_are;
-      sure_each = ap length sure_are ∙ length-map-range_with_len (sure_at s notes.called_by_limit) 0 (length ws);
-      sure_are = λ i w at.
-          ap (λ (fs : List Bool). get_or fs i false) sure_are
-          ∙ get_or-map-range_with_len (sure_at s notes.called_by_limit) 0 (length ws) i i false
+      exempt_each = ap length exempt_are ∙ length-map-range_with_len (exempt_at s notes.called_by_limit) 0 (length ws);
+      exempt_are = λ i w at.
+          ap (λ (fs : List Bool). get_or fs i false) exempt_are
+          ∙ get_or-map-range_with_len (exempt_at s notes.called_by_limit) 0 (length ws) i i false
           (slice_get_within ws i w at)
           (omega arith)
           ∙ or_comm (get_or notes.called_by_limit i false) (has_seat_there s i)
@@ -147,17 +147,17 @@ linked s orders opens lines claims notes sure n marks long lineup n_is lines_are
 
 -- how far the seats reach of all programmes up to one
 pub all_reached : (s : State) (orders : List CallOrder) (opens : List Bool) (reached : List ℕ)
-    (claims : List (List (List ℕ))) (notes : Noted) (sure : List Bool) (n : ℕ)
+    (claims : List (List (List ℕ))) (notes : Noted) (exempt : List Bool) (n : ℕ)
     → length s.marks ≡ length s.dossier.wishes → length opens ≡ length s.dossier.wishes
     → IsLineup s.dossier orders claims notes
     → n ≡ length s.dossier.programmes → reached ≡ map (λ p. reach_in (seat_row s orders opens p)) (range_with_len 0 n)
-    → sure ≡ map (sure_at s notes.called_by_limit) (range_with_len 0 (length s.dossier.wishes))
-    → IsReached s orders opens reached claims notes.places sure
-all_reached s orders opens reached claims notes sure n marks long lineup n_is reached_are sure_are =
+    → exempt ≡ map (exempt_at s notes.called_by_limit) (range_with_len 0 (length s.dossier.wishes))
+    → IsReached s orders opens reached claims notes.places exempt
+all_reached s orders opens reached claims notes exempt n marks long lineup n_is reached_are exempt_are =
     let count = length s.dossier.programmes in
     record {
-      links = linked s orders opens (seat_rows s orders opens) claims notes sure count marks long
-          lineup refl refl sure_are;
+      links = linked s orders opens (seat_rows s orders opens) claims notes exempt count marks long
+          lineup refl refl exempt_are;
       reached_are =
           reached_are
           ∙ ap (λ k. map (λ p. reach_in (seat_row s orders opens p)) (range_with_len 0 k)) n_is

@@ -14,7 +14,7 @@ use Rattle.admit_core.specs.Lists.{is_among}
 use Rattle.admit_core.specs.State.{State, seats_left}
 use Rattle.day_state.proofs.Along.{among-filter}
 use Rattle.linked_demand.specs.Demand.{is_proposed_at}
-use Rattle.linked_demand.specs.Fronts.{AreFronts, ListsAlso, front_of, sure_open, reached_open}
+use Rattle.linked_demand.specs.Fronts.{AreFronts, ListsAlso, front_of, exempt_open, reached_open}
 use Rattle.linked_demand.specs.Line.{is_reached}
 use Rattle.linked_demand.specs.Links.{AllOpenWait, LinksRow, WaitsAt, claim_of}
 use Rattle.linked_demand.specs.Opens.{line_of, seat_row, wants_by}
@@ -32,14 +32,14 @@ none_past q k a (suc n) le =
     let other : nat_eq k a ≡ false = ne_eqb k a (λ e. omega (arith, e, le)) in
     elim (cases_Bool (q a)) [ inl kept ↦ rw (kept, other) later | inr dropped ↦ rw dropped later ]
 
-closed_flag : (flag sure reached : Bool) → flag ≡ false → ((flag && sure) || (reached && flag)) ≡ false
-closed_flag false sure true t = refl
-closed_flag false sure false t = refl
-closed_flag true sure reached t = absurd (false≢true (sym t))
+closed_flag : (flag exempt reached : Bool) → flag ≡ false → ((flag && exempt) || (reached && flag)) ≡ false
+closed_flag false exempt true t = refl
+closed_flag false exempt false t = refl
+closed_flag true exempt reached t = absurd (false≢true (sym t))
 
 module _ {s : State} {orders : List CallOrder} {opens : List Bool} {reached : List ℕ}
-    {claims : List (List (List ℕ))} {places : List ℕ} {sure : List Bool}
-    (right : IsReached s orders opens reached claims places sure) where
+    {claims : List (List (List ℕ))} {places : List ℕ} {exempt : List Bool}
+    (right : IsReached s orders opens reached claims places exempt) where
   row_at : (p : ℕ) → p < length s.dossier.programmes
       → get_or claims p [] ≡ map (claim_of s.dossier p) (line_of s.dossier orders p)
   row_at p lt =
@@ -89,20 +89,20 @@ module _ {s : State} {orders : List CallOrder} {opens : List Bool} {reached : Li
   }
 
   -- the list of those who need no seat, and then of those who are reached
-  module _ (now found : List ℕ) (first : (k : ℕ) → is_among k now ≡ sure_open opens sure k)
+  module _ (now found : List ℕ) (first : (k : ℕ) → is_among k now ≡ exempt_open opens exempt k)
       (second : ListsAlso (reached_open opens claims reached (length claims)) now found) where
     found_read : (k : ℕ) → is_among k found
-        ≡ (sure_open opens sure k || reached_open opens claims reached (length s.dossier.programmes) k)
+        ≡ (exempt_open opens exempt k || reached_open opens claims reached (length s.dossier.programmes) k)
     found_read k =
         second k
         ∙ ap (λ b. b || reached_open opens claims reached (length claims) k) (first k)
-        ∙ ap (λ (n : ℕ). sure_open opens sure k || reached_open opens claims reached n k) many
+        ∙ ap (λ (n : ℕ). exempt_open opens exempt k || reached_open opens claims reached n k) many
 
     -- none of them is past the last wish
     found_past : (k : ℕ) → length s.dossier.wishes ≤ k → is_among k found ≡ false
     found_past k past =
         found_read k
-        ∙ closed_flag (get_or opens k false) (get_or sure k false)
+        ∙ closed_flag (get_or opens k false) (get_or exempt k false)
         (list_any (λ p. list_any (is_among k) (front_of claims reached p))
         (range_with_len 0 (length s.dossier.programmes)))
         (get_or_past opens k false (omega (arith, past, right.links.opens_each)))
@@ -110,17 +110,17 @@ module _ {s : State} {orders : List CallOrder} {opens : List Bool} {reached : Li
   -- they say who is proposed
   flag_right : ((k : ℕ) → get_or opens k false ≡ true → (w : Wish) × (m : Mark) × WaitsAt s k w m) → (k : ℕ)
       → k < length s.dossier.wishes
-      → (sure_open opens sure k || reached_open opens claims reached (length s.dossier.programmes)
+      → (exempt_open opens exempt k || reached_open opens claims reached (length s.dossier.programmes)
       k) ≡ is_proposed_at (record { state = s; orders = orders; opens = opens }) k
   flag_right waits k lt =
       let row : LinksRow = record { state = s; orders = orders; opens = opens } in
       let flag = get_or opens k false in
-      let needless = get_or sure k false in
+      let needless = get_or exempt k false in
       elim (cases_Bool (get_or opens k false)) [
         | inl opened ↦
             let (w, m, at) = waits k opened in
             let here = wish_of s.dossier.wishes s.marks k w m at.here in
-            let closes : Closes s orders opens (seat_rows s orders opens) claims places sure k w =
+            let closes : Closes s orders opens (seat_rows s orders opens) claims places exempt k w =
             record { links = right.links; mark = m; at = at } in
             let place : ℕ = slice_index places k in
             let stands = right.links.places_are k w here in
@@ -136,7 +136,7 @@ module _ {s : State} {orders : List CallOrder} {opens : List Bool} {reached : Li
             ∙ proposed_right closes place stands line
             (row_there s orders opens w.programme (programme_within closes)) flag needless (is_reached line place)
             (get_or_default opens k false flag (omega (arith, lt, right.links.opens_each)))
-            (get_or_default sure k false needless (omega (arith, lt, right.links.sure_each))) refl
+            (get_or_default exempt k false needless (omega (arith, lt, right.links.exempt_each))) refl
             ∙ sym (proposed_at_is row k w m at)
         | inr closed ↦
             closed_flag flag needless _ closed ∙ sym (closed_at row k closed)
@@ -144,7 +144,7 @@ module _ {s : State} {orders : List CallOrder} {opens : List Bool} {reached : Li
 
   pub found_right : (row : LinksRow) → record { state = s; orders = orders; opens = opens } ≡ row
       → AllOpenWait row.state row.opens → (now found : List ℕ)
-      → (AllOpenWait s opens → (k : ℕ) → is_among k now ≡ sure_open opens sure k)
+      → (AllOpenWait s opens → (k : ℕ) → is_among k now ≡ exempt_open opens exempt k)
       → ListsAlso (reached_open opens claims reached (length claims)) now found
       → (k : ℕ) → is_among k found
       ≡ is_among k (filter (is_proposed_at row) (range_with_len 0 (length row.state.dossier.wishes)))

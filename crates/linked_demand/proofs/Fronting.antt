@@ -191,8 +191,9 @@ closed_at row k closed = unproposed row.state row.orders row.opens (get_or row.o
     (slice_get (entries row.state) k) closed
 
 -- an open wish that needs no seat or is reached
-pub gathered : (opened sure reached : Bool) → ((opened && sure) || (reached && opened)) ≡ (opened && (sure || reached))
-gathered true sure true = refl
+pub gathered : (opened exempt reached : Bool)
+    → ((opened && exempt) || (reached && opened)) ≡ (opened && (exempt || reached))
+gathered true exempt true = refl
 gathered true true false = refl
 gathered true false false = refl
-gathered false sure reached = and_false reached
+gathered false exempt reached = and_false reached

@@ -13,7 +13,7 @@ use Rattle.admit_core.specs.declared.dossier.Wish.{Wish}
 use Rattle.admit_core.specs.declared.state.Mark.{Mark}
 use Rattle.admit_core.specs.declared.ranking.CallOrder.{CallOrder}
 use Rattle.admit_core.specs.DossierRows.{DossierRows}
-use Rattle.admit_core.specs.State.{State, holds_seat, is_live}
+use Rattle.admit_core.specs.State.{State, holds_seat, is_live, is_waiting}
 use Rattle.day_state.specs.Bundles.{seat_bundle}
 use Rattle.day_state.specs.Kept.{has_seat_there, mark_in, wish_in}
 use Rattle.linked_demand.specs.declared.boarders.Boarder.{Boarder}
@@ -30,7 +30,7 @@ use Rattle.linked_demand.proofs.Closing.{Closes, claim_right, closes_read, propo
 use Rattle.linked_demand.proofs.Closing.{wish_there, wish_within}
 use Rattle.linked_demand.proofs.Leaving.{Reads}
 use Rattle.linked_demand.proofs.Ticking.{claim_fits}
-use Rattle.linked_demand.proofs.Waiting.{not_live}
+use Rattle.linked_demand.proofs.Waiting.{mark_waits, not_live}
 
 -- the one place of a number is that of its first one
 pub place_is : (c : ℕ) (xs : List ℕ) (k : ℕ) → IsPlaceOf c xs k → position_or_len (nat_eq c) xs ≡ k
@@ -76,8 +76,8 @@ item_made d orders places places_are b right place read called called_is =
     }
 
 module _ {s : State} {orders : List CallOrder} {opens : List Bool} {lines : List LineRow}
-    {claims : List (List (List ℕ))} {places : List ℕ} {sure : List Bool}
-    (links : IsLinked s orders opens lines claims places sure) (row : LinksRow)
+    {claims : List (List (List ℕ))} {places : List ℕ} {exempt : List Bool}
+    (links : IsLinked s orders opens lines claims places exempt) (row : LinksRow)
     (is : record { state = s; orders = orders; opens = opens } ≡ row) where
   module _ (x : RowWish) (waits : (w : Wish) × (m : Mark) × WaitsAt row.state x.wish w m)
       (item : x ≡ row_item row.state row.orders x.wish) where
@@ -89,7 +89,7 @@ module _ {s : State} {orders : List CallOrder} {opens : List Bool} {lines : List
         ap (λ (y : RowWish). let w : Wish = record (wish_in s.dossier.wishes x.wish) { programme = y.programme } in w)
         item_here
 
-    pub closes_item : Closes s orders opens lines claims places sure x.wish (wish_of_item s.dossier x)
+    pub closes_item : Closes s orders opens lines claims places exempt x.wish (wish_of_item s.dossier x)
     closes_item = closes_read links row is x.wish waits (wish_of_item s.dossier x) kept
 
     pub item_stands : IsSeatPlace s.dossier orders (wish_of_item s.dossier x) x.place
@@ -117,7 +117,13 @@ module _ {s : State} {orders : List CallOrder} {opens : List Bool} {lines : List
         let right = claim_right closes_item x.place item_stands all all_read claim claim_read in
         claim_fits closes_item _ _ claim right (length s.dossier.wishes) refl
 
-    -- its wish is not live
+    -- its wish waits
+    pub item_waiting : is_waiting (mark_in s.marks x.wish) ≡ true
+    item_waiting =
+        let k = closes_item in
+        mark_waits s x.wish (wish_of_item s.dossier x) k.mark k.at
+
+    -- so it is not live
     pub item_waits : is_live (mark_in s.marks x.wish) ≡ false
     item_waits =
         let k = closes_item in
@@ -128,8 +134,8 @@ module _ {s : State} {orders : List CallOrder} {opens : List Bool} {lines : List
     item_bundle = ap (λ (y : RowWish). y.bundle) item_here
 
     -- it tells who needs no seat
-    pub item_sure : (x.called_by_limit || has_seat_there s x.wish) ≡ get_or sure x.wish false
-    item_sure =
+    pub item_exempt : (x.called_by_limit || has_seat_there s x.wish) ≡ get_or exempt x.wish false
+    item_exempt =
         let d = s.dossier in
         let v = wish_in d.wishes x.wish in
         let k = closes_item in
@@ -137,12 +143,12 @@ module _ {s : State} {orders : List CallOrder} {opens : List Bool} {lines : List
         ap (λ (y : RowWish). y.called_by_limit || has_seat_there s x.wish) item_here
         ∙ or_comm (is_called_by_limit d orders v) (has_seat_there s x.wish)
         ∙ sym (ap (λ (u : Wish). holds_seat s u.candidate u.programme || is_called_by_limit d orders u) kept)
-        ∙ sym (links.sure_are x.wish w (wish_of d.wishes s.marks x.wish w k.mark k.at.here))
+        ∙ sym (links.exempt_are x.wish w (wish_of d.wishes s.marks x.wish w k.mark k.at.here))
 
     -- where it is open, it says whether it is proposed
     pub item_proposed : get_or row.opens x.wish false ≡ true → (line : LineRow) → line ≡ get_or lines x.programme line
         → (reached served : Bool) → reached ≡ is_reached line x.place
-        → served ≡ (reached || get_or sure x.wish false) → served ≡ is_proposed_at row x.wish
+        → served ≡ (reached || get_or exempt x.wish false) → served ≡ is_proposed_at row x.wish
     item_proposed opened line line_read reached served by served_is =
         let w = wish_of_item s.dossier x in
         let k = closes_item in
@@ -150,11 +156,11 @@ module _ {s : State} {orders : List CallOrder} {opens : List Bool} {lines : List
         let flag : Bool = get_or opens x.wish false in
         let set : flag ≡ true = let P = λ (r : LinksRow). get_or r.opens x.wish false ≡ true in
         subst P (sym is) opened in
-        let needs_none : Bool = get_or sure x.wish false in
-        let sure_is : needs_none ≡ get_or sure x.wish needs_none =
-        get_or_default sure x.wish false needs_none (omega (arith, lt, links.sure_each)) in
+        let needs_none : Bool = get_or exempt x.wish false in
+        let exempt_is : needs_none ≡ get_or exempt x.wish needs_none =
+        get_or_default exempt x.wish false needs_none (omega (arith, lt, links.exempt_each)) in
         let right = proposed_right k x.place item_stands line line_read flag needs_none reached
-        (get_or_default opens x.wish false flag (omega (arith, lt, links.opens_each))) sure_is by in
+        (get_or_default opens x.wish false flag (omega (arith, lt, links.opens_each))) exempt_is by in
         let here : LinksRow = record { state = s; orders = orders; opens = opens } in
         let Q = λ (r : LinksRow). served ≡ is_proposed_at r x.wish in
         subst Q is
@@ -166,8 +172,8 @@ module _ {s : State} {orders : List CallOrder} {opens : List Bool} {lines : List
 
 -- what is known of an item whose wish may be closed
 module _ {s : State} {orders : List CallOrder} {opens : List Bool} {reached : List ℕ}
-    {claims : List (List (List ℕ))} {places : List ℕ} {sure : List Bool}
-    (reach : IsReached s orders opens reached claims places sure) (row : LinksRow)
+    {claims : List (List (List ℕ))} {places : List ℕ} {exempt : List Bool}
+    (reach : IsReached s orders opens reached claims places exempt) (row : LinksRow)
     (is : record { state = s; orders = orders; opens = opens } ≡ row) (x : RowWish)
     (own : IsItem row.state.dossier row.orders x) where
   here_own : IsItem s.dossier orders x
@@ -192,8 +198,8 @@ module _ {s : State} {orders : List CallOrder} {opens : List Bool} {reached : Li
 
 -- what is known where a wish of a row is closed
 module _ {s : State} {orders : List CallOrder} {opens : List Bool} {reached : List ℕ}
-    {claims : List (List (List ℕ))} {places : List ℕ} {sure : List Bool}
-    (reach : IsReached s orders opens reached claims places sure) (row : LinksRow)
+    {claims : List (List (List ℕ))} {places : List ℕ} {exempt : List Bool}
+    (reach : IsReached s orders opens reached claims places exempt) (row : LinksRow)
     (is : record { state = s; orders = orders; opens = opens } ≡ row) (x : RowWish)
     (waits : (w : Wish) × (m : Mark) × WaitsAt row.state x.wish w m)
     (item : x ≡ row_item row.state row.orders x.wish) where

@@ -30,8 +30,8 @@ not_before : (wanted wants before : Bool) → (wanted && (not wants && before)) 
 not_before wanted wants before e had stopped = rw (had, stopped) at e
 
 module _ {s : State} {orders : List CallOrder} {opens : List Bool} {claims : List (List (List ℕ))}
-    {places : List ℕ} {sure : List Bool} {i : ℕ} {w : Wish}
-    (k : Closes s orders opens (seat_rows s orders opens) claims places sure i w) where
+    {places : List ℕ} {exempt : List Bool} {i : ℕ} {w : Wish}
+    (k : Closes s orders opens (seat_rows s orders opens) claims places exempt i w) where
   -- the line of the wish's programme before and after
   abbrev old : LineRow
   old = seat_row s orders opens w.programme
@@ -97,7 +97,7 @@ module _ {s : State} {orders : List CallOrder} {opens : List Bool} {claims : Lis
 
   -- the number of the programme is put in its place
   pub reach_put : (reached : List ℕ) → reached ≡ map reach_in (seat_rows s orders opens) → (now : ℕ)
-      → now ≡ reach_in new → IsReached s orders (set opens i false) (set reached w.programme now) claims places sure
+      → now ≡ reach_in new → IsReached s orders (set opens i false) (set reached w.programme now) claims places exempt
   reach_put reached are now is =
       let rows = seat_rows s orders opens in
       record {
@@ -112,18 +112,18 @@ module _ {s : State} {orders : List CallOrder} {opens : List Bool} {claims : Lis
   -- a number that stays right stays
   pub reach_kept : (reached : List ℕ) → reached ≡ map reach_in (seat_rows s orders opens) → (before : ℕ)
       → before ≡ get_or reached w.programme before → before ≡ reach_in new
-      → IsReached s orders (set opens i false) reached claims places sure
+      → IsReached s orders (set opens i false) reached claims places exempt
   reach_kept reached are before read is =
       let lt : w.programme < length reached = omega (arith, programme_within k, reached_each reached are) in
       let same : set reached w.programme before ≡ reached =
       ap (set reached w.programme) (get_or_read reached w.programme before lt read 0)
       ∙ set-get_or reached w.programme 0 in
-      let P = λ (ns : List ℕ). IsReached s orders (set opens i false) ns claims places sure in
+      let P = λ (ns : List ℕ). IsReached s orders (set opens i false) ns claims places exempt in
       subst P same (reach_put reached are before is)
 
 module _ {s : State} {orders : List CallOrder} {opens : List Bool} {claims : List (List (List ℕ))}
-    {places : List ℕ} {sure : List Bool} {i : ℕ} {w : Wish}
-    (k : Closes s orders opens (seat_rows s orders opens) claims places sure i w) (place : ℕ)
+    {places : List ℕ} {exempt : List Bool} {i : ℕ} {w : Wish}
+    (k : Closes s orders opens (seat_rows s orders opens) claims places exempt i w) (place : ℕ)
     (at : IsSeatPlace s.dossier orders w place) where
   -- so many places are reached now; of those who want a seat the one at the answer is reached anew, and no other
   pub record Moves (now : ℕ) (answer : Option ℕ) : Type 0 where
@@ -225,8 +225,8 @@ module _ {s : State} {orders : List CallOrder} {opens : List Bool} {claims : Lis
 
 -- what the calls of a closing read and answer
 pub record Reads {s : State} {orders : List CallOrder} {opens : List Bool} {claims : List (List (List ℕ))}
-    {places : List ℕ} {sure : List Bool} {i : ℕ} {w : Wish}
-    (k : Closes s orders opens (seat_rows s orders opens) claims places sure i w) (place : ℕ)
+    {places : List ℕ} {exempt : List Bool} {i : ℕ} {w : Wish}
+    (k : Closes s orders opens (seat_rows s orders opens) claims places exempt i w) (place : ℕ)
     (row : List (List ℕ)) (claim : List ℕ) (reached : List ℕ) (before : ℕ) (live wanted wants leaves : Bool) :
     Type 0 where
   pub stands : IsSeatPlace s.dossier orders w place
@@ -240,8 +240,8 @@ pub record Reads {s : State} {orders : List CallOrder} {opens : List Bool} {clai
   pub leaves_is : leaves ≡ (nat_lt place before && (wanted && not wants))
 
 module _ {s : State} {orders : List CallOrder} {opens : List Bool} {claims : List (List (List ℕ))}
-    {places : List ℕ} {sure : List Bool} {i : ℕ} {w : Wish}
-    {k : Closes s orders opens (seat_rows s orders opens) claims places sure i w} {place : ℕ}
+    {places : List ℕ} {exempt : List Bool} {i : ℕ} {w : Wish}
+    {k : Closes s orders opens (seat_rows s orders opens) claims places exempt i w} {place : ℕ}
     {row : List (List ℕ)} {claim : List ℕ} {reached : List ℕ} {before : ℕ} {live wanted wants leaves : Bool}
     (r : Reads k place row claim reached before live wanted wants leaves) where
   leaves_last : leaves ≡ (wanted && (not wants && nat_lt place before))

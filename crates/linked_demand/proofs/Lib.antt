@@ -2,7 +2,8 @@
 -- Tools: Keeping, Passing, Keyed, Dealing, Putting, PlaceOrder, Marked, Counting.
 -- The lineup: CalledRows, ClaimSpans, Lining, Seating, Lined.
 -- Open wishes and flags: Opens, Falling, Closing, Flagging, Waiting, AnyOpen, Boarding, Shutting.
--- How far seats reach: Reach, Leaving; the proposed wishes: Walking, Fronting, Listing, Fronted, NeedNoSeat.
+-- How far seats reach: Reach, Leaving; the proposed wishes: Walking, Fronting, Listing, Fronted, NeedNoSeat,
+-- BesideLive.
 -- Rows of the schools: RowsTo, RowsRight, FirstBoarders, Items, RowSteps, RowFronts, Demanded, Naming.
 -- A wish is closed: Moving, Ticking, Marking, Staying; the end of a row falls: Cutting, Telling.
 -- A bar falls: OneFall, Answered, RoundFalls, TickLaw, Spending.
@@ -13,6 +14,7 @@
 pub mod Answered
 pub mod AnyOpen
 pub mod BarEach
+pub mod BesideLive
 pub mod CalledRows
 pub mod ClaimSpans
 pub mod Boarding

@@ -23,7 +23,7 @@ use Rattle.linked_demand.specs.Lent.{left_of, lent}
 use Rattle.linked_demand.specs.Links.{LinksRow}
 use Rattle.linked_demand.specs.Opens.{opens_of}
 use Rattle.linked_demand.specs.Rows.{row_in, rows_to, AllItems, AreEnds, AreFirst, AreRows, CutsAt, IsRow, StayOpen}
-use Rattle.linked_demand.specs.Rounds.{Round, IsRound, IsRoundAlong, IsRoundUnder, bar_each}
+use Rattle.linked_demand.specs.Rounds.{Round, IsRound, IsRoundAlong, IsRoundUnder, SchoolsKept, bar_each}
 use Rattle.linked_demand.specs.Housed.{AllHoused, kept, within}
 use Rattle.linked_demand.specs.Marks.{is_new, MarksWishes}
 use Rattle.linked_demand.specs.Ticks.{changes_between}
@@ -66,7 +66,7 @@ round_built links ceilings free rows opens long each free_each rows_are items_ar
 pub answers_built : (links : LinksRow) (bars free : List ℕ) (rows : List (List RowWish))
     → IsRound links bars free rows → (overfilled : List (Option ℕ)) (marked : List Bool) (housed : List (List Rung))
     → length marked ≡ length links.state.dossier.wishes → AllHoused links nobody rows free overfilled housed
-    → IsRoundUnder links bars bars free rows overfilled marked housed
+    → IsRoundUnder links bars bars free rows (record { overfilled = overfilled; marked = marked; housed = housed })
 answers_built links bars free rows right overfilled marked housed long all = record {
   round = right;
   ceilings_each = right.bars_each;
@@ -77,7 +77,8 @@ answers_built links bars free rows right overfilled marked housed long all = rec
 
 module _ {links : LinksRow} {ceilings bars free : List ℕ} {rows : List (List RowWish)}
     {overfilled : List (Option ℕ)} {marked : List Bool} {housed : List (List Rung)} {seen : Round}
-    (beds : List ℕ) (right : IsRoundUnder links ceilings bars free rows overfilled marked housed)
+    (beds : List ℕ) (right : IsRoundUnder links ceilings bars free rows
+    (record { overfilled = overfilled; marked = marked; housed = housed }))
     (is : record { state = lent links.state beds; orders = links.orders; ceilings = ceilings; bars = bars } ≡ seen)
     (i to : ℕ) (lt : i < length seen.ceilings)
     (falls : to < slice_index (bar_each seen.ceilings seen.bars) i) {row : List RowWish}
@@ -194,7 +195,8 @@ module _ {links : LinksRow} {ceilings bars free : List ℕ} {rows : List (List R
           → AllHoused new (λ k. get_or after k false) rs free overs_cut housed_cut
           → AllHoused new nobody rs free answers housed_last)
           → last ≡ replicate (length after) false
-          → IsRoundUnder new ceilings (set bars i to) free (set rows i kept_row) answers last housed_last
+          → IsRoundUnder new ceilings (set bars i to) free (set rows i kept_row)
+          (record { overfilled = answers; marked = last; housed = housed_last })
       lowered overs_cut housed_cut overs_are housed_are answers last housed_last looked unmarked =
           let Q = λ (bs : List ℕ). MarksWishes links.state (is_new links.state bs links new) marked after in
           let fallen = all_fallen links new bars free rows i to within_bars le right.round row kept_row found state
@@ -217,15 +219,15 @@ module _ {links : LinksRow} {ceilings bars free : List ℕ} {rows : List (List R
 
 -- the same of a round whose rows are those of first boarders, of whom fewer are left in one school
 pub lowered_along : (old new : LinksRow) (ceilings bars beds : List ℕ) (boarders : List (Vec RowWish Global))
-    (ends : List ℕ) (overs : List (Option ℕ)) (marked : List Bool) (housed : List (List Rung))
-    → new ≡ record old { opens = new.opens } → AreBySchool old.state.dossier old.orders boarders
+    (ends : List ℕ) (schools : SchoolsKept) → new ≡ record old { opens = new.opens }
+    → AreBySchool old.state.dossier old.orders boarders
     → AreEnds boarders ends → (i end : ℕ) (front : List RowWish) → AreFirst boarders ends i front
     → end ≤ length front
     → length beds ≡ length old.state.dossier.schools
     → IsRoundUnder new ceilings bars (left_of old.state beds)
-    (set (rows_to old.state boarders ends) i (row_in old.state (take end front))) overs marked housed
-    → IsRoundAlong new ceilings bars beds boarders (set ends i end) overs marked housed
-lowered_along old new ceilings bars beds boarders ends overs marked housed same by_school are i end front first le
+    (set (rows_to old.state boarders ends) i (row_in old.state (take end front))) schools
+    → IsRoundAlong new ceilings bars beds boarders (set ends i end) schools
+lowered_along old new ceilings bars beds boarders ends schools same by_school are i end front first le
     long_beds under =
     let s = old.state in
     let own = first.own in
@@ -238,9 +240,9 @@ lowered_along old new ceilings bars beds boarders ends overs marked housed same 
     let cut : take end front ≡ take end own.items =
     ap (take end) first.front_is ∙ take-take end (slice_index ends i) own.items (omega (arith, le, long)) in
     let P = λ (rows : List (List RowWish)).
-    IsRoundUnder new ceilings bars (left_of s beds) rows overs marked housed in
+    IsRoundUnder new ceilings bars (left_of s beds) rows schools in
     let Q = λ (t : State). IsRoundUnder new ceilings bars (left_of t beds) (rows_to t boarders (set ends i end))
-    overs marked housed in
+    schools in
     let B = λ (t : State). length beds ≡ length t.dossier.schools in
     let R = λ (xs : List RowWish). P (set (rows_to s boarders ends) i (row_in s xs)) in
     let S = λ (t : State). AreBySchool t.dossier new.orders boarders in

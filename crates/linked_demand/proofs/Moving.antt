@@ -54,8 +54,8 @@ no_left true b t = t
 no_left false b t = refl
 
 module _ {s : State} {orders : List CallOrder} {opens : List Bool} {lines : List LineRow}
-    {claims : List (List (List ℕ))} {places : List ℕ} {sure : List Bool} {i : ℕ} {w : Wish}
-    (k : Closes s orders opens lines claims places sure i w) (j : ℕ) (v : Wish) (n : Mark)
+    {claims : List (List (List ℕ))} {places : List ℕ} {exempt : List Bool} {i : ℕ} {w : Wish}
+    (k : Closes s orders opens lines claims places exempt i w) (j : ℕ) (v : Wish) (n : Mark)
     (waits : WaitsAt s j v n) (place : ℕ) (at : IsSeatPlace s.dossier orders v place)
     (lt : j < length opens) (other : nat_eq j i ≡ false) where
   flag_same : get_or (set opens i false) j false ≡ get_or opens j false
@@ -69,12 +69,12 @@ module _ {s : State} {orders : List CallOrder} {opens : List Bool} {lines : List
   -- an open wish that needs a seat has its place set
   flag_set : needs_no_seat s orders v ≡ false → get_or opens j false ≡ true
       → get_or (seat_row s orders (set opens i false) v.programme).flags place false ≡ true
-  flag_set unsure t =
+  flag_set not_exempt t =
       let found : list_any (is_flagged_in v.programme v.candidate) (flagged s (set opens i false)) ≡ true =
       flag_found s (set opens i false) j v n waits (omega (arith, lt, length-set opens i false)) (flag_same ∙ t) in
       let no_seat : holds_seat s v.candidate v.programme ≡ false = no_left
       (holds_seat s v.candidate v.programme) (nat_le (position_of s orders v) (limit_of s.dossier v.programme))
-      unsure in
+      not_exempt in
       let wants : wants_by s (set opens i false) v.programme v.candidate ≡ true = rw (found, no_seat) refl in
       get_or-map (wants_by s (set opens i false) v.programme)
       (line_of s.dossier orders v.programme) place 0 false at.within
@@ -107,17 +107,17 @@ closed_bits true seat old true = refl
 closed_bits true seat old false = refl
 closed_bits false seat old place = refl
 
-newly_bits : (waits flag sure old new answer : Bool) → (sure ≡ false → flag ≡ true → (new && not old) ≡ answer)
-    → (((waits && flag) && (sure || new)) && not ((waits && flag) && (sure || old)))
-    ≡ (waits && (answer && (flag && not sure)))
-newly_bits false flag sure old new answer h = refl
-newly_bits true false sure old new answer h = sym (and_false answer)
+newly_bits : (waits flag exempt old new answer : Bool) → (exempt ≡ false → flag ≡ true → (new && not old) ≡ answer)
+    → (((waits && flag) && (exempt || new)) && not ((waits && flag) && (exempt || old)))
+    ≡ (waits && (answer && (flag && not exempt)))
+newly_bits false flag exempt old new answer h = refl
+newly_bits true false exempt old new answer h = sym (and_false answer)
 newly_bits true true true old new answer h = sym (and_false answer)
 newly_bits true true false old new answer h = h refl refl ∙ is_and_true answer
 
 module _ {s : State} {orders : List CallOrder} {opens : List Bool} {lines : List LineRow}
-    {claims : List (List (List ℕ))} {places : List ℕ} {sure : List Bool} {i : ℕ} {w : Wish}
-    (k : Closes s orders opens lines claims places sure i w) (answer : Option ℕ)
+    {claims : List (List (List ℕ))} {places : List ℕ} {exempt : List Bool} {i : ℕ} {w : Wish}
+    (k : Closes s orders opens lines claims places exempt i w) (answer : Option ℕ)
     (fresh : (place : ℕ) → place < length (line_of s.dossier orders w.programme)
     → get_or (seat_row s orders (set opens i false) w.programme).flags place false ≡ true
     → (is_reached (seat_row s orders (set opens i false) w.programme)
@@ -154,7 +154,7 @@ module _ {s : State} {orders : List CallOrder} {opens : List Bool} {lines : List
             )
             (newly_bits (is_waiting n) (get_or opens j false) (needs_no_seat s orders v)
             (is_reached old place) (is_reached new place) (is_answer answer place)
-            (λ unsure t. moved (flag_set k j v n waits place at lt other unsure t)))
+            (λ not_exempt t. moved (flag_set k j v n waits place at lt other not_exempt t)))
         | inr apart ↦
             rw (
               apart,
@@ -169,7 +169,7 @@ module _ {s : State} {orders : List CallOrder} {opens : List Bool} {lines : List
       → (is_proposed_at (record { state = s; orders = orders; opens = set opens i false })
       j && not (is_proposed_at (record { state = s; orders = orders; opens = opens }) j))
       ≡ (is_waiting n && ((nat_eq v.programme w.programme && is_answer answer
-      (slice_index places j)) && (get_or (set opens i false) j false && not (get_or sure j false))))
+      (slice_index places j)) && (get_or (set opens i false) j false && not (get_or exempt j false))))
   newly_all j v n here =
       let l0 : LinksRow = record { state = s; orders = orders; opens = opens } in
       let l1 : LinksRow = record { state = s; orders = orders; opens = set opens i false } in
@@ -199,10 +199,10 @@ module _ {s : State} {orders : List CallOrder} {opens : List Bool} {lines : List
           | inr other ↦
               let flag : get_or (set opens i false) j false ≡ get_or opens j false = get_or-set_other opens
               i j false false (eqb-false j i other) in
-              let sure_is : get_or sure j false ≡ needs_no_seat s orders v = k.links.sure_are j v
+              let exempt_is : get_or exempt j false ≡ needs_no_seat s orders v = k.links.exempt_are j v
               (wish_of s.dossier.wishes s.marks j v n here) in
               let moved = newly_at j v n (record { here = here; waits = waits }) other in
-              rw (new_is, old_is, sure_is)
+              rw (new_is, old_is, exempt_is)
               (moved ∙ ap (λ b. is_waiting
               n && ((nat_eq v.programme w.programme && is_answer answer
               (slice_index places j)) && (b && not (needs_no_seat s orders v)))) (sym flag))
@@ -220,7 +220,7 @@ module _ {s : State} {orders : List CallOrder} {opens : List Bool} {lines : List
   newly_none none j e here =
       newly_all j e.0 e.1 here ∙ rw none
       (none_bits (is_waiting e.1) (nat_eq e.0.programme w.programme)
-      (get_or (set opens i false) j false && not (get_or sure j false)))
+      (get_or (set opens i false) j false && not (get_or exempt j false)))
 
   -- else the wishes of the claim at that place that are open and need a seat
   pub newly_some : (next : ℕ) → answer ≡ Some next → next < length (line_of s.dossier orders w.programme)
@@ -228,13 +228,13 @@ module _ {s : State} {orders : List CallOrder} {opens : List Bool} {lines : List
       → newly (j, e)
       ≡ ((is_waiting e.1 && (nat_eq e.0.candidate
       (get_or (line_of s.dossier orders w.programme) next 0)) && (nat_eq e.0.programme w.programme))
-      && (get_or (set opens i false) j false && not (get_or sure j false)))
+      && (get_or (set opens i false) j false && not (get_or exempt j false)))
   newly_some next some lt j e here =
       let c = get_or (line_of s.dossier orders w.programme) next 0 in
       newly_all j e.0 e.1 here
       ∙ rw some (turn_bits (is_waiting e.1) (nat_eq e.0.programme w.programme)
       (nat_eq next (slice_index places j)) (nat_eq e.0.candidate c)
-      (get_or (set opens i false) j false && not (get_or sure j false)) (λ waits own.
+      (get_or (set opens i false) j false && not (get_or exempt j false)) (λ waits own.
       let at = k.links.places_are j e.0 (wish_of s.dossier.wishes s.marks j e.0 e.1 here) in
       let same : e.0.programme ≡ w.programme = eqb-true e.0.programme w.programme own in
       elim (cases_Bool (nat_eq next (slice_index places j))) [

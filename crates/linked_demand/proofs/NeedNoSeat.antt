@@ -3,53 +3,38 @@ use Rattle.std.proofs.Common.{ℕ, ◌<◌, ◌≡◌, Bool, true, false, ◌&&�
 use Rattle.std.proofs.Common.{inl, inr, Some, refl, sym, ◌∙◌, ap, arith}
 use Rattle.std.specs.Prelude.{slice_get, ◌==◌}
 use Rattle.std.specs.List.{list_any, range_with_len}
-use Rattle.std.proofs.lemmas.Bool.{and_parts, and_right, cases_Bool}
+use Rattle.std.proofs.lemmas.Bool.{and_parts, and_right, cases_Bool, cases_lt, false≢true}
+use Rattle.std.proofs.lemmas.List.{get_or_past, length-map}
 use Rattle.std.proofs.lemmas.List.FromFn.{get_or-map-range_with_len}
 use Rattle.std.proofs.lemmas.Option.{slice_get_within}
-use Rattle.admit_core.proofs.Plain.{nat_eq_sym}
+use Rattle.admit_core.proofs.Plain.{and_true, nat_eq_sym}
 use Rattle.admit_core.specs.declared.dossier.Wish.{Wish}
 use Rattle.admit_core.specs.declared.ranking.CallOrder.{CallOrder}
 use Rattle.admit_core.specs.DossierRows.{DossierRows}
 use Rattle.admit_core.specs.Lists.{is_among}
-use Rattle.admit_core.specs.State.{State, is_live}
+use Rattle.admit_core.specs.State.{State, is_live, is_waiting}
 use Rattle.day_state.specs.declared.numbers.SharedWish.{SharedWish}
 use Rattle.day_state.specs.Kept.{has_seat_there, mark_in, wish_in}
 use Rattle.day_state.proofs.Along.{among-filter}
-use Rattle.linked_demand.specs.Fronts.{ListsAlso, open_beside, sure_open}
+use Rattle.linked_demand.specs.Beside.{waits_beside}
+use Rattle.linked_demand.specs.Fronts.{ListsAlso, exempt_open}
 use Rattle.linked_demand.specs.Links.{AllOpenWait}
-use Rattle.linked_demand.specs.Opens.{sure_at, all_sure}
+use Rattle.linked_demand.specs.Opens.{exempt_at, all_exempt}
 use Rattle.linked_demand.specs.Seats.{is_called_by_limit, limited_wishes}
 use Rattle.linked_demand.proofs.Closing.{wish_of, wish_there}
-use Rattle.linked_demand.proofs.Waiting.{not_live}
+use Rattle.linked_demand.proofs.Waiting.{mark_waits, waiting_not_live, waits_read}
 
 -- whether a wish needs no seat, read from the list of all
-pub sure_read : (s : State) (limited : List Bool) (k : ℕ) → k < length s.dossier.wishes
-    → get_or (all_sure s limited) k false ≡ sure_at s limited k
-sure_read s limited k lt =
-    get_or-map-range_with_len (sure_at s limited) 0 (length s.dossier.wishes) k k false lt (omega arith)
+pub exempt_read : (s : State) (limited : List Bool) (k : ℕ) → k < length s.dossier.wishes
+    → get_or (all_exempt s limited) k false ≡ exempt_at s limited k
+exempt_read s limited k lt =
+    get_or-map-range_with_len (exempt_at s limited) 0 (length s.dossier.wishes) k k false lt (omega arith)
 
 -- the wishes that a limit calls, of so many
 pub limited_below : (d : DossierRows) (orders : List CallOrder) (n : ℕ) → n ≡ length d.wishes
     → filter (λ k. is_called_by_limit d orders (wish_in d.wishes k)) (range_with_len 0 n) ≡ limited_wishes d orders
 limited_below d orders n is =
     ap (λ m. filter (λ k. is_called_by_limit d orders (wish_in d.wishes k)) (range_with_len 0 m)) is
-
--- where a wish is open, it is not live; so it may be asked about as one that isn't
-pub sure_where_open : (s : State) (opens : List Bool) → AllOpenWait s opens → (k : ℕ) (holds asked : Bool)
-    → (k < length s.dossier.wishes → is_live (mark_in s.marks k) ≡ false → asked ≡ holds)
-    → (asked && get_or opens k false) ≡ (get_or opens k false && holds)
-sure_where_open s opens waits k holds asked is =
-    elim (cases_Bool (get_or opens k false)) [
-      | inl opened ↦
-          let (w, m, at) = waits k opened in
-          let lt = slice_get_within s.dossier.wishes k w (wish_of s.dossier.wishes s.marks k w m at.here) in
-          rw opened (and_true asked ∙ is lt (not_live s k w m at))
-      | inr closed ↦ rw closed (and_right asked false refl)
-    ]
-  where
-    and_true : (b : Bool) → (b && true) ≡ b
-    and_true true = refl
-    and_true false = refl
 
 -- the places of wishes that share their bundles
 abbrev pub places_of : List SharedWish → List ℕ
@@ -64,33 +49,57 @@ places_among k [] = refl
 places_among k (x ∷ xs) =
     ap (λ b. b || is_among k (places_of xs)) (nat_eq_sym k x.wish) ∙ ap (λ b. (x.wish == k) || b) (places_among k xs)
 
--- the open wishes beside a live one all share their bundles
-pub all_beside : (s : State) (opens : List Bool) → AllOpenWait s opens → (xs : List SharedWish)
+-- the mark of a wish whose flag is set
+waits_there : (s : State) (k : ℕ) → get_or (map is_waiting s.marks) k false ≡ true
+    → (k < length s.marks) × (is_waiting (mark_in s.marks k) ≡ true)
+waits_there s k is_set = elim (cases_lt k (length s.marks)) [
+  | inl lt ↦ (lt, sym (waits_read s k lt) ∙ is_set)
+  | inr past ↦
+      let none = get_or_past (map is_waiting s.marks) k false (omega (arith, past, length-map s.marks is_waiting)) in
+      absurd (false≢true (sym none ∙ is_set))
+]
+
+-- a wish that waits is not live; so it may be asked about as one that isn't
+pub beside_asked : (s : State) → length s.marks ≡ length s.dossier.wishes → (k : ℕ) (asked : Bool)
+    → (k < length s.dossier.wishes → is_live (mark_in s.marks k) ≡ false → asked ≡ has_seat_there s k)
+    → (asked && get_or (map is_waiting s.marks) k false) ≡ waits_beside s k
+beside_asked s long k asked is = elim (cases_Bool (get_or (map is_waiting s.marks) k false)) [
+  | inl is_set ↦
+      let (lt, waits) = waits_there s k is_set in
+      rw is_set (and_true asked ∙ is (omega (arith, lt, long)) (waiting_not_live s k waits))
+  | inr clear ↦ rw clear (and_right asked false refl)
+]
+
+-- the wishes that wait beside a live one all share their bundles
+pub all_beside : (s : State) → length s.marks ≡ length s.dossier.wishes → (xs : List SharedWish)
     → ((k : ℕ) → k < length s.dossier.wishes → is_live (mark_in s.marks k) ≡ false → has_seat_there s k ≡ true
     → list_any (λ e. e.wish == k) xs ≡ true)
-    → (k : ℕ) → (is_among k (places_of xs) && open_beside s opens k) ≡ open_beside s opens k
-all_beside s opens waits xs all k =
-    elim (cases_Bool (open_beside s opens k)) [
+    → (k : ℕ) → (is_among k (places_of xs) && waits_beside s k) ≡ waits_beside s k
+all_beside s long xs all k =
+    elim (cases_Bool (waits_beside s k)) [
       | inl both ↦
-          let parts = and_parts (get_or opens k false) (has_seat_there s k) both in
-          let (w, m, at) = waits k parts.0 in
-          let lt = slice_get_within s.dossier.wishes k w (wish_of s.dossier.wishes s.marks k w m at.here) in
-          ap (λ b. b && open_beside s opens k)
-          (places_among k xs ∙ all k lt (not_live s k w m at) parts.1)
-      | inr other ↦ and_right (is_among k (places_of xs)) (open_beside s opens k) other ∙ sym other
+          let parts = and_parts (get_or (map is_waiting s.marks) k false) (has_seat_there s k) both in
+          let (lt, waits) = waits_there s k parts.0 in
+          ap (λ b. b && waits_beside s k)
+          (places_among k xs ∙ all k (omega (arith, lt, long)) (waiting_not_live s k waits) parts.1)
+      | inr other ↦ and_right (is_among k (places_of xs)) (waits_beside s k) other ∙ sym other
     ]
 
 -- what is listed of both are the open wishes that need no seat
-pub sure_listed : (s : State) (orders : List CallOrder) (limited : List Bool)
+pub exempt_listed : (s : State) → length s.marks ≡ length s.dossier.wishes
+    → (orders : List CallOrder) (limited : List Bool)
     → ((i : ℕ) (w : Wish) → slice_get s.dossier.wishes i ≡ Some w
     → get_or limited i false ≡ is_called_by_limit s.dossier orders w)
     → (opens : List Bool) → AllOpenWait s opens
-    → (wishes : List ℕ) → wishes ≡ limited_wishes s.dossier orders → (first now : List ℕ)
+    → (wishes : List ℕ) → wishes ≡ limited_wishes s.dossier orders
+    → (others : List ℕ) → ((k : ℕ) → is_among k others ≡ waits_beside s k) → (first now : List ℕ)
     → ListsAlso (λ k. is_among k wishes && get_or opens k false) [] first
-    → ListsAlso (open_beside s opens) first now
-    → (k : ℕ) → is_among k now ≡ sure_open opens (all_sure s limited) k
-sure_listed s orders limited called opens waits wishes is first now by_limit beside k =
-    beside k ∙ ap (λ b. b || open_beside s opens k) (by_limit k) ∙ elim (cases_Bool (get_or opens k false)) [
+    → ListsAlso (λ k. is_among k others && get_or opens k false) first now
+    → (k : ℕ) → is_among k now ≡ exempt_open opens (all_exempt s limited) k
+exempt_listed s long orders limited called opens waits wishes is others others_are first now by_limit beside k =
+    beside k
+    ∙ ap (λ b. b || (is_among k others && get_or opens k false)) (by_limit k)
+    ∙ elim (cases_Bool (get_or opens k false)) [
       | inl opened ↦
           let d = s.dossier in
           let (w, m, at) = waits k opened in
@@ -100,14 +109,18 @@ sure_listed s orders limited called opens waits wishes is first now by_limit bes
           ap (is_among k) is
           ∙ among-filter (λ j. is_called_by_limit d orders (wish_in d.wishes j)) k (length d.wishes) lt
           ∙ sym (called k (wish_in d.wishes k) (wish_there d.wishes k (wish_in d.wishes k) lt refl)) in
-          rw (opened, by_number, sure_read s limited k lt) (both (get_or limited k false) (has_seat_there s k))
-      | inr closed ↦ rw closed (neither (is_among k wishes))
+          let by_bundle : is_among k others ≡ has_seat_there s k =
+          others_are k
+          ∙ ap (λ b. b && has_seat_there s k) (waits_read s k (omega (arith, lt, long)) ∙ mark_waits s k w m at) in
+          rw (opened, by_number, by_bundle, exempt_read s limited k lt)
+          (both (get_or limited k false) (has_seat_there s k))
+      | inr closed ↦ rw closed (neither (is_among k wishes) (is_among k others))
     ]
   where
-    both : (a b : Bool) → ((a && true) || (true && b)) ≡ (true && (a || b))
+    both : (a b : Bool) → ((a && true) || (b && true)) ≡ (true && (a || b))
     both true b = refl
-    both false b = refl
+    both false b = and_true b
 
-    neither : (a : Bool) → ((a && false) || false) ≡ false
-    neither true = refl
-    neither false = refl
+    neither : (a b : Bool) → ((a && false) || (b && false)) ≡ false
+    neither true b = and_right b false refl
+    neither false b = and_right b false refl

@@ -63,7 +63,8 @@ proposed_by_place s orders bars long =
 
 module _ {links : LinksRow} {ceilings bars free : List ℕ} {rows : List (List RowWish)}
     {overfilled : List (Option ℕ)} {marked : List Bool} {housed : List (List Rung)} {seen : Round}
-    (beds : List ℕ) (right : IsRoundUnder links ceilings bars free rows overfilled marked housed)
+    (beds : List ℕ) (right : IsRoundUnder links ceilings bars free rows
+    (record { overfilled = overfilled; marked = marked; housed = housed }))
     (is : record { state = lent links.state beds; orders = links.orders; ceilings = ceilings; bars = bars }
     ≡ seen) where
   pub as_long : length bars ≡ length ceilings

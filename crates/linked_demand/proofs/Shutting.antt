@@ -7,7 +7,7 @@ use Rattle.std.specs.Prelude.{is_some}
 use Rattle.std.specs.List.{range_with_len}
 use Rattle.std.proofs.lemmas.Bool.{cases_Bool, cases_eq, cases_lt, eq-eqb, eqb-false, eqb-true, le-leb, le-ltb, lt-leb}
 use Rattle.std.proofs.lemmas.Bool.{and_parts, false≢true, lt-ltb, ne_eqb}
-use Rattle.std.proofs.lemmas.List.{ext_get_or, get_or_past, get_or-map, get_or-set_other, get_or-set_same, length-map}
+use Rattle.std.proofs.lemmas.List.{ext_get_or, get_or_past, get_or-set_other, get_or-set_same, length-map}
 use Rattle.std.proofs.lemmas.List.FromFn.{get_or-map-range_with_len, length-map-range_with_len}
 use Rattle.std.proofs.lemmas.Option.{unwrap_or-slice_get}
 use Rattle.admit_core.proofs.Plain.{or_false}
@@ -18,7 +18,7 @@ use Rattle.admit_core.specs.Lists.{is_among}
 use Rattle.admit_core.specs.Proposals.{is_behind_bar, is_barred, is_open}
 use Rattle.admit_core.specs.State.{State, holds_bed, is_school, is_waiting}
 use Rattle.admit_core.specs.Validity.{IsValid}
-use Rattle.day_state.specs.Kept.{has_bed_there, holds_bed_in, mark_in, waiting_mark, wish_in}
+use Rattle.day_state.specs.Kept.{has_bed_there, holds_bed_in, mark_in, wish_in}
 use Rattle.proposals.proofs.Front.{among_more}
 use Rattle.linked_demand.specs.declared.rows.RowWish.{RowWish}
 use Rattle.linked_demand.specs.Boarders.{boards_in, items_wishes, AreByRank}
@@ -28,6 +28,7 @@ use Rattle.linked_demand.proofs.Boarding.{all_by_rank, front_of_end}
 use Rattle.linked_demand.proofs.RowsRight.{places_kept}
 use Rattle.linked_demand.proofs.HousedRows.{filter_among}
 use Rattle.linked_demand.proofs.Rounding.{opens_by_place}
+use Rattle.linked_demand.proofs.Waiting.{waits_read}
 
 -- a school is one of the first so many
 abbrev is_first : ℕ → Option ℕ → Bool
@@ -76,8 +77,7 @@ shut_none s bars flags long are = record {
   as_long = ap length are ∙ length-map s.marks is_waiting ∙ long;
   each = λ k lt.
       ap (λ (fs : List Bool). get_or fs k false) are
-      ∙ get_or-map is_waiting s.marks k waiting_mark false (omega (arith, lt, long))
-      ∙ ap is_waiting (sym (unwrap_or-slice_get s.marks k waiting_mark))
+      ∙ waits_read s k (omega (arith, lt, long))
       ∙ unasked (is_waiting (mark_in s.marks k)) (is_first 0 (wish_in s.dossier.wishes k).school)
       (is_barred s bars (wish_in s.dossier.wishes k) (mark_in s.marks k))
       (none_first (wish_in s.dossier.wishes k).school);

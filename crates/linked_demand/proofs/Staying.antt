@@ -51,12 +51,12 @@ wants_fewer s fewer more less p c t =
     and_from (list_any (is_flagged_in p c) (flagged s more)) (not (holds_seat s c p))
     (any_fewer (is_flagged_in p c) (λ e. refl) (entries s) fewer more less.as_long less.each parts.0) parts.1
 
-stays_bits : (flag sure old new : Bool) → (old ≡ true → new ≡ true) → (flag && (sure || old)) ≡ true
-    → (flag && (sure || new)) ≡ true
+stays_bits : (flag exempt old new : Bool) → (old ≡ true → new ≡ true) → (flag && (exempt || old)) ≡ true
+    → (flag && (exempt || new)) ≡ true
 stays_bits true true old new h t = refl
 stays_bits true false true new h t = h refl
 stays_bits true false false new h t = absurd (false≢true t)
-stays_bits false sure old new h t = absurd (false≢true t)
+stays_bits false exempt old new h t = absurd (false≢true t)
 
 -- a wish that is open stays proposed
 stays_by : (s : State) (orders : List CallOrder) (fewer more : List Bool) → AreFewer fewer more → (w : Wish) (m : Mark)

@@ -37,8 +37,8 @@ newly s orders opens i j = is_proposed_at (before s orders (set opens i false))
     j && not (is_proposed_at (before s orders opens) j)
 
 pub claim_fits : {s : State} {orders : List CallOrder} {opens : List Bool} {lines : List LineRow}
-    {claims : List (List (List ℕ))} {places : List ℕ} {sure : List Bool} {i : ℕ} {w : Wish}
-    → Closes s orders opens lines claims places sure i w → (p c : ℕ) (claim : List ℕ)
+    {claims : List (List (List ℕ))} {places : List ℕ} {exempt : List Bool} {i : ℕ} {w : Wish}
+    → Closes s orders opens lines claims places exempt i w → (p c : ℕ) (claim : List ℕ)
     → claim ≡ claim_of s.dossier p c → (n : ℕ) → n ≡ length s.dossier.wishes → All (λ v. v < n) claim
 claim_fits {s} k p c claim is n each =
     rw is (All-from_recursion (λ v. v < n) (claim_of s.dossier p c)
@@ -80,34 +80,36 @@ fresh_bits false true false flags behind = refl
 fresh_bits false false own flags behind = refl
 
 -- the fresh wishes of the claim
-told_some : (s : State) (orders : List CallOrder) (opens sure : List Bool) (i p c : ℕ) (seen : LinksRow)
+told_some : (s : State) (orders : List CallOrder) (opens exempt : List Bool) (i p c : ℕ) (seen : LinksRow)
     → before s orders opens ≡ seen
     → ((j : ℕ) (e : Wish × Mark) → slice_get (entries s) j ≡ Some e → newly s orders opens i j
     ≡ ((is_waiting e.1 && (nat_eq e.0.candidate c) && (nat_eq e.0.programme p)) && (get_or
-    (set opens i false) j false && not (get_or sure j false))))
+    (set opens i false) j false && not (get_or exempt j false))))
     → length s.marks ≡ length s.dossier.wishes → (bars claim : List ℕ) → claim ≡ claim_of s.dossier p c
-    → (flags sures : List Bool) → flags ≡ set opens i false → sures ≡ sure → (count after : ℕ) (old now : List Bool)
-    → after ≡ count + count_by (is_fresh s bars flags sures) claim
-    → MarksWishes s (λ x. is_among x.0 claim && is_fresh s bars flags sures x.0) old now
+    → (flags exempts : List Bool) → flags ≡ set opens i false → exempts ≡ exempt
+    → (count after : ℕ) (old now : List Bool)
+    → after ≡ count + count_by (is_fresh s bars flags exempts) claim
+    → MarksWishes s (λ x. is_among x.0 claim && is_fresh s bars flags exempts x.0) old now
     → Told seen (before s orders (set opens i false)) bars count after old now
-told_some s orders opens sure i p c seen is each marks_each bars claim claim_is flags sures flags_are
-    sures_are count after old now sum marks =
+told_some s orders opens exempt i p c seen is each marks_each bars claim claim_is flags exempts flags_are
+    exempts_are count after old now sum marks =
     let P = λ (r : LinksRow). Told r (before s orders (set opens i false)) bars count after old now in
     let t = λ (w : Wish). (nat_eq w.candidate c) && (nat_eq w.programme p) in
-    let q = is_fresh s bars (set opens i false) sure in
+    let q = is_fresh s bars (set opens i false) exempt in
     let new = is_new s bars (before s orders opens) (before s orders (set opens i false)) in
     let here : (j : ℕ) (e : Wish × Mark) → slice_get (entries s) j ≡ Some e → new (j, e) ≡ (t e.0 && q j) =
     λ j e at.
     let entry = entry_is s.dossier.wishes s.marks j e.0 e.1 at in
     ap (λ b. b && is_open s bars e.0 e.1) (each j e at)
     ∙ fresh_bits (is_waiting e.1) (nat_eq e.0.candidate c) (nat_eq e.0.programme p)
-    (get_or (set opens i false) j false && not (get_or sure j false)) (is_behind_bar s bars e.0 e.0.school)
-    ∙ ap (λ b. t e.0 && ((get_or (set opens i false) j false && not (get_or sure j false)) && b))
+    (get_or (set opens i false) j false && not (get_or exempt j false)) (is_behind_bar s bars e.0 e.0.school)
+    ∙ ap (λ b. t e.0 && ((get_or (set opens i false) j false && not (get_or exempt j false)) && b))
     (ap (λ (v : Wish). is_open s bars v e.1) (sym entry.0)
     ∙ ap (λ (m : Mark). is_open s bars (wish_in s.dossier.wishes j) m) (sym entry.1)) in
-    let own_sum : after ≡ count + count_by q (claim_of s.dossier p c) = rw (← claim_is, ← flags_are, ← sures_are) sum in
+    let own_sum : after ≡ count + count_by q (claim_of s.dossier p c) =
+    rw (← claim_is, ← flags_are, ← exempts_are) sum in
     let own_marks : MarksWishes s (λ x. is_among x.0 (claim_of s.dossier p c) && q x.0) old now =
-    rw (← claim_is, ← flags_are, ← sures_are) marks in
+    rw (← claim_is, ← flags_are, ← exempts_are) marks in
     subst P is (record {
       steps = omega (
         arith,
@@ -138,8 +140,8 @@ last_within flags before reached n is =
 
 -- what is told where so many places of the line are reached now
 module _ {s : State} {orders : List CallOrder} {opens : List Bool} {claims : List (List (List ℕ))}
-    {places : List ℕ} {sure : List Bool} {i : ℕ} {w : Wish}
-    (k : Closes s orders opens (seat_rows s orders opens) claims places sure i w) (place : ℕ)
+    {places : List ℕ} {exempt : List Bool} {i : ℕ} {w : Wish}
+    (k : Closes s orders opens (seat_rows s orders opens) claims places exempt i w) (place : ℕ)
     (at : IsSeatPlace s.dossier orders w place) (row : List (List ℕ)) (read : row ≡ get_or claims w.programme row)
     (seen : LinksRow) (is : before s orders opens ≡ seen) (was now : ℕ) (le : now ≤ length row)
     (after : List Bool) where
@@ -159,27 +161,27 @@ module _ {s : State} {orders : List CallOrder} {opens : List Bool} {claims : Lis
 
   told_by : (bars : List ℕ) (count ticked : ℕ) (old marked flags : List Bool) → flags ≡ set opens i false
       → (answer : Option ℕ) → answer ≡ last_new after was now → Moves k place at now answer
-      → ticked ≡ count + count_by (is_fresh s bars flags sure) (claim_at row answer)
-      → MarksWishes s (λ x. is_among x.0 (claim_at row answer) && is_fresh s bars flags sure x.0) old marked
+      → ticked ≡ count + count_by (is_fresh s bars flags exempt) (claim_at row answer)
+      → MarksWishes s (λ x. is_among x.0 (claim_at row answer) && is_fresh s bars flags exempt x.0) old marked
       → Told seen (before s orders (set opens i false)) bars count ticked old marked
   told_by bars count ticked old marked flags flags_are None is_last moved sum marks =
       told_none s orders opens i seen is (newly_none k None moved.fresh refl) bars count ticked old marked
-      (omega (arith, sum)) (λ x. is_among x.0 [] && is_fresh s bars flags sure x.0) marks
+      (omega (arith, sum)) (λ x. is_among x.0 [] && is_fresh s bars flags exempt x.0) marks
   told_by bars count ticked old marked flags flags_are (Some next) is_last moved sum marks =
       let lt : next < length row = omega (arith, last_within after was now next (sym is_last), le) in
-      told_some s orders opens sure i w.programme (get_or (line_of s.dossier orders w.programme) next 0) seen is
+      told_some s orders opens exempt i w.programme (get_or (line_of s.dossier orders w.programme) next 0) seen is
       (newly_some k (Some next) moved.fresh next refl (omega (arith, lt, in_claims k row read)))
       k.links.marks_each bars (get_or row next []) (claim_there k row read next lt (get_or row next []) refl)
-      flags sure flags_are refl count ticked old marked sum marks
+      flags exempt flags_are refl count ticked old marked sum marks
 
   pub told_front : Moves k place at now (last_new after was now) → (bars : List ℕ) (count ticked : ℕ)
       (old marked flags : List Bool) (claim : List ℕ) → flags ≡ set opens i false
       → claim ≡ claim_at row (last_new after was now)
-      → ticked ≡ count + count_by (is_fresh s bars flags sure) claim
-      → MarksWishes s (λ x. is_among x.0 claim && is_fresh s bars flags sure x.0) old marked
+      → ticked ≡ count + count_by (is_fresh s bars flags exempt) claim
+      → MarksWishes s (λ x. is_among x.0 claim && is_fresh s bars flags exempt x.0) old marked
       → Told seen (before s orders (set opens i false)) bars count ticked old marked
   told_front moved bars count ticked old marked flags claim flags_are claim_is sum marks =
-      let P = λ (ks : List ℕ). ticked ≡ count + count_by (is_fresh s bars flags sure) ks in
-      let Q = λ (ks : List ℕ). MarksWishes s (λ x. is_among x.0 ks && is_fresh s bars flags sure x.0) old marked in
+      let P = λ (ks : List ℕ). ticked ≡ count + count_by (is_fresh s bars flags exempt) ks in
+      let Q = λ (ks : List ℕ). MarksWishes s (λ x. is_among x.0 ks && is_fresh s bars flags exempt x.0) old marked in
       told_by bars count ticked old marked flags flags_are (last_new after was now) refl moved
       (subst P claim_is sum) (subst Q claim_is marks)

@@ -9,6 +9,7 @@ use Rattle.std.proofs.lemmas.Bool.{and_left, cases_eq, cases_lt}
 use Rattle.std.proofs.lemmas.List.{get_or-map, get_or-set_other, get_or-set_same, get_or_past, length-map, length-set}
 use Rattle.std.proofs.lemmas.List.Folds.{list_any_none}
 use Rattle.std.proofs.lemmas.List.FromFn.{get_or-range_with_len, length-range_with_len}
+use Rattle.std.proofs.lemmas.Option.{unwrap_or-slice_get}
 use Rattle.admit_core.proofs.Plain.{any-filter}
 use Rattle.admit_core.specs.declared.dossier.Wish.{Wish}
 use Rattle.admit_core.specs.declared.state.Mark.{Mark}
@@ -23,7 +24,7 @@ use Rattle.admit_core.specs.Proposals.{is_open, is_barred}
 use Rattle.admit_core.specs.State.{State, entries, has_school, holds_bed, holds_seat, is_live, is_live_status}
 use Rattle.admit_core.specs.State.{is_waiting}
 use Rattle.admit_core.specs.State.{is_waiting_status}
-use Rattle.day_state.specs.Kept.{mark_in, wish_in, lives_at, has_bed_there, has_seat_there, holds_bed_in}
+use Rattle.day_state.specs.Kept.{mark_in, waiting_mark, wish_in, lives_at, has_bed_there, has_seat_there, holds_bed_in}
 use Rattle.day_state.proofs.Places.{own_any, candidate_in as candidate_is}
 use Rattle.linked_demand.specs.Links.{WaitsAt, AllOpenWait, NeedsSeatAlone, claim_of}
 use Rattle.linked_demand.specs.Opens.{line_of, opens_of, wanting_at}
@@ -77,11 +78,23 @@ none_lives test d ms k not_live (x ∷ xs) none =
     or_from (is_live (mark_in ms x) && own) (list_any (lives_at d.wishes ms test) xs) first
     (none_lives test d ms k not_live xs parts.1)
 
+-- the mark of a wish that waits says so
+pub mark_waits : (s : State) (k : ℕ) (w : Wish) (m : Mark) → WaitsAt s k w m → is_waiting (mark_in s.marks k) ≡ true
+mark_waits s k w m at = ap is_waiting (entry_is s.dossier.wishes s.marks k w m at.here).1 ∙ at.waits
+
+-- the flag of who waits, read from the list of all
+pub waits_read : (s : State) (k : ℕ) → k < length s.marks
+    → get_or (map is_waiting s.marks) k false ≡ is_waiting (mark_in s.marks k)
+waits_read s k lt =
+    get_or-map is_waiting s.marks k waiting_mark false lt
+    ∙ ap is_waiting (sym (unwrap_or-slice_get s.marks k waiting_mark))
+
 -- a wish that waits is not live
+pub waiting_not_live : (s : State) (k : ℕ) → is_waiting (mark_in s.marks k) ≡ true → is_live (mark_in s.marks k) ≡ false
+waiting_not_live s k = waiting_is_not_live (mark_in s.marks k).status
+
 pub not_live : (s : State) (k : ℕ) (w : Wish) (m : Mark) → WaitsAt s k w m → is_live (mark_in s.marks k) ≡ false
-not_live s k w m at =
-    let mark = (entry_is s.dossier.wishes s.marks k w m at.here).1 in
-    waiting_is_not_live (mark_in s.marks k).status (ap is_waiting mark ∙ at.waits)
+not_live s k w m at = waiting_not_live s k (mark_waits s k w m at)
 
 module _ (s : State) (long : length s.marks ≡ length s.dossier.wishes) (k : ℕ) where
   abbrev d : DossierRows

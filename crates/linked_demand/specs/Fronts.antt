@@ -3,16 +3,10 @@ use Rattle.std.specs.Prelude.{◌≡◌, ℕ, ◌≤◌, ◌<◌, Bool, false, �
 use Rattle.std.specs.Prelude.{slice_index_or}
 use Rattle.std.specs.List.{list_any, range_with_len}
 use Rattle.admit_core.specs.Lists.{is_among}
-use Rattle.admit_core.specs.State.{State}
-use Rattle.day_state.specs.Kept.{has_seat_there}
 
 -- the wish at a place is open and needs no seat, by flags
-abbrev pub sure_open : List Bool → List Bool → ℕ → Bool
-sure_open opens sure k = slice_index_or opens k false && slice_index_or sure k false
-
--- it is open, and its candidate is live in its programme
-abbrev pub open_beside : State → List Bool → ℕ → Bool
-open_beside s opens k = slice_index_or opens k false && has_seat_there s k
+abbrev pub exempt_open : List Bool → List Bool → ℕ → Bool
+exempt_open opens exempt k = slice_index_or opens k false && slice_index_or exempt k false
 
 -- it is open, and in one of some claims
 abbrev pub claimed_open : List Bool → List (List ℕ) → ℕ → Bool

@@ -1,3 +1,4 @@
+pub mod Beside
 pub mod Boarders
 pub mod Called
 pub mod CalledWishes

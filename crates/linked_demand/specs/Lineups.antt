@@ -4,8 +4,9 @@ use Rattle.admit_core.specs.declared.ranking.CallOrder.{CallOrder}
 use Rattle.admit_core.specs.DossierRows.{DossierRows}
 use Rattle.admit_core.specs.State.{State}
 use Rattle.linked_demand.specs.declared.lineup.Lineup.{Lineup}
+use Rattle.linked_demand.specs.Beside.{AreBeside, BesideRow}
 use Rattle.linked_demand.specs.Boarders.{AreBySchool}
-use Rattle.linked_demand.specs.Opens.{all_sure}
+use Rattle.linked_demand.specs.Opens.{all_exempt}
 use Rattle.linked_demand.specs.Seats.{AreNotes, IsLineup, limited_wishes}
 use Rattle.linked_demand.specs.Wants.{IsReached}
 
@@ -19,11 +20,12 @@ pub record IsLineupOf (d : DossierRows) (orders : List CallOrder) (l : Lineup) :
 abbrev pub IsReachedIn : State → List CallOrder → List Bool → List ℕ → Lineup → Type 0
 IsReachedIn s orders opens reached l =
     IsReached s orders opens reached l.claims.items l.notes.places
-    (all_sure s l.notes.called_by_limit)
+    (all_exempt s l.notes.called_by_limit)
 
--- and the wishes that a limit calls are listed
+-- and the wishes that a limit calls are listed, and which bundles have a live wish and one that waits
 pub record AreKept (s : State) (orders : List CallOrder) (opens : List Bool) (reached : List ℕ)
-    (l : Lineup) : Type 0 where
+    (l : Lineup) (beside : BesideRow) : Type 0 where
   pub reach : IsReachedIn s orders opens reached l
   pub notes_are : AreNotes s.dossier orders l.notes
   pub limited_are : l.limited.items ≡ limited_wishes s.dossier orders
+  pub beside_are : AreBeside s beside

@@ -49,7 +49,7 @@ NeedsSeatAlone s opens claim =
     (k : ℕ) → claim ≡ k ∷ [] → slice_index_or opens k false ≡ true → has_seat_there s k ≡ false
 
 pub record IsLinked (s : State) (orders : List CallOrder) (opens : List Bool) (lines : List LineRow)
-    (claims : List (List (List ℕ))) (places : List ℕ) (sure : List Bool) : Type 0 where
+    (claims : List (List (List ℕ))) (places : List ℕ) (exempt : List Bool) : Type 0 where
   pub marks_each : length s.marks ≡ length s.dossier.wishes
   pub opens_each : length opens ≡ length s.dossier.wishes
   pub places_each : length places ≡ length s.dossier.wishes
@@ -61,6 +61,6 @@ pub record IsLinked (s : State) (orders : List CallOrder) (opens : List Bool) (l
       (range_with_len 0 (length s.dossier.programmes))
   pub places_are : (i : ℕ) (w : Wish) → slice_get s.dossier.wishes i ≡ Some w
       → IsSeatPlace s.dossier orders w (slice_index places i)
-  pub sure_each : length sure ≡ length s.dossier.wishes
-  pub sure_are : (i : ℕ) (w : Wish) → slice_get s.dossier.wishes i ≡ Some w
-      → slice_index_or sure i false ≡ needs_no_seat s orders w
+  pub exempt_each : length exempt ≡ length s.dossier.wishes
+  pub exempt_are : (i : ℕ) (w : Wish) → slice_get s.dossier.wishes i ≡ Some w
+      → slice_index_or exempt i false ≡ needs_no_seat s orders w

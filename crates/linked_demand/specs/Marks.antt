@@ -16,8 +16,8 @@ is_new s bars old new x =
 
 -- the wish at a place is open by its flag and under bars, and is called by its turn alone
 abbrev pub is_fresh : State → List ℕ → List Bool → List Bool → ℕ → Bool
-is_fresh s bars opens sure k =
-    (slice_index_or opens k false && not (slice_index_or sure k false)) && is_open s bars
+is_fresh s bars opens exempt k =
+    (slice_index_or opens k false && not (slice_index_or exempt k false)) && is_open s bars
     (wish_in s.dossier.wishes k) (mark_in s.marks k)
 
 -- marks of wishes: those that were set stay, and each wish that passes a test is marked

@@ -34,12 +34,12 @@ wanting_at s opens k = slice_index_or opens k false && not (has_seat_there s k)
 
 -- the candidate of the wish at a place is called by the limit of its programme, by a flag, or is
 -- live there
-abbrev pub sure_at : State → List Bool → ℕ → Bool
-sure_at s limited k = slice_index_or limited k false || has_seat_there s k
+abbrev pub exempt_at : State → List Bool → ℕ → Bool
+exempt_at s limited k = slice_index_or limited k false || has_seat_there s k
 
 -- for each wish
-abbrev pub all_sure : State → List Bool → List Bool
-all_sure s limited = map (sure_at s limited) (range_with_len 0 (length s.dossier.wishes))
+abbrev pub all_exempt : State → List Bool → List Bool
+all_exempt s limited = map (exempt_at s limited) (range_with_len 0 (length s.dossier.wishes))
 
 -- how many before the wish's candidate want a seat
 abbrev pub ahead_by : State → List CallOrder → List Bool → Wish → ℕ

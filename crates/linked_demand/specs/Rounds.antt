@@ -49,26 +49,29 @@ HousesMore links free left left_then old new =
     → AllHoused links left rows free old.overfilled old.housed
     → AllHoused links left_then rows free new.overfilled new.housed
 
--- what holds of the parts of a round: with the answers of the schools, who has a bed in each, and
--- no mark of a wish
+-- what a round keeps of its schools: the same of each, and a mark for each wish
+pub record SchoolsKept : Type 0 where
+  pub overfilled : List (Option ℕ)
+  pub marked : List Bool
+  pub housed : List (List Rung)
+
+-- what holds of the parts of a round: with the answers of the schools, and who has a bed in each
 pub record IsRoundUnder (links : LinksRow) (ceilings bars free : List ℕ)
-    (rows : List (List RowWish))
-    (overfilled : List (Option ℕ)) (marked : List Bool) (housed : List (List Rung)) : Type 0 where
+    (rows : List (List RowWish)) (schools : SchoolsKept) : Type 0 where
   pub round : IsRound links bars free rows
   pub ceilings_each : length ceilings ≡ length links.state.dossier.schools
-  pub overfilled_are : overfilled
+  pub overfilled_are : schools.overfilled
       ≡ map (over_at links.state links.orders bars free)
       (range_with_len 0 (length links.state.dossier.schools))
-  pub marked_each : length marked ≡ length links.state.dossier.wishes
-  pub housed_are : AllHoused links (λ k. false) rows free overfilled housed
+  pub marked_each : length schools.marked ≡ length links.state.dossier.wishes
+  pub housed_are : AllHoused links (λ k. false) rows free schools.overfilled schools.housed
 
 -- and where the rows are those of the first boarders of each school, and the free beds those that
 -- are left of the beds that are lent
 pub record IsRoundAlong (links : LinksRow) (ceilings bars beds : List ℕ)
-    (boarders : List (Vec RowWish Global)) (ends : List ℕ)
-    (overfilled : List (Option ℕ)) (marked : List Bool) (housed : List (List Rung)) : Type 0 where
+    (boarders : List (Vec RowWish Global)) (ends : List ℕ) (schools : SchoolsKept) : Type 0 where
   pub under : IsRoundUnder links ceilings bars (left_of links.state beds)
-      (rows_to links.state boarders ends) overfilled marked housed
+      (rows_to links.state boarders ends) schools
   pub beds_each : length beds ≡ length links.state.dossier.schools
   pub boarders_are : AreBySchool links.state.dossier links.orders boarders
   pub ends_are : AreEnds boarders ends

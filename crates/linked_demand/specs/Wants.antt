@@ -45,6 +45,6 @@ reach_in row = reach row.quota row.flags
 
 -- for each programme it is known how many places of its line are reached
 pub record IsReached (s : State) (orders : List CallOrder) (opens : List Bool) (reached : List ℕ)
-    (claims : List (List (List ℕ))) (places : List ℕ) (sure : List Bool) : Type 0 where
-  pub links : IsLinked s orders opens (seat_rows s orders opens) claims places sure
+    (claims : List (List (List ℕ))) (places : List ℕ) (exempt : List Bool) : Type 0 where
+  pub links : IsLinked s orders opens (seat_rows s orders opens) claims places exempt
   pub reached_are : reached ≡ map reach_in (seat_rows s orders opens)

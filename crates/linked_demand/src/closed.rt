@@ -38,18 +38,18 @@ pub fn leaves_by_closing(
     claims: &Claims,
     cursors: &mut Cursors,
     opens: &mut OpenWishes,
-    item: RowWish,
+    item: &RowWish,
     reached: usize,
 ) -> bool
-    requires wish { item.wish < length state.now.dossier.wishes }
+    requires wish { item.now.wish < length state.now.dossier.wishes }
     requires opens { length opens.old ≡ length state.now.dossier.wishes }
-    requires place { item.place < length claims.now }
-    requires waits { is_live (mark_in state.now.marks item.wish) ≡ false }
-    requires bundle { item.bundle ≡ seat_bundle state.now.dossier item.wish }
-    ensures opens { opens.new ≡ slice_set opens.old item.wish false }
-    ensures leaves { result ≡ (nat_lt item.place reached
-        && stops_wanting (has_seat_there state.now item.wish) opens.old opens.new
-        (slice_index_or claims.now item.place [])) }
+    requires place { item.now.place < length claims.now }
+    requires waits { is_live (mark_in state.now.marks item.now.wish) ≡ false }
+    requires bundle { item.now.bundle ≡ seat_bundle state.now.dossier item.now.wish }
+    ensures opens { opens.new ≡ slice_set opens.old item.now.wish false }
+    ensures leaves { result ≡ (nat_lt item.now.place reached
+        && stops_wanting (has_seat_there state.now item.now.wish) opens.old opens.new
+        (slice_index_or claims.now item.now.place [])) }
 {
     let place = item.place as usize;
     if place < reached {

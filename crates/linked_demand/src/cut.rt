@@ -39,7 +39,7 @@ pub fn close_past<L: Ledger>(
     let mut end = front.len();
     while end > 0 && front[end - 1].rank > to {
         end -= 1;
-        let last = front[end];
+        let last = &front[end];
         if links.needs_bed(last) {
             steps.tick();
             links.close(last, bars, marked, steps);

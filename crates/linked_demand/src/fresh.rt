@@ -3,7 +3,7 @@ ghost use Rattle.std.specs.Prelude.{◌≡◌, ◌+◌, ◌<◌, ◌&&◌, lengt
 ghost use Rattle.admit_core.specs.declared.dossier.Wish.{Wish};
 ghost use Rattle.admit_core.specs.declared.state.Mark.{Mark};
 ghost use Rattle.admit_core.specs.Lists.{is_among};
-ghost use Rattle.linked_demand.specs.Opens.{all_sure};
+ghost use Rattle.linked_demand.specs.Opens.{all_exempt};
 ghost use Rattle.linked_demand.specs.Marks.{is_fresh, MarksWishes};
 
 use crate::marks::Marks;
@@ -26,7 +26,7 @@ fn is_fresh(
     requires wish { wish < length state.now.dossier.wishes }
     requires bars { length bars.now ≡ length state.now.dossier.schools }
     ensures { result ≡ is_fresh state.now bars.now opens.now
-        (all_sure state.now notes.now.called_by_limit) wish }
+        (all_exempt state.now notes.now.called_by_limit) wish }
 {
     opens.get(wish) && !needs_no_seat(state, notes, wish) && is_open(state, bars, wish)
 }
@@ -46,10 +46,10 @@ pub fn note_fresh<L: Ledger>(
     requires marked { length marked.old ≡ length state.now.dossier.wishes }
     ensures steps { steps.new
         ≡ steps.old + count_by (is_fresh state.now bars.now opens.now
-        (all_sure state.now notes.now.called_by_limit)) claim.now }
+        (all_exempt state.now notes.now.called_by_limit)) claim.now }
     ensures marked { MarksWishes state.now (λ x. is_among x.0 claim.now
-        && is_fresh state.now bars.now opens.now (all_sure state.now notes.now.called_by_limit) x.0)
-        marked.old marked.new }
+        && is_fresh state.now bars.now opens.now
+        (all_exempt state.now notes.now.called_by_limit) x.0) marked.old marked.new }
 {
     for wish in claim {
         if is_fresh(state, bars, opens, notes, *wish) {

@@ -1,44 +1,12 @@
 //! The proposed wishes as a list: of the open wishes those that need no seat, and those in the
 //! claims that the seats reach.
-ghost use Rattle.std.specs.Prelude.{◌≡◌, ◌≤◌, ◌&&◌, false, length, take, slice_index_or, OnOk};
+ghost use Rattle.std.specs.Prelude.{◌≤◌, ◌&&◌, false, length, take, slice_index_or, OnOk};
 ghost use Rattle.admit_core.specs.Lists.{is_among};
-ghost use Rattle.day_state.specs.declared.numbers.BundleNumber.TheVariants.{Shared};
-ghost use Rattle.day_state.specs.Bundles.{seat_bundle};
-ghost use Rattle.linked_demand.specs.Fronts.{claimed_open, open_beside, reached_open, ListsAlso, AreFronts};
-ghost use Rattle.linked_demand.specs.Links.{AllOpenWait};
+ghost use Rattle.linked_demand.specs.Fronts.{claimed_open, reached_open, ListsAlso, AreFronts};
 
 use crate::claims::Claims;
 use crate::open_wishes::OpenWishes;
 use admit_core::OutOfMemory;
-use day_state::{BundleNumber, DayState, SharedWish};
-
-/// Whether a wish that shares its bundle is open, and its candidate is live in its programme.
-/// Mostly they are not, and this is asked first: nothing is read by wish for it.
-fn is_open_beside(state: &DayState<'_>, opens: &OpenWishes, shared: SharedWish) -> bool
-    requires waits { AllOpenWait state.now opens.now }
-    requires bundle { seat_bundle state.now.dossier shared.wish ≡ Shared shared.number }
-    ensures { result ≡ open_beside state.now opens.now shared.wish }
-{
-    state.is_live_beside(BundleNumber::Shared(shared.number)) && opens.get(shared.wish)
-}
-
-/// Lists the open wishes whose candidates are live in their programmes. Each shares its bundle.
-pub fn list_beside(
-    state: &DayState<'_>,
-    opens: &OpenWishes,
-    found: &mut Vec<u32>,
-) -> Result<(), OutOfMemory>
-    requires { AllOpenWait state.now opens.now }
-    ensures { OnOk result (ListsAlso (open_beside state.now opens.now)
-        found.old.items found.new.items) }
-{
-    for shared in state.shared_in_programmes() {
-        if is_open_beside(state, opens, *shared) {
-            found.push(shared.wish)?;
-        }
-    }
-    Ok(())
-}
 
 /// Lists those of some wishes that are open.
 pub fn list_open(

@@ -45,7 +45,7 @@ fn house_row<'a>(
     let mut found = RowBeds::along(alloc, front)?;
     for item in front {
         found.advance();
-        if links.demands(*item) {
+        if links.demands(item) {
             let over = found.house(item.rank, beds);
             if over.is_some() {
                 let housed = Housed::of(found);

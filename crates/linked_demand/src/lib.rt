@@ -7,6 +7,7 @@
 #![tactic(auto)]
 
 mod beds;
+mod beside;
 mod boarders;
 mod calling;
 mod claims;

@@ -1,12 +1,13 @@
 //! Who is served in each programme while wishes are closed.
 ghost use Rattle.std.specs.Prelude.{◌≡◌, ◌+◌, ◌<◌, ◌&&◌, ◌||◌, true, false, not, length, filter, slice_set, slice_index_or, count_by, IfOk};
 ghost use Rattle.std.specs.List.{enumerate_from, range_with_len};
-ghost use Rattle.admit_core.specs.State.{entries, is_live};
+ghost use Rattle.admit_core.specs.State.{entries, is_waiting};
 ghost use Rattle.day_state.specs.Bundles.{seat_bundle};
 ghost use Rattle.day_state.specs.Kept.{has_seat_there, mark_in};
+ghost use Rattle.linked_demand.specs.Beside.{AreBeside};
 ghost use Rattle.linked_demand.specs.Marks.{is_new, MarksWishes};
 ghost use Rattle.linked_demand.specs.Lineups.{IsLineupOf};
-ghost use Rattle.linked_demand.specs.Opens.{all_sure, opens_of};
+ghost use Rattle.linked_demand.specs.Opens.{all_exempt, opens_of};
 ghost use Rattle.admit_core.specs.declared.dossier.Wish.{Wish};
 ghost use Rattle.admit_core.specs.declared.state.Mark.{Mark};
 ghost use Rattle.linked_demand.specs.Links.{LinksRow, WaitsAt, AllOpenWait};
@@ -15,17 +16,18 @@ ghost use Rattle.std.specs.Option.{ForSome};
 ghost use Rattle.linked_demand.specs.Filled.{bed_sought, wants_bed};
 ghost use Rattle.linked_demand.specs.Rows.{needs_bed, row_item, IsItem, IsOpenItem};
 
+use crate::beside::Beside;
 use crate::closed::leaves_by_closing;
 use crate::cursors::Cursors;
 use crate::fresh::note_fresh;
-use crate::fronts::{list_beside, list_fronts, list_open};
+use crate::fronts::{list_fronts, list_open};
 use crate::line::{fresh_claim, is_reached, reached_after};
 use crate::lineup::Lineup;
 use crate::marks::Marks;
 use crate::notes::Notes;
 use crate::open_wishes::OpenWishes;
 use crate::opening::open_under;
-use crate::rows::{RowWish, has_item_bed, is_item_live};
+use crate::rows::{RowWish, has_item_bed};
 use crate::seats::{needs_no_seat, reached_of};
 use crate::wishes::waits;
 use admit_core::{CallOrders, OutOfMemory, Steps};
@@ -40,26 +42,28 @@ use std::sync::ledger::Ledger;
 fn is_seated(state: &DayState<'_>, notes: &Notes, wish: u32, reached: bool) -> bool
     requires wish { wish < length state.now.dossier.wishes }
     ensures { result ≡ (reached
-        || slice_index_or (all_sure state.now notes.now.called_by_limit) wish false) }
+        || slice_index_or (all_exempt state.now notes.now.called_by_limit) wish false) }
 {
     reached || needs_no_seat(state, notes, wish)
 }
 
-/// Whether a wish of a row has a seat where it is open, by what its item tells.
-fn is_item_seated(state: &DayState<'_>, item: RowWish, reached: bool) -> bool
-    requires wish { item.wish < length state.now.dossier.wishes }
-    requires bundle { item.bundle ≡ seat_bundle state.now.dossier item.wish }
-    ensures { is_live (mark_in state.now.marks item.wish) ≡ false
-        → result ≡ (reached || (item.called_by_limit || has_seat_there state.now item.wish)) }
+/// Whether a wish of a row has a seat where it is open, by what its item tells, if it waits.
+fn is_item_seated(state: &DayState<'_>, beside: &Beside, item: &RowWish, reached: bool) -> bool
+    requires beside { AreBeside state.now beside.now }
+    requires wish { item.now.wish < length state.now.dossier.wishes }
+    requires bundle { item.now.bundle ≡ seat_bundle state.now.dossier item.now.wish }
+    ensures { is_waiting (mark_in state.now.marks item.now.wish) ≡ true → result ≡ (reached
+        || (item.now.called_by_limit || has_seat_there state.now item.now.wish)) }
 {
-    reached || (item.called_by_limit || is_item_live(state, item))
+    reached || (item.called_by_limit || beside.is_live(state, item.bundle))
 }
 
 /// The same of a wish that may be closed.
 fn is_served(state: &DayState<'_>, notes: &Notes, wish: u32, open: bool, reached: bool) -> bool
     requires wish { wish < length state.now.dossier.wishes }
     ensures { result ≡ («open»
-        && (reached || slice_index_or (all_sure state.now notes.now.called_by_limit) wish false)) }
+        && (reached
+        || slice_index_or (all_exempt state.now notes.now.called_by_limit) wish false)) }
 {
     open && is_seated(state, notes, wish, reached)
 }
@@ -72,6 +76,7 @@ pub struct SeatLinks<'a, 'd> {
     lineup: &'a Lineup,
     reached: Vec<usize>,
     cursors: Cursors,
+    beside: Beside,
 }
 
 // Not derived: so links are dropped in one step where they are held, and not list by list.
@@ -84,6 +89,7 @@ impl Drop for SeatLinks<'_, '_> {
             lineup: _,
             reached: _,
             cursors: _,
+            beside: _,
         } = self;
     }
 }
@@ -101,7 +107,7 @@ impl<'a, 'd> Model for SeatLinks<'a, 'd> {
     } };
 
     ghost invariant = { λ l. AreKept l.state.now l.orders.now.orders l.opens
-        l.reached.items l.lineup.now };
+        l.reached.items l.lineup.now l.beside };
 }
 
 impl<'a, 'd> SeatLinks<'a, 'd> {
@@ -126,6 +132,7 @@ impl<'a, 'd> SeatLinks<'a, 'd> {
         let reached = reached_of(alloc, state, orders, lineup, &opens)?;
         let claims = state.shared_in_programmes().len() / 2; // each has two of these or more
         let cursors = Cursors::new(alloc, claims)?;
+        let beside = Beside::of_state(alloc, state)?;
         Ok(SeatLinks {
             state,
             orders,
@@ -133,35 +140,36 @@ impl<'a, 'd> SeatLinks<'a, 'd> {
             lineup,
             reached,
             cursors,
+            beside,
         })
     }
 
     /// Whether a wish of a row is proposed, where it is open.
-    fn proposes(&self, item: RowWish) -> bool
-        requires { IsItem self.now.state.dossier self.now.orders item }
-        ensures { IsOpenItem self.now item → result ≡ is_proposed_at self.now item.wish }
+    fn proposes(&self, item: &RowWish) -> bool
+        requires { IsItem self.now.state.dossier self.now.orders item.now }
+        ensures { IsOpenItem self.now item.now → result ≡ is_proposed_at self.now item.now.wish }
     {
         let front = self.reached[item.programme as usize];
         let reached = is_reached(item.place as usize, front);
-        is_item_seated(self.state, item, reached)
+        is_item_seated(self.state, &self.beside, item, reached)
     }
 
     /// Closes a waiting wish. It ticks once for each wish that becomes proposed and is open under
     /// these bars, and marks it.
     pub fn close<L: Ledger>(
         &mut self,
-        item: RowWish,
+        item: &RowWish,
         bars: &[u32],
         marked: &mut Marks,
         steps: &mut Steps<L>,
     )
-        requires waits { (w : Wish) × (m : Mark) × WaitsAt self.old.state item.wish w m }
-        requires item { item ≡ row_item self.old.state self.old.orders item.wish }
+        requires waits { (w : Wish) × (m : Mark) × WaitsAt self.old.state item.now.wish w m }
+        requires item { item.now ≡ row_item self.old.state self.old.orders item.now.wish }
         requires open_wait { AllOpenWait self.old.state self.old.opens }
         requires bars { length bars.now ≡ length self.old.state.dossier.schools }
         requires marked { length marked.old ≡ length self.old.state.dossier.wishes }
         ensures value { self.new ≡ record self.old
-            { opens = slice_set self.old.opens item.wish false } }
+            { opens = slice_set self.old.opens item.now.wish false } }
         ensures steps { steps.new
             ≡ steps.old + count_by (is_new self.old.state bars.now self.old self.new)
             (enumerate_from 0 (entries self.old.state)) }
@@ -210,19 +218,20 @@ impl<'a, 'd> SeatLinks<'a, 'd> {
     }
 
     /// Whether the wish of an item waits, and its candidate has no bed in its school.
-    pub fn needs_bed(&self, item: RowWish) -> bool
-        requires { IsItem self.now.state.dossier self.now.orders item }
-        ensures { result ≡ needs_bed self.now.state item }
+    pub fn needs_bed(&self, item: &RowWish) -> bool
+        requires { IsItem self.now.state.dossier self.now.orders item.now }
+        ensures { result ≡ needs_bed self.now.state item.now }
     {
         waits(self.state, item.wish) && !has_item_bed(self.state, item)
     }
 
     /// Whether the wish of an item demands a bed: it waits and is proposed, and its candidate has
     /// none in its school. The seat is asked first, since the item and a small table tell it.
-    pub fn demands(&self, item: RowWish) -> bool
-        requires item { IsItem self.now.state.dossier self.now.orders item }
-        requires open { needs_bed self.now.state item ≡ true → IsOpenItem self.now item }
-        ensures { result ≡ (needs_bed self.now.state item && is_proposed_at self.now item.wish) }
+    pub fn demands(&self, item: &RowWish) -> bool
+        requires item { IsItem self.now.state.dossier self.now.orders item.now }
+        requires open { needs_bed self.now.state item.now ≡ true → IsOpenItem self.now item.now }
+        ensures { result ≡ (needs_bed self.now.state item.now
+            && is_proposed_at self.now item.now.wish) }
     {
         self.proposes(item) && self.needs_bed(item)
     }
@@ -257,7 +266,7 @@ impl<'a, 'd> SeatLinks<'a, 'd> {
         let lineup = self.lineup;
         let mut found = Vec::new(alloc);
         list_open(&self.opens, &lineup.limited, &mut found)?;
-        list_beside(self.state, &self.opens, &mut found)?;
+        list_open(&self.opens, self.beside.wishes(), &mut found)?;
         list_fronts(&self.opens, &lineup.claims, &self.reached, &mut found)?;
         found.sort_unstable();
         found.dedup();

@@ -26,7 +26,7 @@ fn close_behind(state: &DayState<'_>, behind: &[RowWish], opens: &mut OpenWishes
         && not (has_bed_there state.now k))) }
 {
     for item in behind {
-        let has_bed = has_item_bed(state, *item);
+        let has_bed = has_item_bed(state, item);
         opens.close_if(item.wish, !has_bed);
     }
 }

@@ -33,7 +33,7 @@ pub fn demands_in(
     let mut demands = Vec::new(alloc);
     let mut named = 0;
     for item in front {
-        if named < item.rank && links.demands(*item) {
+        if named < item.rank && links.demands(item) {
             demands.push(Demand {
                 rank: item.rank,
                 wish: item.wish,

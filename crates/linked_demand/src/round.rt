@@ -76,7 +76,11 @@ impl<'a, 'd> Model for LinkedRound<'a, 'd> {
     } };
 
     ghost invariant = { λ r. IsRoundAlong r.links r.ceilings.items r.bars.items r.beds.items
-        r.boarders.now r.ends.items r.overfilled r.marked r.housed.items };
+        r.boarders.now r.ends.items (record {
+          overfilled = r.overfilled;
+          marked = r.marked;
+          housed = r.housed.items;
+        }) };
 }
 
 impl<'a, 'd> LinkedRound<'a, 'd> {

@@ -45,7 +45,11 @@ pub fn schools_of<'a>(
     requires beds { length beds.now ≡ length links.now.state.dossier.schools }
     requires bars { length bars.now ≡ length links.now.state.dossier.schools }
     ensures { IfOk result (λ x. IsRoundAlong links.now bars.now bars.now beds.now boarders.now
-        x.ends.items x.overfilled x.marked x.housed.items) }
+        x.ends.items (record {
+          overfilled = x.overfilled;
+          marked = x.marked;
+          housed = x.housed.items;
+        })) }
 {
     let state = links.state();
     let _ = state.marks(); // one for each wish

@@ -2,7 +2,7 @@
 ghost use Rattle.std.specs.Prelude.{◌≡◌, ◌<◌, false, length, IfOk, slice_index_or};
 ghost use Rattle.linked_demand.specs.Links.{AllOpenWait};
 ghost use Rattle.linked_demand.specs.Lineups.{IsLineupOf, IsReachedIn};
-ghost use Rattle.linked_demand.specs.Opens.{all_sure, sure_at};
+ghost use Rattle.linked_demand.specs.Opens.{all_exempt, exempt_at};
 
 use crate::line::reach_of;
 use crate::lineup::Lineup;
@@ -15,9 +15,9 @@ use std::alloc::Global;
 
 /// Whether the candidate of the wish at a place is called by the limit of its programme, or is live
 /// there, which is asked of the others alone.
-fn is_sure(state: &DayState<'_>, notes: &Notes, place: u32) -> bool
+fn is_exempt(state: &DayState<'_>, notes: &Notes, place: u32) -> bool
     requires place { place < length state.now.dossier.wishes }
-    ensures { result ≡ sure_at state.now notes.now.called_by_limit place }
+    ensures { result ≡ exempt_at state.now notes.now.called_by_limit place }
 {
     notes.is_called_by_limit(place) || state.is_live_in_its_programme(place)
 }
@@ -25,10 +25,10 @@ fn is_sure(state: &DayState<'_>, notes: &Notes, place: u32) -> bool
 /// Whether the candidate of the wish at a place needs no seat.
 pub fn needs_no_seat(state: &DayState<'_>, notes: &Notes, place: u32) -> bool
     requires place { place < length state.now.dossier.wishes }
-    ensures { result ≡ slice_index_or (all_sure state.now notes.now.called_by_limit)
+    ensures { result ≡ slice_index_or (all_exempt state.now notes.now.called_by_limit)
         place false }
 {
-    is_sure(state, notes, place)
+    is_exempt(state, notes, place)
 }
 
 /// How many places of each programme's line are reached where these wishes are open.

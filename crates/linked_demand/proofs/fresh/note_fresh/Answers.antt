@@ -3,7 +3,7 @@ use Rattle.std.proofs.lemmas.List.Sums.{count_by_more_yes, count_by_more_no}
 use Rattle.std.proofs.Common.{length}
 use Rattle.admit_core.specs.Lists.{is_among}
 use Rattle.linked_demand.specs.Marks.{is_fresh}
-use Rattle.linked_demand.specs.Opens.{all_sure}
+use Rattle.linked_demand.specs.Opens.{all_exempt}
 use Rattle.linked_demand.proofs.Marking.{marks_nothing, marks_more, marks_left}
 use Rattle.linked_demand.proofs.fresh.note_fresh.Goals as goal
 use Rattle.linked_demand.proofs.fresh.note_fresh.Goals.{then-is_fresh, else-is_fresh}
@@ -14,7 +14,7 @@ loop-wish-init g c =
       steps = omega arith;
       marked = marks_nothing c.args.state.now
           (λ x. is_among x.0 (take 0 c.args.claim.now) && is_fresh c.args.state.now c.args.bars.now
-          c.args.opens.now (all_sure c.args.state.now c.args.notes.now.called_by_limit) x.0) c.args.marked.now
+          c.args.opens.now (all_exempt c.args.state.now c.args.notes.now.called_by_limit) x.0) c.args.marked.now
           (λ k e at. refl);
     }
 
@@ -22,7 +22,8 @@ pub loop-wish-preserved : goal.loop-wish-preserved
 loop-wish-preserved g c =
     let s = c.args.state.now in
     let claim = c.args.claim.now in
-    let q = is_fresh s c.args.bars.now c.args.opens.now (all_sure c.args.state.now c.args.notes.now.called_by_limit) in
+    let q = is_fresh s c.args.bars.now c.args.opens.now
+    (all_exempt c.args.state.now c.args.notes.now.called_by_limit) in
     let i = c.loop-wish.wish-index in
     let lt : i < length claim = c.loop-wish-test.true in
     elim c.if-is_fresh.branch [

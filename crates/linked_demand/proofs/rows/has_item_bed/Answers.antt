@@ -6,4 +6,4 @@ pub returns-else-item : goal.returns-else-item
 returns-else-item c =
     let long = rw c.marks.ensures.marks at c.marks.ensures.one_each in
     λ waits. c.if-item.false
-    ∙ sym (no_bed c.args.state.now long c.args.item.wish waits (sym c.requires.shared ∙ c.if-item.false))
+    ∙ sym (no_bed c.args.state.now long c.args.item.now.wish waits (sym c.requires.shared ∙ c.if-item.false))

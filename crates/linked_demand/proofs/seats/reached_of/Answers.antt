@@ -1,6 +1,6 @@
 use Rattle.std.proofs.Common.{ℕ, ◌≡◌, ◌<◌, length, refl, ◌∙◌, ap, arith}
 use Rattle.linked_demand.specs.Line.{reach}
-use Rattle.linked_demand.specs.Opens.{all_sure, seat_row}
+use Rattle.linked_demand.specs.Opens.{all_exempt, seat_row}
 use Rattle.linked_demand.specs.Wants.{wants_along, reach_in}
 use Rattle.linked_demand.proofs.Flagging.{more_of, wants_right, row_right, row_within, claims_each, all_reached}
 use Rattle.linked_demand.proofs.Waiting.{row_alone}
@@ -62,7 +62,7 @@ pub returns : goal.returns
 returns c =
     let notes = c.args.lineup.now.notes in
     all_reached c.args.state.now c.args.orders.now.orders c.args.opens.now c.loop-programme.reached.items
-    c.args.lineup.now.claims.items notes (all_sure c.args.state.now notes.called_by_limit)
+    c.args.lineup.now.claims.items notes (all_exempt c.args.state.now notes.called_by_limit)
     c.loop-programme.programme (rw c.marks.ensures.marks at c.marks.ensures.one_each) c.requires.opens
     c.requires.lineup.lines
     (omega (

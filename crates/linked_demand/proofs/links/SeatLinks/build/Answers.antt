@@ -14,4 +14,5 @@ invariant_of-result c = record {
   reach = c.in_ok-reached.ensures;
   notes_are = c.requires.lineup.lines.notes_are;
   limited_are = c.requires.lineup.limited;
+  beside_are = c.in_ok-beside.ensures;
 }

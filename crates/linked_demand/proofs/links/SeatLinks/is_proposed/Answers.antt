@@ -1,9 +1,9 @@
 use Rattle.std.proofs.Common.{ℕ, ◌≡◌, Bool, ◌&&◌, ◌||◌, false, get_or, arith, ap, sym, ◌∙◌}
 use Rattle.std.proofs.Math.Bool.{or_comm}
 use Rattle.std.proofs.lemmas.List.{get_or_default}
-use Rattle.linked_demand.specs.Opens.{all_sure, seat_row}
+use Rattle.linked_demand.specs.Opens.{all_exempt, seat_row}
 use Rattle.linked_demand.proofs.Closing.{starts_within, closes_read, wish_within, programme_within, place_right}
-use Rattle.linked_demand.proofs.Closing.{sure_each, proposed_goal, proposed_at_is}
+use Rattle.linked_demand.proofs.Closing.{exempt_each, proposed_goal, proposed_at_is}
 use Rattle.linked_demand.proofs.Leaving.{reach_right, reached_each, reached_is, row_there}
 use Rattle.linked_demand.proofs.links.SeatLinks.is_proposed.Goals as goal
 
@@ -55,9 +55,9 @@ returns c =
     let reached = reached_is s orders opens p c.place-place.result c.index.result.now
     c.is_reached-reached.result reach at.within c.is_reached-reached.ensures in
     let limited = r.lineup.now.notes.called_by_limit in
-    let flag : Bool = get_or (all_sure s limited) c.args.wish false in
-    let sure : flag ≡ get_or (all_sure s limited) c.args.wish flag =
-    get_or_default (all_sure s limited) c.args.wish false flag (omega (arith, wish_within k, sure_each k)) in
+    let flag : Bool = get_or (all_exempt s limited) c.args.wish false in
+    let exempt : flag ≡ get_or (all_exempt s limited) c.args.wish flag =
+    get_or_default (all_exempt s limited) c.args.wish false flag (omega (arith, wish_within k, exempt_each k)) in
     let opens_now : Bool = c.get-open.result in
     let near : Bool = c.is_reached-reached.result in
     let opens_read : opens_now ≡ get_or opens c.args.wish opens_now = c.get-open.ensures
@@ -70,5 +70,5 @@ returns c =
     c.wish_at-programme.result c.wish_at-programme.ensures.wish
     c.place-place.result place_read (seat_row s orders opens p)
     (row_there s orders opens p (programme_within k)) c.get-open.result
-    flag near c.is_served.result opens_read sure reached served
+    flag near c.is_served.result opens_read exempt reached served
     ∙ sym (proposed_at_is c.args.self.now c.args.wish w m waits)

@@ -1,7 +1,7 @@
 use Rattle.std.proofs.Common.{ℕ, ◌||◌, Bool, ap, arith, ◌∙◌}
 use Rattle.linked_demand.specs.Opens.{seat_row}
 use Rattle.linked_demand.proofs.Closing.{programme_within}
-use Rattle.linked_demand.proofs.Items.{closes_item, item_proposed, item_stands, item_sure, item_waits, own_bundle}
+use Rattle.linked_demand.proofs.Items.{closes_item, item_proposed, item_stands, item_exempt, item_waiting, own_bundle}
 use Rattle.linked_demand.proofs.Items.{own_programme}
 use Rattle.linked_demand.proofs.Items.{own_within}
 use Rattle.linked_demand.proofs.Leaving.{reach_right, reached_is, row_there}
@@ -9,14 +9,15 @@ use Rattle.linked_demand.proofs.links.SeatLinks.proposes.Goals as goal
 
 pub index-front-requires : goal.index-front-requires
 index-front-requires c =
-    omega (arith, own_programme c.self.invariant.reach c.args.self.now c.self.view_is c.args.item c.requires)
+    omega (arith, own_programme c.self.invariant.reach c.args.self.now c.self.view_is c.args.item.now c.requires)
 
 pub is_item_seated-requires : goal.is_item_seated-requires
 is_item_seated-requires c =
     let reach = c.self.invariant.reach in
     record {
-      wish = own_within reach c.args.self.now c.self.view_is c.args.item c.requires;
-      bundle = own_bundle reach c.args.self.now c.self.view_is c.args.item c.requires;
+      beside = c.self.invariant.beside_are;
+      wish = own_within reach c.args.self.now c.self.view_is c.args.item.now c.requires;
+      bundle = own_bundle reach c.args.self.now c.self.view_is c.args.item.now c.requires;
     }
 
 pub returns : goal.returns
@@ -25,9 +26,9 @@ returns c = λ open_item.
     let s = r.state.now in
     let orders = r.orders.now.orders in
     let opens = r.opens in
-    let p : ℕ = c.args.item.programme in
+    let p : ℕ = c.args.item.now.programme in
     let reach = c.self.invariant.reach in
-    let item = c.args.item in
+    let item = c.args.item.now in
     let k = closes_item reach.links c.args.self.now c.self.view_is item open_item.waits open_item.item in
     let at = item_stands reach.links c.args.self.now c.self.view_is item open_item.waits open_item.item in
     let front = reach_right k r.reached.items reach.reached_are c.index-front.result.now c.index-front.ensures in
@@ -38,6 +39,6 @@ returns c = λ open_item.
     open_item.flag (seat_row s orders opens p) (row_there s orders opens p (programme_within k))
     near c.is_item_seated.result reached
     (c.is_item_seated.ensures
-    (item_waits reach.links c.args.self.now c.self.view_is item open_item.waits open_item.item)
+    (item_waiting reach.links c.args.self.now c.self.view_is item open_item.waits open_item.item)
     ∙ ap (λ b. near || b)
-    (item_sure reach.links c.args.self.now c.self.view_is item open_item.waits open_item.item))
+    (item_exempt reach.links c.args.self.now c.self.view_is item open_item.waits open_item.item))

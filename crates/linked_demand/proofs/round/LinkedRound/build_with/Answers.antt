@@ -32,6 +32,9 @@ invariant_of-result c =
     let ceilings : c.in_ok-own.own.items ≡ c.args.ceilings.now = search rules in
     let ends = c.in_ok-ends in
     let P = λ (beds : List ℕ). IsRoundAlong c.in_ok-links.links c.args.ceilings.now c.args.ceilings.now beds
-    c.as_slice-boarders.result.now ends.field-0.ends.items ends.field-0.overfilled ends.field-0.marked
-    ends.field-0.housed.items in
+    c.as_slice-boarders.result.now ends.field-0.ends.items (record {
+      overfilled = ends.field-0.overfilled;
+      marked = ends.field-0.marked;
+      housed = ends.field-0.housed.items;
+    }) in
     rw (bars, ceilings) (subst P c.deref.ensures.value ends.ensures)

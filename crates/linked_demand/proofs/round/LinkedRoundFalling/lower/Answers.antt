@@ -65,8 +65,8 @@ invariant_of-self g c =
     c.cut_school.new.overfilled c.cut_school.new.housed.items
     → AllHoused links nobody rs (left_of links.state beds) c.house_marked.new.overfilled
     c.house_marked.new.housed.items in
-    lowered_along r.links links r.ceilings.items _ r.beds.items boarders ends c.house_marked.new.overfilled
-    c.house_marked.new.marked c.house_marked.new.housed.items c.close_past-end.ensures.links whole.boarders_are
+    lowered_along r.links links r.ceilings.items _ r.beds.items boarders ends _
+    c.close_past-end.ensures.links whole.boarders_are
     whole.ends_are c.args.i c.close_past-end.result front first c.close_past-end.ensures.within
     whole.beds_each (lowered _ whole.under c.self.view_is c.args.i c.args.to c.requires.in_range c.requires.lower found
     state orders
