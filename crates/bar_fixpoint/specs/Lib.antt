@@ -4,3 +4,4 @@ pub mod Choices
 pub mod Chosen
 pub mod Steps
 pub mod Costs
+pub mod Tired

@@ -29,3 +29,10 @@ pub record HasFallen (sys : FallingSystem) (choice : List ℕ → List ℕ → �
     (told told_after after : List ℕ) (given : List Fall → Type 0) : Type 0 where
   pub by : IsRunBy sys choice told told_after after
   pub given_all : given by.falls
+
+-- the system, what it offers and how the picker chooses are as before, whatever bars fell
+pub record AreUnchanged (sys sys_after : FallingSystem) (offered offered_after : List ℕ → List ℕ)
+    (chooses chooses_after : List ℕ → List ℕ → ℕ) : Type 0 where
+  pub system : sys_after ≡ sys
+  pub offers : offered_after ≡ offered
+  pub choice : chooses_after ≡ chooses

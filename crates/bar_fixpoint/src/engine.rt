@@ -5,7 +5,7 @@ ghost use Rattle.admit_core.specs.Falls.{IsAtMost, IsGreatest, is_overfilled, is
 ghost use Rattle.bar_fixpoint.specs.Overfilled.{all_overfilled};
 ghost use Rattle.bar_fixpoint.specs.Chosen.{IsPicked, IsRunBy, IsRunOf, StopsAbove};
 ghost use Rattle.bar_fixpoint.specs.Costs.{AreCounted, Counts, CountsFalls, fall_cost, step_cost};
-ghost use Rattle.bar_fixpoint.specs.Steps.{HasFallen, IsStep, IsNoStep, GetsFall};
+ghost use Rattle.bar_fixpoint.specs.Steps.{AreUnchanged, HasFallen, IsStep, IsNoStep, GetsFall};
 
 use crate::falling::Falling;
 use crate::keeper::{Keeper, NoFalls};
@@ -38,9 +38,8 @@ pub fn greatest<F: Falling, L: Ledger>(
     ensures always { F.lends system.old
         → all_overfilled (F.system system.old) (F.bars system.old) ≡ [] → IsOk result }
 
-    ensures same { F.system system.new ≡ F.system system.old }
-    ensures offers { F.offers system.new ≡ F.offers system.old }
-    ensures choice { choice picker.new ≡ choice picker.old }
+    ensures unchanged { AreUnchanged (F.system system.old) (F.system system.new)
+        (F.offers system.old) (F.offers system.new) (choice picker.old) (choice picker.new) }
 {
     let mut falls = Vec::new(alloc);
     lower_all(alloc, system, picker, &mut falls, steps)?;
@@ -69,9 +68,8 @@ pub fn settle<F: Falling, L: Ledger>(
     ensures always { F.lends system.old
         → all_overfilled (F.system system.old) (F.bars system.old) ≡ [] → IsOk result }
 
-    ensures same { F.system system.new ≡ F.system system.old }
-    ensures offers { F.offers system.new ≡ F.offers system.old }
-    ensures choice { choice picker.new ≡ choice picker.old }
+    ensures unchanged { AreUnchanged (F.system system.old) (F.system system.new)
+        (F.offers system.old) (F.offers system.new) (choice picker.old) (choice picker.new) }
 {
     lower_all(alloc, system, picker, &mut NoFalls, steps)
 }
@@ -93,9 +91,8 @@ fn lower_all<F: Falling, K: Keeper, L: Ledger>(
         (CountsFalls (F.cost system.old) (F.bars system.old) steps.old steps.new) }
     ensures always { F.lends system.old
         → all_overfilled (F.system system.old) (F.bars system.old) ≡ [] → IsOk result }
-    ensures same { F.system system.new ≡ F.system system.old }
-    ensures offers { F.offers system.new ≡ F.offers system.old }
-    ensures choice { choice picker.new ≡ choice picker.old }
+    ensures unchanged { AreUnchanged (F.system system.old) (F.system system.new)
+        (F.offers system.old) (F.offers system.new) (choice picker.old) (choice picker.new) }
 {
     while let Some(_school) = fall_once(alloc, system, picker, keeper, steps)? {}
     Ok(())
@@ -119,11 +116,10 @@ fn fall_once<F: Falling, K: Keeper, L: Ledger>(
         (told picker.old) (F.bars system.old) (told picker.new) (F.bars system.new)) }
     ensures always { F.lends system.old
         → all_overfilled (F.system system.old) (F.bars system.old) ≡ [] → IsOk result }
-    ensures same { F.system system.new ≡ F.system system.old }
-    ensures offers { F.offers system.new ≡ F.offers system.old }
     ensures steps { Counts (F.cost system.old) (F.cost system.new) steps.old steps.new
         (step_cost (F.cost system.old (F.bars system.old) (F.bars system.new)) result) }
-    ensures choice { choice picker.new ≡ choice picker.old }
+    ensures unchanged { AreUnchanged (F.system system.old) (F.system system.new)
+        (F.offers system.old) (F.offers system.new) (choice picker.old) (choice picker.new) }
 {
     match picked(alloc, system, picker)? {
         None => Ok(None),

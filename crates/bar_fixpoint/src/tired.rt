@@ -1,6 +1,7 @@
 //! A picker that refuses once, for tests of what a refusal leaves.
-ghost use Rattle.std.specs.Prelude.{◌≡◌, ◌==◌, ◌+◌, ◌-◌, ◌^◌, ◌<◌, ◌≤◌, List, length, [], ◌++◌, ◌∷◌, Contains, IfOk, OnErr, IsErr, min, ◌⊎◌, vec_capacity, vec_len};
+ghost use Rattle.std.specs.Prelude.{◌≡◌, ◌==◌, ◌+◌, ◌<◌, ◌≤◌, List, length, [], ◌++◌, ◌∷◌, Contains, IfOk, OnErr, vec_capacity, vec_len};
 ghost use Rattle.bar_fixpoint.specs.Choices.{first_of};
+ghost use Rattle.bar_fixpoint.specs.Tired.{CountsPick, RefusesPick};
 
 use crate::picker::{Picker, tell};
 use admit_core::OutOfMemory;
@@ -49,11 +50,9 @@ impl Picker for TiredPicker {
             (⟦<TiredPicker as Picker>⟧.told self.new ≡ ⟦<TiredPicker as Picker>⟧.told self.old) }
         ensures same { ⟦<TiredPicker as Picker>⟧.choice self.new
             ≡ ⟦<TiredPicker as Picker>⟧.choice self.old }
-        ensures tired { self.old.picks + 1 ≡ self.old.at → IsErr result }
-        ensures rested { OnErr result ((self.old.picks + 1 ≡ self.old.at)
-            ⊎ (vec_capacity self.old.told ≤ vec_len self.old.told)) }
-        ensures picks { self.new.picks ≡ min (self.old.picks + 1) (2 ^ 64 - 1) }
-        ensures at { self.new.at ≡ self.old.at }
+        ensures refuses { RefusesPick self.old.picks self.old.at
+            (vec_capacity self.old.told ≤ vec_len self.old.told) result }
+        ensures counts { CountsPick self.old.picks self.new.picks self.old.at self.new.at }
     {
         if self.is_tired() {
             return Err(OutOfMemory);
@@ -71,8 +70,7 @@ impl TiredPicker {
     fn is_tired(&mut self) -> bool
         ensures tired { result ≡ (self.old.picks + 1 == self.old.at) }
         ensures told { self.new.told ≡ self.old.told }
-        ensures picks { self.new.picks ≡ min (self.old.picks + 1) (2 ^ 64 - 1) }
-        ensures at { self.new.at ≡ self.old.at }
+        ensures counts { CountsPick self.old.picks self.new.picks self.old.at self.new.at }
     {
         let tired = self.picks < u64::MAX && self.picks + 1 == self.at;
         self.picks = self.picks.saturating_add(1);

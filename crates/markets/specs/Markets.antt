@@ -44,7 +44,7 @@ is_order m p =
     is_distinct (market_order m p) && list_all (lists_it m p) (market_order m p)
     && list_all (λ x. is_among x (market_order m p)) (listers m p)
 
--- the candidates whose lists are no lists, and the programmes whose orders are no orders
+-- the first candidate whose list is none, and the first programme whose order is none
 abbrev pub first_bad_list : MarketRows → Option ℕ
 first_bad_list m = position (λ list. not (is_list_below (length m.orders) list)) m.lists
 

@@ -81,7 +81,7 @@ fn add(rows: &mut Vec<Vec<Choice>>, place: usize, choice: Choice) -> Result<(), 
     Ok(())
 }
 
-/// So many empty rows.
+/// An empty row for each name.
 fn empty_rows(alloc: Global, names: &IndexSet<u32, Keyed>) -> Result<Vec<Vec<Choice>>, OutOfMemory>
     ensures { IfOk result (λ rows. map (λ r. r.items) rows.items ≡ map (own_choices [])
         names.now.keys) }
@@ -153,8 +153,7 @@ fn lists_from(alloc: Global, rows: Vec<Vec<Choice>>) -> Result<Vec<Sequence<u32>
         map (λ x. x.programme) (sorted_by (λ x. x.preference) row.items)) rows.items) }
 {
     let mut lists = Vec::with_capacity(alloc, rows.len())?;
-    for row in rows {
-        let mut row = row;
+    for mut row in rows {
         lists.push(by_preference(alloc, &mut row)?)?;
     }
     Ok(lists)

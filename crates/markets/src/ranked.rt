@@ -49,7 +49,8 @@ impl<'a> Model for Ranked<'a> {
 }
 
 impl<'a> Ranked<'a> {
-    /// It costs the length of the orders.
+    /// Notes the position of each candidate in each order that has them. It costs the length of the
+    /// orders.
     pub fn build(alloc: Global, market: &'a Market) -> Result<Ranked<'a>, OutOfMemory>
         ensures { IfOk result (λ r. r ≡ market.now) }
     {
@@ -112,7 +113,7 @@ fn ranks_in(alloc: Global, market: &Market) -> Result<Vec<Vec<Rank>>, OutOfMemor
     Ok(rows)
 }
 
-/// So many candidates without a rank.
+/// No rank yet for each of so many candidates.
 fn no_ranks(alloc: Global, count: u32) -> Result<Vec<Vec<Rank>>, OutOfMemory>
     ensures { IfOk result (λ rows. AreEmpty count rows.items) }
 {

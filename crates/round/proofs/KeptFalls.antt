@@ -34,15 +34,15 @@ module _ (keeps : Bool) (sys : FallingSystem) (choice : List ℕ → List ℕ �
 -- what is kept of a pass offers what the pass does, and then the pass has been made
 module _ (keeps : Bool) {s : State} {orders : List CallOrder} {ceilings : List ℕ} {telling : Telling}
     {found : PassRecord} (is : IsKeptOf (kept_pass keeps) (IsPassBy s orders ceilings telling) found) where
-  pub kept_offers : found.offers ≡ proposed s orders found.bars
-  kept_offers =
+  pub offers_are_proposed : found.offers ≡ proposed s orders found.bars
+  offers_are_proposed =
       ap (λ (p : PassRecord). p.offers) is.2 ∙ is.1.is_pass.offers
       ∙ ap (λ (p : PassRecord). proposed s orders p.bars) (sym is.2)
 
-  pub kept_made : (new : State) (stamp : Stamp) → new ≡ offered s orders found.bars stamp → IsValid s.dossier
+  pub pass_is_made : (new : State) (stamp : Stamp) → new ≡ offered s orders found.bars stamp → IsValid s.dossier
       → AreCallOrders s.dossier.groups orders → length ceilings ≡ length s.dossier.schools
       → IsKeptOf (kept_pass keeps) (IsPassOffered s new orders ceilings stamp telling) found
-  kept_made new stamp made valid called long =
+  pass_is_made new stamp made valid called long =
       let offers = made ∙ ap (λ (p : PassRecord). offered s orders p.bars stamp) is.2 in (
         is.0,
         record {

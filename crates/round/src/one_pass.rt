@@ -5,6 +5,7 @@ ghost use Rattle.admit_core.specs.CallOrder.{AreCallOrders};
 ghost use Rattle.admit_core.specs.Days.{IsPass, offered};
 ghost use Rattle.admit_core.specs.Falls.{IsGreatest};
 ghost use Rattle.bar_fixpoint.specs.Chosen.{StopsAbove, TellsOfFalls};
+ghost use Rattle.bar_fixpoint.specs.Steps.{AreUnchanged};
 ghost use Rattle.round.specs.KeptFalls.{AreKeptOfRun, IsKeptOf, IsPassBy, IsPassOffered, are_kept, kept_pass};
 ghost use Rattle.round.specs.PassLaws.{KeepsPassLaws};
 ghost use Rattle.round.specs.Picks.{PicksFalls};
@@ -161,9 +162,8 @@ fn lower<F: Falling, L: Ledger>(
         (choice picker.old) (told picker.old) (told picker.new) (F.bars system.new) kept.items) }
     ensures stops { OnErr result (StopsAbove (F.system system.old) (choice picker.old)
         (told picker.old) (told picker.new) (F.bars system.new)) }
-    ensures same { F.system system.new ≡ F.system system.old }
-    ensures offers { F.offers system.new ≡ F.offers system.old }
-    ensures choice { choice picker.new ≡ choice picker.old }
+    ensures unchanged { AreUnchanged (F.system system.old) (F.system system.new)
+        (F.offers system.old) (F.offers system.new) (choice picker.old) (choice picker.new) }
 {
     match falls {
         Falls::Kept => greatest(alloc, system, picker, steps),

@@ -10,17 +10,15 @@ fall_once-requires g c =
     let f = g.F.Falling in
     let now = c.loop-school.invariant in
     under_now (f.system c.args.system.now) (g.met.F.Falling.lawful c.args.system.now) _ _
-    (f.system c.loop-school.system) now.same
+    (f.system c.loop-school.system) now.unchanged.system
     _ _ _ now.so_far.1
 
 pub loop-school-init : goal.loop-school-init
 loop-school-init g c =
     let f = g.F.Falling in
     record {
-      same = refl;
       idle = λ none. refl;
-      offers = refl;
-      choice = refl;
+      unchanged = record { system = refl; offers = refl; choice = refl };
       so_far = (
         [],
         none_so_far (f.system c.args.system.now) (g.met.F.Falling.lawful c.args.system.now) _ _ _
@@ -37,8 +35,8 @@ loop-school-smaller g c =
     let now = c.loop-school.invariant in
     let fell = rw c.in-Some.is at c.in_ok-_school.ensures.step in
     smaller_now (f.system c.args.system.now) (g.met.F.Falling.lawful c.args.system.now) _ _
-    (f.system c.loop-school.system) now.same
-    _ _ _ _ _ _ _ now.choice now.so_far.1 fell
+    (f.system c.loop-school.system) now.unchanged.system
+    _ _ _ _ _ _ _ now.unchanged.choice now.so_far.1 fell
 
 pub loop-school-preserved : goal.loop-school-preserved
 loop-school-preserved g c =
@@ -47,18 +45,21 @@ loop-school-preserved g c =
     let fell = rw c.in-Some.is at c.in_ok-_school.ensures.step in
     let given = rw c.in-Some.is at c.in_ok-_school.ensures.kept in
     let counted = rw c.in-Some.is at c.in_ok-_school.ensures.steps.counted in
+    let after = c.fall_once.ensures.unchanged in
     let fall = fall_of (f.system c.loop-school.system) (f.bars c.loop-school.system) c.in-Some._school in
     record {
-      same = c.fall_once.ensures.same ∙ now.same;
       idle = λ none. absurd (none_fell f.system f.bars g.met.F.Falling.lawful c.args.system.now c.loop-school.system
           now.idle _ _ _ _ _ fell none);
-      offers = c.fall_once.ensures.offers ∙ now.offers;
-      choice = c.fall_once.ensures.choice ∙ now.choice;
+      unchanged = record {
+        system = after.system ∙ now.unchanged.system;
+        offers = after.offers ∙ now.unchanged.offers;
+        choice = after.choice ∙ now.unchanged.choice;
+      };
       so_far = (
         now.so_far.0 ++ fall ∷ [],
         more_now (f.system c.args.system.now) (g.met.F.Falling.lawful c.args.system.now) _ _
-            (f.system c.loop-school.system) now.same
-            _ _ _ _ fall _ _ now.choice now.so_far.1 fell,
+            (f.system c.loop-school.system) now.unchanged.system
+            _ _ _ _ fall _ _ now.unchanged.choice now.so_far.1 fell,
       );
       same_cost = c.fall_once.ensures.steps.same_cost ∙ now.same_cost;
       counted = counted_more (f.cost c.args.system.now) (f.cost c.loop-school.system) _ _ now.so_far.0 fall _ _ _ _ _
@@ -71,8 +72,8 @@ returns-in_err-_school-clause-steps g c =
     let f = g.F.Falling in
     let now = c.loop-school.invariant in
     early_now (f.system c.args.system.now) (g.met.F.Falling.lawful c.args.system.now) _ _
-    (f.system c.loop-school.system) now.same
-    _ now.so_far.0 _ _ _ _ _ now.choice now.so_far.1 c.in_err-_school.ensures.stopped
+    (f.system c.loop-school.system) now.unchanged.system
+    _ now.so_far.0 _ _ _ _ _ now.unchanged.choice now.so_far.1 c.in_err-_school.ensures.stopped
     (omega (arith, now.counted, c.in_err-_school.ensures.steps.counted))
 
 pub returns-clause-steps : goal.returns-clause-steps
@@ -82,7 +83,7 @@ returns-clause-steps g c =
     let settled = rw c.in_default.is at c.in_ok-_school.ensures.step in
     let counted = rw c.in_default.is at c.in_ok-_school.ensures.steps.counted in
     ended_now (f.system c.args.system.now) (g.met.F.Falling.lawful c.args.system.now) _ _
-    (f.system c.loop-school.system) now.same
+    (f.system c.loop-school.system) now.unchanged.system
     now.so_far.0 _ _ _ _ _ now.so_far.1 settled (omega (arith, now.counted, counted))
 
 pub returns-clause-fallen : goal.returns-clause-fallen
@@ -92,7 +93,7 @@ returns-clause-fallen g c =
     let settled = rw c.in_default.is at c.in_ok-_school.ensures.step in
     let given = rw c.in_default.is at c.in_ok-_school.ensures.kept in
     fallen_now (f.system c.args.system.now) (g.met.F.Falling.lawful c.args.system.now) _ _
-    (f.system c.loop-school.system) now.same
+    (f.system c.loop-school.system) now.unchanged.system
     _ _ _ _ _ _ now.so_far.1 settled (given now.so_far.0 now.given)
 
 pub returns-in_err-_school-clause-always : goal.returns-in_err-_school-clause-always

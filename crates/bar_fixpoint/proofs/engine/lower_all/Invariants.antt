@@ -3,6 +3,7 @@ use Rattle.std.specs.Prelude.{sum}
 use Rattle.admit_core.specs.declared.records.Fall.{Fall}
 use Rattle.bar_fixpoint.specs.Costs.{CountsFalls}
 use Rattle.bar_fixpoint.specs.Overfilled.{all_overfilled}
+use Rattle.bar_fixpoint.specs.Steps.{AreUnchanged}
 use Rattle.bar_fixpoint.proofs.SoFar.{SoFar}
 use Rattle.bar_fixpoint.proofs.engine.lower_all.Given as goal
 
@@ -13,10 +14,9 @@ invariant-loop-school g l =
     let first = goal.Picker-dyn g l.fn.picker.now in
     let now = goal.Picker-dyn g l.picker.now in
     record {
-      same : f.system l.system ≡ f.system l.fn.system;
       idle : all_overfilled (f.system l.fn.system) (f.bars l.fn.system) ≡ [] → l.system ≡ l.fn.system;
-      offers : f.offers l.system ≡ f.offers l.fn.system;
-      choice : now.choice l.picker.now.1 ≡ first.choice l.fn.picker.now.1;
+      unchanged : AreUnchanged (f.system l.fn.system) (f.system l.system) (f.offers l.fn.system) (f.offers l.system)
+          (first.choice l.fn.picker.now.1) (now.choice l.picker.now.1);
       so_far : (falls : List Fall) × SoFar (f.system l.fn.system) (first.choice l.fn.picker.now.1)
           (first.told l.fn.picker.now.1) falls (f.bars l.system) (now.told l.picker.now.1);
       same_cost : f.cost l.system ≡ f.cost l.fn.system;

@@ -12,7 +12,7 @@ use Rattle.bed_need.proofs.settled.counted.Goals as goal
 
 pub returns-clause-system : goal.returns-clause-system
 returns-clause-system g c =
-    c.settle.ensures.same
+    c.settle.ensures.unchanged.system
     ∙ c.in_ok-round.ensures.system
     ∙ ap (λ (q : Questions). boarding (lent q.state c.args.beds.now) q.orders c.args.ceilings.now) c.questions.view_is
 

@@ -28,7 +28,7 @@ settle-requires g c =
     c.in_ok-round.ensures.bars ∙ ap (λ (s : FallingSystem). s.ceilings) (sym c.in_ok-round.ensures.system)
 
 pub solved_by-requires : goal.solved_by-requires
-solved_by-requires g c = c.in_ok-settle.ensures.offers ∙ c.in_ok-round.ensures.offers
+solved_by-requires g c = c.in_ok-settle.ensures.unchanged.offers ∙ c.in_ok-round.ensures.offers
 
 pub returns-clause-greatest : goal.returns-clause-greatest
 returns-clause-greatest g c =

@@ -1,4 +1,4 @@
-use Rattle.std.proofs.Common.{List, ℕ, refl, sym, ◌∙◌, ap}
+use Rattle.std.proofs.Common.{List, ℕ, sym, ◌∙◌, ap}
 use Rattle.admit_core.specs.declared.records.Fall.{Fall}
 use Rattle.admit_core.specs.declared.records.PassRecord.{PassRecord}
 use Rattle.admit_core.specs.Proposals.{proposed}
@@ -21,19 +21,18 @@ returns-clause-pass g c =
         is_pass = record {
           greatest = greatest_kept _ _ c.in_ok-round.ensures.system _ _ (c.from_vec.ensures ∙ c.in_ok-bars.ensures.bars)
               c.in_ok-falls.ensures.greatest;
-          falls = run_kept _ _ c.in_ok-round.ensures.system by.falls _ refl run.is_run;
-          bars = bars_kept _ _ c.in_ok-round.ensures.system by.falls _ refl _ _
-              (c.from_vec.ensures ∙ c.in_ok-bars.ensures.bars)
-              run.bars_fell;
+          falls = run_kept _ _ c.in_ok-round.ensures.system by.falls run.is_run;
+          bars = bars_kept _ _ c.in_ok-round.ensures.system by.falls _ _
+              (c.from_vec.ensures ∙ c.in_ok-bars.ensures.bars) run.bars_fell;
           offers =
               c.from_vec-3.ensures
               ∙ c.in_ok-offers.ensures.offers
               ∙ ap (proposed end.state end.orders) (sym (c.from_vec.ensures ∙ c.in_ok-bars.ensures.bars))
               ∙ ap (λ (offers : List ℕ → List ℕ). offers c.from_vec.result)
-              (c.lower.ensures.offers ∙ c.in_ok-round.ensures.offers);
+              (c.lower.ensures.unchanged.offers ∙ c.in_ok-round.ensures.offers);
         };
         told_of = run.told_of;
-        chosen = chosen_kept _ _ c.in_ok-round.ensures.system by.falls _ refl (first.choice c.args.picker.now.1)
+        chosen = chosen_kept _ _ c.in_ok-round.ensures.system by.falls (first.choice c.args.picker.now.1)
             (first.told c.args.picker.now.1) run.chosen;
       },
       ap with_falls (c.from_vec-2.ensures ∙ c.in_ok-falls.ensures.run.1),
