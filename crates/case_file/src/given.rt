@@ -1,7 +1,14 @@
 //! The slots of a dossier.
+ghost use Rattle.std.specs.Prelude.{◌≡◌, IfSome, OnErr, OnOk, None, Some, option_copied};
+ghost use Rattle.admit_core.specs.Lines.{slot_name};
+ghost use Rattle.admit_core.specs.Slots.{at, with_at};
+ghost use Rattle.admit_core.specs.declared.slot.Slot.{Slot};
+ghost use Rattle.case_file.specs.Cases.{bytes_in, put_in, with_case};
+ghost use Rattle.case_file.specs.Given.{header_of, nothing_given};
 
-use admit_core::Slot;
+use admit_core::{PerSlot, Slot};
 use std::alloc::{AllocError, Global};
+use std::marker::Model;
 
 /// All slots.
 pub const SLOTS: [Slot; 10] = [
@@ -18,7 +25,10 @@ pub const SLOTS: [Slot; 10] = [
 ];
 
 /// The slot of this name.
-pub fn slot_named(name: &str) -> Option<Slot> {
+pub fn slot_named(name: &str) -> Option<Slot>
+    ensures named { IfSome result (λ slot. name.now ≡ slot_name slot) }
+    ensures each { (slot : Slot) → name.now ≡ slot_name slot → result ≡ Some slot }
+{
     match name {
         "groups" => Some(Slot::Groups),
         "programmes" => Some(Slot::Programmes),
@@ -35,7 +45,9 @@ pub fn slot_named(name: &str) -> Option<Slot> {
 }
 
 /// The bytes of a slot without rows.
-fn header_of(slot: Slot) -> &'static str {
+fn header_of(slot: Slot) -> &'static str
+    ensures { result.now ≡ header_of slot }
+{
     match slot {
         Slot::Groups => "group,scholar_pct,resident_pct\n",
         Slot::Programmes => "programme,group,seats\n",
@@ -50,52 +62,105 @@ fn header_of(slot: Slot) -> &'static str {
     }
 }
 
-/// The bytes of a slot.
+/// The bytes of the slots that were given some.
 #[derive(Drop)]
 struct Given {
-    slot: Slot,
-    bytes: Vec<u8>,
+    bytes: PerSlot<Option<Vec<u8>>>,
 }
 
-fn given_in(given: &[Given], slot: Slot) -> Option<&[u8]> {
-    let given = given.iter().rev().find(|given| given.slot == slot)?;
-    Some(given.bytes.as_slice())
+impl Model for Given {
+    ghost use Rattle.case_file.specs.Given.{GivenBytes, items_in};
+
+    ghost Value = { GivenBytes };
+
+    ghost view = { λ given. items_in given.bytes };
+}
+
+impl Given {
+    /// No slot was given anything.
+    fn new() -> Given
+        ensures { result ≡ nothing_given }
+    {
+        Given {
+            bytes: PerSlot {
+                groups: None,
+                programmes: None,
+                schools: None,
+                rankings: None,
+                boarding: None,
+                wishes: None,
+                state: None,
+                ceilings: None,
+                answers: None,
+                chain: None,
+            },
+        }
+    }
+
+    fn put(&mut self, slot: Slot, bytes: Vec<u8>)
+        ensures { self.new ≡ with_at self.old slot (Some bytes.items) }
+    {
+        *self.bytes.get_mut(slot) = Some(bytes);
+    }
+
+    fn get(&self, slot: Slot) -> Option<&[u8]>
+        ensures { option_copied result ≡ at self.now slot }
+    {
+        match self.bytes.get(slot) {
+            Some(bytes) => Some(bytes.as_slice()),
+            None => None,
+        }
+    }
 }
 
 /// The slots of a dossier, and those that a case has in place of them. A slot that is in neither
 /// has its header alone.
 #[derive(Drop)]
 pub struct Slots {
-    dossier: Vec<Given>,
-    case: Option<Vec<Given>>,
+    dossier: Given,
+    case: Option<Given>,
 }
 
 impl Slots {
     /// A dossier without rows.
-    pub fn new(alloc: Global) -> Slots {
+    pub fn new() -> Slots
+        ensures { result ≡ record { dossier = nothing_given; case = None } }
+    {
         Slots {
-            dossier: Vec::new(alloc),
+            dossier: Given::new(),
             case: None,
         }
     }
 
     /// Lets the slots that follow stand in place of the dossier's, until the next case.
-    pub fn begin_case(&mut self, alloc: Global) {
-        self.case = Some(Vec::new(alloc));
+    pub fn begin_case(&mut self)
+        ensures { self.new ≡ with_case self.old nothing_given }
+    {
+        self.case = Some(Given::new());
     }
 
     /// Gives a slot its bytes, in the case if there is one.
-    pub fn put(&mut self, alloc: Global, slot: Slot, bytes: &[u8]) -> Result<(), AllocError> {
+    pub fn put(&mut self, alloc: Global, slot: Slot, bytes: &[u8]) -> Result<(), AllocError>
+        ensures put { OnOk result (self.new ≡ put_in slot bytes.now self.old) }
+        ensures kept { OnErr result (self.new ≡ self.old) }
+    {
         let bytes = Vec::from_slice(alloc, bytes)?;
-        let given = self.case.as_mut().unwrap_or(&mut self.dossier);
-        given.push(Given { slot, bytes })?;
+        match &mut self.case {
+            Some(given) => given.put(slot, bytes),
+            None => self.dossier.put(slot, bytes),
+        }
         Ok(())
     }
 
     /// The bytes of a slot.
-    pub fn bytes(&self, slot: Slot) -> &[u8] {
-        let own = self.case.as_ref().and_then(|given| given_in(given, slot));
-        let bytes = own.or(given_in(self.dossier.as_slice(), slot));
+    pub fn bytes(&self, slot: Slot) -> &[u8]
+        ensures { result.now ≡ bytes_in self.now slot }
+    {
+        let own = match &self.case {
+            Some(given) => given.get(slot),
+            None => None,
+        };
+        let bytes = own.or(self.dossier.get(slot));
         bytes.unwrap_or(header_of(slot).as_bytes())
     }
 }
