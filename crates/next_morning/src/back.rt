@@ -97,13 +97,11 @@ fn school_rows(alloc: Global, schools: &[School]) -> Result<Vec<SchoolRow>, Allo
     ensures rows { IfOk result (λ rows. rows.items ≡ map Back.school_row schools.now) }
     ensures always { schools.now ≡ [] → IsOk result }
 {
-    if schools.is_empty() {
-        return Ok(Vec::new(alloc));
+    let mut rows = Vec::new(alloc);
+    for school in schools {
+        rows.push(school_row(school))?;
     }
-    schools
-        .iter()
-        .map(|school| school_row(school))
-        .collect(alloc)
+    Ok(rows)
 }
 
 fn wish_rows(alloc: Global, dossier: &Dossier) -> Result<Vec<WishRow>, AllocError>
@@ -112,9 +110,6 @@ fn wish_rows(alloc: Global, dossier: &Dossier) -> Result<Vec<WishRow>, AllocErro
     ensures always { dossier.now.wishes ≡ [] → IsOk result }
 {
     let wishes = dossier.wishes.as_slice();
-    if wishes.is_empty() {
-        return Ok(Vec::new(alloc));
-    }
     let mut rows = Vec::new(alloc);
     for wish in wishes {
         rows.push(wish_row(dossier, wish))?;
@@ -128,9 +123,6 @@ fn ceiling_rows(alloc: Global, dossier: &Dossier) -> Result<Vec<CeilingRow>, All
     ensures always { dossier.now.ceilings ≡ [] → IsOk result }
 {
     let changes = dossier.ceilings.as_slice();
-    if changes.is_empty() {
-        return Ok(Vec::new(alloc));
-    }
     let mut rows = Vec::new(alloc);
     for change in changes {
         rows.push(ceiling_row(dossier, change))?;
@@ -144,9 +136,6 @@ fn answer_rows(alloc: Global, dossier: &Dossier) -> Result<Vec<AnswerRow>, Alloc
     ensures always { dossier.now.answers ≡ [] → IsOk result }
 {
     let answers = dossier.answers.as_slice();
-    if answers.is_empty() {
-        return Ok(Vec::new(alloc));
-    }
     let mut rows = Vec::new(alloc);
     for answer in answers {
         rows.push(answer_row(dossier, answer))?;

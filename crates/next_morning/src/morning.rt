@@ -48,7 +48,7 @@ fn turn(
 /// of the day. `laws_of_next_mornings` says what a run over them is.
 pub fn next_morning(
     alloc: Global,
-    tables: Tables,
+    mut tables: Tables,
     evening: &DayState<'_>,
     ceilings: &[u32],
     day: u32,
@@ -64,7 +64,6 @@ pub fn next_morning(
 {
     evening.accepts_once();
     let _ = evening.marks(); // learns that there is one for each wish
-    let mut tables = tables;
     turn(alloc, &mut tables, evening, ceilings, day, dated)?;
     Ok(tables)
 }

@@ -18,9 +18,6 @@ pub(crate) fn school_rows(
         (zip schools.now ceilings.now)) }
     ensures always { schools.now ≡ [] → IsOk result }
 {
-    if schools.is_empty() {
-        return Ok(Vec::new(alloc));
-    }
     let mut rows = Vec::new(alloc);
     for (school, ceiling) in schools.iter().zip(ceilings) {
         rows.push(SchoolRow {
@@ -40,9 +37,6 @@ fn state_rows(
     ensures rows { IfOk result (λ rows. rows.items ≡ map state_row (zip wishes.now marks.now)) }
     ensures always { wishes.now ≡ [] → IsOk result }
 {
-    if wishes.is_empty() {
-        return Ok(Vec::new(alloc));
-    }
     let mut rows = Vec::new(alloc);
     for (wish, status) in wishes.iter().zip(marks.statuses()) {
         rows.push(StateRow {
