@@ -15,14 +15,14 @@ pub fn laws_of_marks()
     ensures place { WaitingPlaceNeverWorsens }
 {}
 
-/// Who becomes live in a programme while a wish of it waits that no bar ever stopped stands before
+/// While a wish waits that no bar ever stopped, whoever becomes live in its programme stands before
 /// its candidate in the call order.
 pub fn laws_of_turns()
     ensures passed_over { NobodyIsEverPassedOver }
     ensures without_boarding { NobodyIsPassedOverWithoutBoarding }
 {}
 
-/// Who becomes live in a school while a wish with it is barred in every opening ranks better there;
+/// While a wish is barred in every opening, whoever becomes live in its school ranks better there;
 /// and whoever is offered the programme and school of a waiting wish stands before its candidate in
 /// the call order or ranks better in the school.
 pub fn laws_of_beds()

@@ -75,14 +75,12 @@ impl<'d> Campaign<'d> {
             (record {
               course = self.old.course;
               told = told self.old.picker;
-              choice = choice
-                  self.old.picker;
+              choice = choice self.old.picker;
             })
             (record {
               course = self.new.course;
               told = told self.new.picker;
-              choice = choice
-                  self.new.picker;
+              choice = choice self.new.picker;
             }) result }
     {
         self.course.next_day(alloc, &mut *self.picker)

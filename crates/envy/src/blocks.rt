@@ -46,8 +46,8 @@ fn listed_blocks(alloc: Global, noted: &Noted<'_, '_, '_>) -> Result<Vec<Block>,
 /// days without answers and deadlines where all wishes waited at first, are ranked, and have no
 /// school.
 ///
-/// It costs about the wishes: what each candidate holds, and who is the last live one of each
-/// programme, is noted once.
+/// It goes along the wishes three times: it notes what each candidate holds, then who is the last
+/// live one of each programme, and then tells which wishes block.
 pub fn blocking_pairs_along<'a, 'd>(
     alloc: Global,
     state: &'a DayState<'d>,

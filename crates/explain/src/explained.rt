@@ -8,8 +8,8 @@ use admit_core::Explanation;
 use day_run::Campaign;
 use explanations::{Closing, explained};
 
-/// Why the wish at a place stands as it does in the evening of a campaign's last day, which came
-/// about: the one case that holds.
+/// The one case that says why the wish at a place stands as it does in the evening of a campaign's
+/// last day. That day must have come about.
 pub fn explain(campaign: &Campaign<'_>, wish: u32) -> Explanation
     requires day { IsTrue campaign.now.course.has_day }
     requires wish { wish < length campaign.now.course.present.dossier.wishes }

@@ -39,8 +39,7 @@ fn place_in(order: &[u32], candidate: u32) -> Option<usize>
     order.iter().position(|called| candidate == *called)
 }
 
-/// Those who stand before a candidate in a call order, or the whole order where it does not have
-/// the candidate.
+/// Those who stand before a candidate in a call order; all of it where the candidate is not in it.
 pub(crate) fn before(order: &[u32], candidate: u32) -> &[u32]
     ensures before { result.now ≡ before_first (nat_eq candidate) order.now }
     ensures no_longer { length result.now ≤ length order.now }

@@ -14,10 +14,10 @@ use day_state::{DayState, seats_left};
 use desk_day::Desk;
 use proposals::{is_open, limit_of, mark_at};
 
-/// Why the wish at a place stands as it does in the evening of a desk's last day, which came
-/// about: the one case that holds. The ceilings are those of that day, and the bars those of its
-/// last pass. After each day the desk meets what is required here, as `desk_ends_so` in the proofs
-/// of `desk_day` says.
+/// The one case that says why the wish at a place stands as it does in the evening of a desk's last
+/// day. That day must have come about. The ceilings are those of the day, and the bars those of its
+/// last pass. After each such day the desk meets what is required here, as `desk_ends_so` in the
+/// proofs of `desk_day` says.
 pub fn explain_on_desk(
     desk: &Desk<'_>,
     orders: &CallOrders,

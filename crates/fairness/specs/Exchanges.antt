@@ -1,4 +1,4 @@
--- What a candidate keeps who changes places with the one just before them.
+-- What a candidate keeps when they change places with the one just before them.
 use Rattle.std.specs.Prelude.{◌≡◌, ◌≢◌, ℕ, ◌≤◌, ◌<◌, List, ◌∷◌, ◌++◌, length, map, nat_eq, ◌==◌, if◌then◌else◌}
 use Rattle.std.specs.Prelude.{Contains, IsTrue}
 use Rattle.std.specs.List.{IsDistinct}

@@ -19,9 +19,9 @@ pub fn laws_of_offers()
     ensures beds { NoBedGoesToWorseRank }
 {}
 
-/// What a candidate keeps who changes places with the one just before them: a better position in
-/// the call order of a programme that has its ranking to itself costs no offer there, and a better
-/// boarding rank no offer with that school.
+/// What a candidate keeps when they change places with the one just before them: a better position
+/// in the call order of a programme that has its ranking to itself costs no offer there, and a
+/// better boarding rank no offer with that school.
 pub fn laws_of_exchanges()
     ensures position { BetterPositionCostsNoOffer }
     ensures boarding_rank { BetterBoardingRankCostsNoOffer }

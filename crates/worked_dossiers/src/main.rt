@@ -145,7 +145,7 @@ fn take(
     match section.name {
         "dossier" => {
             *name = String::from_str(alloc, section.words)?;
-            *slots = Slots::new(alloc);
+            *slots = Slots::new();
             Ok(None)
         }
         "falls" => {
@@ -162,7 +162,7 @@ fn run_file(rt: &HostRuntime, file: &str) -> io::Result<()> {
     let alloc = rt.alloc();
     let text = fs::read_to_string(rt, file)?;
     let mut name = String::new(alloc);
-    let mut slots = Slots::new(alloc);
+    let mut slots = Slots::new();
     for section in &sections(alloc, text.as_str())? {
         if let Some(line) = take(alloc, &mut name, &mut slots, section)? {
             rt.println(line)?;

@@ -49,7 +49,7 @@ impl Bench {
         Bench {
             case: String::new(alloc),
             words: String::new(alloc),
-            slots: Slots::new(alloc),
+            slots: Slots::new(),
             outside: CALM,
             told: None,
             expected: Expected::nothing(alloc),
@@ -139,7 +139,7 @@ impl Bench {
     /// Lays out what a section gives, and answers whether there is a section of its name.
     fn lay_out(&mut self, alloc: Global, section: &Section<'_>) -> Result<bool, AllocError> {
         match section.name {
-            "dossier" => self.slots = Slots::new(alloc),
+            "dossier" => self.slots = Slots::new(),
             "case" => self.begin(alloc, section.words)?,
             "words" => self.words = String::from_str(alloc, section.words)?,
             "fails" => self.outside.failing_read = section.words.parse::<u64>().ok(),
@@ -157,7 +157,7 @@ impl Bench {
 
     fn begin(&mut self, alloc: Global, name: &str) -> Result<(), AllocError> {
         self.case = String::from_str(alloc, name)?;
-        self.slots.begin_case(alloc);
+        self.slots.begin_case();
         self.outside = CALM;
         self.told = None;
         Ok(())
