@@ -23,12 +23,14 @@ if set(sys.argv[1:]) & {"--help", "-h", "help"}:
     signal.signal(signal.SIGPIPE, signal.SIG_DFL)
     print(textwrap.fill(" ".join(__doc__.split()), 80))
     sys.exit(0)
-NO_KIT, ENDED_BY_ERROR = 3, 4
+BAD_WORDS, NO_KIT, ENDED_BY_ERROR = 2, 3, 4
 if sys.version_info < (3, 10):
     print("parcours: to build it needs Python 3.10 or later, and this is %d.%d" % sys.version_info[:2], file=sys.stderr)
     sys.exit(ENDED_BY_ERROR)
-if len(sys.argv) != 2:
-    sys.exit("usage: prove.py CRATE; prove.py --help says more")
+if len(sys.argv) != 2 or not os.path.isdir(os.path.join(sys.argv[1], "src")):
+    print("usage: prove.py CRATE, which is the folder of one, as crates/next_slot; prove.py --help says more",
+          file=sys.stderr)
+    sys.exit(BAD_WORDS)
 RT = shutil.which("rt") or "/opt/rattle/bin/rt"
 # What this uses of the kit's own library, which lies beside its command rt. Other programs are called rt too.
 USED = ("Crate", "KIT", "crates_below", "files_of", "guarded", "help_of", "lock", "text_of")

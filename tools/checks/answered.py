@@ -71,6 +71,14 @@ def check_faults(tally: Tally) -> None:
             tally.check(row, sentence in ended.complaint, ended.complaint)
         tally.check("status", ended.status == 1 and ended.complaint.endswith("rien n'est écrit.\n"), ended)
         tally.equal("nothing is changed", contents(folder), before)
+
+
+def check_sheets(tally: Tally) -> None:
+    """Sheets that name no answers, or a row of which names two that do not belong together; words and files that are
+    none."""
+    tally.begin("take_in, sheets that are not taken")
+    with scratch() as place:
+        folder = made(place, DATED)
         for sheet, words, status, sentence in (
             ("réponse;nom\naccepter;A\n", (), 1, "aucune colonne ne nomme"), ("ville\nLyon\n", (), 1, "no slot"),
             ("", (), 1, "empty"),
@@ -78,6 +86,10 @@ def check_faults(tally: Tally) -> None:
             ("Vœu;Choix final;Jours\nV04;accepter;1\n", (), 1, '--column "TITLE=kind"'),
             ("Votre vœu;Votre réponse;Jours\nV99;accepter;1\n", ("--leave-out", "jours"), 1, "pas de vœu V99"),
             ("cible;réponse\nV04;accepter\n", ("--dates", "year-first"), 2, "--dates"),
+            ("candidat;vœu;réponse\nE07;V08;démission\n", (), 1, "V08 est du candidat E05, et non du candidat E07"),
+            ("candidat;vœu;réponse\nE07;V98;démission\n", (), 1, "pas de vœu V98"),
+            ("cible;candidat;réponse\nE03;E06;démission\n", (), 1, "nomme à la fois E03 et E06"),
+            ("cible;vœu;réponse\nV04;V10;accepter\n", (), 1, "nomme à la fois V04 et V10"),
         ):
             ended = take_in(folder, sheet, *words)
             tally.check(f"{sheet!r}", ended.status == status and sentence in ended.complaint, ended)
@@ -102,7 +114,7 @@ def check_broken_slots(tally: Tally) -> None:
         ("answers.csv", b"day,kind,target\n1,accept\n", 2), ("answers.csv", b"day,kind,target\n1,accept\xe9,1\n", 1),
         ("answers.csv", "day,kind,target\n".encode("utf-16"), 1), ("answers.csv", b"jour,type,cible\n", 1),
         ("answers.csv", b"day,kind,target\n1,accept,4\n1,accept,x\n", 3),
-        ("answers.csv", b"day,kind,target\n1,accept," + b"1" * 200_000, 1),
+        ("answers.csv", b"day,kind,target\n1,accept," + b"1" * 200_000, 2),
     ):
         with scratch() as place:
             folder = made(place)

@@ -7,7 +7,7 @@ import shutil
 import sys
 from pathlib import Path
 
-from .harness import DATA, EXAMPLES, TOOLS, Ended, Tally, contents, run, scratch
+from .harness import DATA, EXAMPLES, TOOLS, Ended, Tally, contents, executable, run, scratch
 
 BLANK = EXAMPLES / "blank"
 LONG_NAME = "x" * 300
@@ -34,6 +34,7 @@ BAD_WORDS = (
     ("check_pages.sh", "README.md"), ("check_pages.sh", "--link"), ("edit_clauses", "--tried"),
     ("edit_clauses", "none"), ("same_lemmas.py", "--what"), ("laws_without_witness.py", "--lists"),
     ("memory_answers.py", "--list"),
+    ("prove.py",), ("prove.py", "--version"), ("prove.py", "next_slot"), ("prove.py", "crates/next_slot"),
     ("break_lines.py", "none"), ("build_twice.sh", "3"), ("build_twice.sh", "--keep"),
 )
 
@@ -178,8 +179,10 @@ def check_broken_dossiers(tally: Tally) -> None:
     with scratch() as place:
         folder = place / "dossier"
         shutil.copytree(BLANK, folder)
-        ended = run(TOOLS / "next_day", folder, environment={"PARCOURS": "/nowhere/parcours"})
-        refused(tally, "a program that is not there", ended, 125)
+        for name, named in (("that is not there", "/nowhere/parcours"), ("that may not be run", str(folder / "state.csv")),
+                            ("of another machine", executable(place / "other", "\x7fELF"))):
+            ended = run(TOOLS / "next_day", folder, environment={"PARCOURS": named})
+            refused(tally, f"a program {name}", ended, 125)
 
 
 def check_pipes(tally: Tally) -> None:

@@ -122,7 +122,7 @@ def sentences_of(rules: Told, number: int, day: int) -> list[str]:
     def of(number_of: int) -> date | int:
         return rules.start + timedelta(days=number_of - 1) if rules.term is not None else number_of
 
-    when = f"on {named(of(changed))}" if changed else f"before {named(of(1))}"
+    when = f"on {named(of(changed))}" if changed else f"before {named(of(1))}, as the dossier says"
     if status == "offered":
         if not changed and rules.term is not None and number in rules.since:
             when = f"on {named(rules.since[number])}"

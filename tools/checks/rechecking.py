@@ -14,7 +14,7 @@ import shutil
 import sys
 import time
 from collections import Counter
-from collections.abc import Callable
+from dataclasses import dataclass
 from datetime import date
 from pathlib import Path
 from random import Random
@@ -198,9 +198,9 @@ def check_large(tally: Tally, program: str, candidates: int = 600, changes: int 
     return rounds.counts
 
 
-def check_said(tally: Tally, program: str) -> None:
-    """What is said, with which status, of words and files that are none; and never a traceback."""
-    tally.begin("recheck: what it says")
+def check_length(tally: Tally) -> None:
+    """An old Python reads the tool, and a person in half an hour."""
+    tally.begin("recheck: how long it is")
     for name in ("recheck", "audit_day"):
         text = (TOOLS / name).read_text()
         tally.check(f"Python 3.8 reads {name}", bool(ast.parse(text, feature_version=(3, 8))))
@@ -210,16 +210,30 @@ def check_said(tally: Tally, program: str) -> None:
         text = (TOOLS.parent / "docs" / page).read_text()
         tally.check(f"{page} counts them", sentence.format(len(lines)) in text, f"{len(lines)} lines")
     tally.check("its lines are short", max(map(len, lines)) <= 100, max(lines, key=len))
-    recheck, days = TOOLS / "recheck", EXAMPLES / "two-days"
+
+
+@dataclass(frozen=True)
+class Says:
+    """Tests what `recheck` says in a folder, and with which status; and that it is never a traceback."""
+
+    tally: Tally
+    folder: Path
+
+    def __call__(self, name: str, status: int, sentence: str, *words: str | Path) -> None:
+        ended = run(TOOLS / "recheck", *words, folder=self.folder)
+        said = ended.output.decode(errors="replace") + ended.complaint
+        self.tally.check(name, ended.status == status and sentence in said and "Traceback" not in said,
+                         f"status {ended.status}\n{said}")
+
+
+DAYS = EXAMPLES / "two-days"
+
+
+def check_words(tally: Tally) -> None:
+    """Words and files that are none."""
+    tally.begin("recheck: what it says of words and files")
     with scratch() as folder:
-        report = folder / "report"
-
-        def says(name: str, status: int, sentence: str, *words: str | Path) -> None:
-            ended = run(recheck, *words, folder=folder)
-            said = ended.output.decode(errors="replace") + ended.complaint
-            tally.check(name, ended.status == status and sentence in said and "Traceback" not in said,
-                        f"status {ended.status}\n{said}")
-
+        says, days, report = Says(tally, folder), DAYS, folder / "report"
         says("help", 0, "usage: recheck", "--help")
         says("no words", 2, "usage: recheck")
         says("a word too many", 2, "usage: recheck", days, report, "more")
@@ -237,6 +251,13 @@ def check_said(tally: Tally, program: str) -> None:
         says("a slot that is a pipe", 3, "groups.csv is no file, but a device or a pipe", folder / "slots", report)
         report.write_bytes(b"")
         says("a folder that is missing", 3, "No such file", folder / "missing", report)
+
+
+def check_said(tally: Tally, program: str) -> None:
+    """Right texts, and what is told beside a wrong line."""
+    tally.begin("recheck: what it says of reports")
+    with scratch() as folder:
+        says, days, report = Says(tally, folder), DAYS, folder / "report"
         dated = ("replay", "--days", "2", "--start", "2026-06-02", "--term", "0")
         report.write_bytes(run_text(program, dated, days)[1])
         says("deadlines that are forgotten", 1, "were --start and --term forgotten?", days, report)
@@ -249,6 +270,17 @@ def check_said(tally: Tally, program: str) -> None:
         report.write_bytes(run_text(program, ("order",), folder / "broken")[1])
         says("a refusal", 0, "as the rules say: 0 days, 1 line\n", folder / "broken", report)
         check_unread(says, program, report, folder / "broken")
+        for words in (("explain", "--wish", "5"), ("explain", "--wish", "99"), ("envy",), ("beds", "--school", "5"),
+                      ("check",), ("sample", "--number", "9"), ()):
+            report.write_bytes(run_text(program, words, days)[1])
+            says(f"a right text of {' '.join(words)} is not called wrong", 3, "this is no text of", days, report)
+
+
+def check_odd_texts(tally: Tally) -> None:
+    """Reports that were saved anew or cut, and texts that are none."""
+    tally.begin("recheck: what it says of texts that are none")
+    with scratch() as folder:
+        says, days, report = Says(tally, folder), DAYS, folder / "report"
         right = (days / "replay.txt").read_bytes()
         for name, text, sentence in (("line ends of another system", right.replace(b"\n", b"\r\n"), "104\\x0d\n"),
                                      ("a blank at an end", right.replace(b"offer 7\n", b"offer 7 \n"), "7\\x20\n"),
@@ -266,13 +298,9 @@ def check_said(tally: Tally, program: str) -> None:
                      b"final\n", b"day 1\npass 1\nfall " + b"9" * 5000 + b" 1 1 1\n", 100 * b"order "):
             report.write_bytes(text)
             says(f"the text {text[:20]!r}", 1, "the rules give", days, report)
-        for words in (("explain", "--wish", "5"), ("explain", "--wish", "99"), ("envy",), ("beds", "--school", "5"),
-                      ("check",), ("sample", "--number", "9"), ()):
-            report.write_bytes(run_text(program, words, days)[1])
-            says(f"a right text of {' '.join(words)} is not called wrong", 3, "this is no text of", days, report)
 
 
-def check_unread(says: Callable[..., None], program: str, report: Path, slots: Path) -> None:
+def check_unread(says: Says, program: str, report: Path, slots: Path) -> None:
     """A refusal of one mode is right where another mode would first come to a slot that cannot be read."""
     shutil.copy(EXAMPLES / "two-days/groups.csv", slots)
     (slots / "schools.csv").write_text("school\n")

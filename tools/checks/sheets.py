@@ -37,6 +37,8 @@ GROUP_SHEETS: tuple[tuple[str, str | bytes, str], ...] = (
     ("a share in place of a percentage", f"{GROUPS}1;0,2;3\n", "0,2 has two readings"),
     ("a minus sign", f"{GROUPS}1;-2;3\n", "-2 is not a whole number"),
     ("a long number", f"{GROUPS}1;{'9' * 5000};3\n", "is not a whole number"),
+    ("a long remark", f"{GROUPS[:-1]};remark\n1;2;3;{'x' * 200_000}\n", READ),
+    ("a long title", f"{GROUPS[:-1]};{'x' * 200_000}\n1;2;3;4\n", READ),
     ("a formula", f'{GROUPS}="007";2;3\n', "is a formula"),
     ("an error of one spreadsheet", f"{GROUPS}1;#VALEUR!;3\n", "an error of the spreadsheet"),
     ("an error of another one", f"{GROUPS}Err:502;2;3\n", "an error of the spreadsheet"),
@@ -142,17 +144,20 @@ def check_headers(tally: Tally) -> None:
 
 
 def check_codes(tally: Tally) -> None:
-    """Windows-1252 beside Mac Roman, and Latin-9."""
+    """Windows-1252 beside Mac Roman, Latin-9, and MS-DOS."""
     tally.begin("prepare, typographic letters")
     for name, text, codec, expected in (
         ("quotes and dashes", "L’Été – “Nord”", "cp1252", "L’Été – “Nord”"),
         ("an œ", "Sacré-Cœur", "cp1252", "Sacré-Cœur"),
         ("accents of a Mac", "Été", "mac-roman", ""), ("a Mac's word", "Benoît", "mac-roman", ""),
         ("Latin-9", "Sacré-Cœur", "iso8859-15", "Sacré-Cœur"), ("Latin-1", "Été", "latin-1", "Été"),
+        ("MS-DOS", "Évry, l'été à Noël", "cp850", "Évry, l'été à Noël"), ("its capitals", "RENÉ", "cp850", "RENÉ"),
+        ("a Mac's capital", "Pêche", "mac-roman", "Pêche"), ("a low quote within a word", "élève d‚ici", "cp1252",
+                                                        "élève d‚ici"),
     ):
         data = f"school;beds;ceiling\n{text};1;1\n".encode(codec)
         found, complaint = Sheets({"schools.csv": data}).prepared("ids.csv")
-        is_read = bool(expected) and f",{expected}," in found
+        is_read = bool(expected) and expected in found
         is_told = not found and not expected and "more than one reading" in complaint
         tally.check(name, is_read or is_told, (found, complaint))
 

@@ -98,7 +98,7 @@ def check_by_hand(tally: Tally) -> None:
         for _ in range(2):
             run(TOOLS / "next_day", folder)
         ended = why(folder, "V04")
-        tally.check("before the day", b"It was accepted before 3 June." in ended.output, ended)
+        tally.check("before the day", b"It was accepted before 3 June, as the dossier says." in ended.output, ended)
 
 
 def check_lost_record(tally: Tally) -> None:
@@ -108,7 +108,8 @@ def check_lost_record(tally: Tally) -> None:
         folder = made(place, DATED, (), ())
         shutil.rmtree(folder / "days/day-002")
         ended = why(folder, "V04", "V03", "V06")
-        for told in (b"It was accepted before 4 June.", b"lapsed before 4 June.", b"accepted it for you on 2 June."):
+        for told in (b"accepted before 4 June, as the dossier says.", b"lapsed before 4 June, as the dossier says.",
+                     b"accepted it for you on 2 June."):
             tally.check(f"{told.decode()}", told in ended.output, ended)
 
 
@@ -121,7 +122,7 @@ def check_other_wishes(tally: Tally) -> None:
         wishes.write_text(wishes.read_text().replace("\n1,1,1,1,0\n", "\n4,1,1,1,0\n").replace("\n4,3,", "\n1,3,"))
         run(TOOLS / "next_day", folder)
         ended = why(folder, "V06", "V07")
-        for told in (b"It was accepted before day 2.", b"gave it up before day 2,"):
+        for told in (b"accepted before day 2, as the dossier says.", b"gave it up before day 2, as"):
             tally.check(told.decode(), told in ended.output, ended)
 
 
@@ -129,7 +130,8 @@ def check_offers_of_the_dossier(tally: Tally) -> None:
     """An offer that came in with the dossier was made on the date that its state has, or at some time before day 1."""
     tally.begin("why, offers that came in with the dossier")
     for since, told, spoken in (
-        ("2026-06-01", "on 1 June", "le 1er juin"), ("", "before 2 June", "avant le 2 juin"),
+        ("2026-06-01", "on 1 June", "le 1er juin"),
+        ("", "before 2 June, as the dossier says", "avant le 2 juin, d'après le dossier"),
         ("2025-12-31", "on 31 December", "le 31 décembre"), ("2026-06-04", "on 4 June", "le 4 juin"),
     ):
         with scratch() as place:
@@ -150,8 +152,8 @@ def check_answerer(tally: Tally) -> None:
         (folder / "state.csv").write_text("wish,status\n6,accepted\n")
         run(TOOLS / "next_day", folder)
         for language, told in (
-                ("en", "It was accepted before day 1. There is nothing to do: of the wishes that you prefer"),
-                ("fr", "Il a été accepté avant le jour 1. Il n'y a rien à faire\u00a0: parmi les vœux")):
+                ("en", "accepted before day 1, as the dossier says. There is nothing to do: of the wishes that you prefer"),
+                ("fr", "Il a été accepté avant le jour 1, d'après le dossier. Il n'y a rien à faire\u00a0: parmi les vœux")):
             ended = why(folder, "V06", language)
             tally.check(language, told in ended.output.decode(), ended)
 

@@ -248,7 +248,12 @@ OTHERS_SHEET = ('</table:table><table:table table:name="\'file:///a.ods\'#$A"><t
 HIDDEN_ODS = ('<style:style style:name="h" style:family="table"><style:table-properties table:display="false"/>'
               '</style:style><table:table table:style-name="h" table:name="Formations">')
 FILTERED_ODS = '<table:table-row table:visibility="filter">'
+COLUMNS_ODS = ('"Formations"><table:table-column table:number-columns-repeated="3"/>'
+               '<table:table-column table:number-columns-repeated="1000" table:visibility="collapse"/>')
+COLUMNS_XLSX = '<cols><col min="2" max="3"/><col min="4" max="16384" hidden="1"/></cols><sheetData>'
 HIDDEN_SHEET, HIDDEN_ROW = "Formations (a hidden sheet)", ", Formations: read too, though hidden: 1 row\n"
+HIDDEN_COLUMN = ", Formations: read too, though hidden: the columns rang limite\n"
+LONG = "1234567890123456"
 # What is changed in a workbook by hand, and what is then made of its second row, or told.
 KINDS = (
     (write_xlsx, "x.xlsx", in_xlsx("<c><v>1</v></c>", "<c/>"), "groupe: the cell is empty"),
@@ -267,6 +272,12 @@ KINDS = (
     (write_ods, "x.ods", in_ods('<table:table table:name="Formations">', HIDDEN_ODS), HIDDEN_SHEET),
     (write_xlsx, "x.xlsx", in_xlsx("<row><c><v>7", '<row hidden="1"><c><v>7'), HIDDEN_ROW),
     (write_ods, "x.ods", in_ods(f"<table:table-row>{SEVEN_ODS}", f"{FILTERED_ODS}{SEVEN_ODS}"), HIDDEN_ROW),
+    (write_xlsx, "x.xlsx", in_xlsx("<sheetData>", COLUMNS_XLSX), HIDDEN_COLUMN),
+    (write_ods, "x.ods", in_ods('"Formations">', COLUMNS_ODS), HIDDEN_COLUMN),
+    (write_xlsx, "x.xlsx", in_xlsx(SEVEN, f"<c><v>{LONG}</v></c>"), "1.23456789012346E+15 has lost digits"),
+    (write_ods, "x.ods", in_ods(SEVEN_ODS, cell_of(f"#{LONG}")), "1.23456789012346E+15 has lost digits"),
+    (write_xlsx, "x.xlsx", in_xlsx(SEVEN, f"<c><v>{LONG[:15]}</v></c>"), f",{LONG[:15]},"),
+    (write_xlsx, "x.xlsx", in_xlsx(SEVEN, f'<c t="str"><v>{LONG}</v></c>'), f",{LONG},"),
 )
 
 

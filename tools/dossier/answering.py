@@ -12,9 +12,10 @@ from .campaign import CALENDAR, complaint, read_calendar
 from .cells import IN_ENGLISH, IN_FRENCH
 from .dating import Calendar
 from .faults import Faults, Row, shown
-from .messages import (CORRECT_WISH, DONE, FAR_DAY, NAME_TARGET, NAME_WISH, NO_CANDIDATE_NAMED, NO_DATES, NO_TARGET,
-                       NO_WISH, NO_WISH_NAMED, NO_WISH_OF, NUMBER_DAY, OTHER_CANDIDATE, PAST_DAY, QUIT_CANDIDATE,
-                       REFUSE_IT, TAKE_OUT, TAKE_OUT_WAITING, UNFIT, WITHDRAW_IT)
+from .messages import (CORRECT_EITHER, CORRECT_WISH, DONE, FAR_DAY, NAME_TARGET, NAME_WISH, NAMES_TWO,
+                       NO_CANDIDATE_NAMED, NO_DATES, NO_TARGET, NO_WISH, NO_WISH_NAMED, NO_WISH_OF, NUMBER_DAY,
+                       OTHER_CANDIDATE, PAST_DAY, QUIT_CANDIDATE, REFUSE_IT, TAKE_OUT, TAKE_OUT_WAITING, UNFIT,
+                       WITHDRAW_IT)
 from .naming import Names
 from .records import Wish, records_of
 from .slots import ANSWERS, GREATEST_DAY, SLOTS, Thing
@@ -89,7 +90,7 @@ class SheetOfAnswers:
         for place in self.table.places(*(column.name for column in self.table.columns)):
             kind = self.table.values["kind"][place]
             day = self.day(place)
-            target = self.candidate(place) if kind == QUIT else self.wish(place, ANSWER_WORDS[kind])
+            target = self.candidate(place) if kind == QUIT else self.wish(place)
             if day is not None and target is not None:
                 yield place, Answer(day, ANSWER_WORDS[kind], target)
 
@@ -120,13 +121,15 @@ class SheetOfAnswers:
         return code if code > 0 else self.names.number(thing, self.spellings[thing].of(code)) or -1
 
     def id_at(self, thing: Thing, *columns: str, place: int) -> tuple[int | None, str]:
-        """The number of the id in the first of these columns that has one, and how it is spelled."""
-        for name in columns:
-            if (number := self.number(thing, name, place)) is not None:
-                return number, self.spellings[thing].of(self.value(name, place))
-        return None, ""
+        """The number of the id in the first of these columns that has one, and how it is spelled. Two that differ are
+        told."""
+        found = [(number, self.spellings[thing].of(self.value(name, place))) for name in columns
+                 if (number := self.number(thing, name, place)) is not None]
+        if len({number for number, _ in found}) > 1:
+            self.tell(place, NAMES_TWO, CORRECT_EITHER, one=found[0][1], other=found[1][1])
+        return found[0] if found else (None, "")
 
-    def wish(self, place: int, kind: str) -> int | None:
+    def wish(self, place: int) -> int | None:
         number, spelled = self.id_at(Thing.WISH, "target", "wish", place=place)
         if number is None:
             self.tell(place, NO_WISH_NAMED, NAME_WISH)
@@ -134,11 +137,8 @@ class SheetOfAnswers:
             self.tell(place, NO_WISH, NAME_WISH, id=spelled)
         else:
             other, named = self.id_at(Thing.CANDIDATE, "candidate", place=place)
-            wish = self.wishes[number]
-            if other is None or other == wish.candidate:
+            if other is None or self.is_of(number, spelled, other, named, place):
                 return number
-            self.tell(place, OTHER_CANDIDATE, CORRECT_WISH, wish=spelled, other=named,
-                      candidate=self.names.spelled(Thing.CANDIDATE, wish.candidate))
         return None
 
     def candidate(self, place: int) -> int | None:
@@ -148,8 +148,20 @@ class SheetOfAnswers:
         elif number not in self.candidates:
             self.tell(place, NO_WISH_OF, QUIT_CANDIDATE, id=spelled)
         else:
-            return number
+            wish, named = self.id_at(Thing.WISH, "wish", place=place)
+            if wish is None or self.is_of(wish, named, number, spelled, place):
+                return number
         return None
+
+    def is_of(self, wish: int, spelled: str, candidate: int, named: str, place: int) -> bool:
+        """Whether a wish that a row names is of the candidate that it names; if not, that is told."""
+        found = self.wishes.get(wish)
+        if found is None:
+            self.tell(place, NO_WISH, CORRECT_WISH, id=spelled)
+        elif found.candidate != candidate:
+            self.tell(place, OTHER_CANDIDATE, CORRECT_WISH, wish=spelled, other=named,
+                      candidate=self.names.spelled(Thing.CANDIDATE, found.candidate))
+        return found is not None and found.candidate == candidate
 
     def tell(self, place: int, what: Text, to_do: Text, column: str = "", **values: object) -> None:
         title = self.table.title(column) if column else ""

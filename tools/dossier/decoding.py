@@ -19,6 +19,11 @@ WINDOWS_ALONE = re.compile(rb"[\x80-\x9f]")
 LATIN_9_LETTERS = re.compile(rb"[A-Za-z\xc0-\xff][\xa6\xa8\xb4\xb8\xbc\xbd\xbe]"
                              rb"|[\xa6\xa8\xb4\xb8\xbc\xbd\xbe][A-Za-z\xc0-\xff]|\xa4")
 
+# An é behind a small letter, or an É behind capitals, as MS-DOS has them: other codes have there what no word has. And
+# accents as Windows-1252 has them, where MS-DOS has letters that French does not.
+OF_DOS = re.compile(rb"[a-z]\x82|[A-Z]{2}\x90")
+OF_WINDOWS = re.compile(rb"[a-z][\xe0-\xff]")
+
 
 class Unreadable(NoReading):
     """An export without exactly one reading."""
@@ -75,6 +80,8 @@ def _wide(data: bytes) -> Coding:
 
 def _of_one_byte(data: bytes) -> list[Coding]:
     """Codes of one byte a letter. Windows-1252 wins where nothing but typographic letters tells it from Mac Roman."""
+    if OF_DOS.search(data) and not OF_WINDOWS.search(data):
+        return [Coding("cp850", "MS-DOS")]
     if not WINDOWS_ALONE.search(data):
         return [Coding("iso8859-15", "Latin-9") if LATIN_9_LETTERS.search(data) else Coding("latin-1", "Latin-1")]
     found = []

@@ -214,6 +214,7 @@ NO_CANDIDATE_NAMED = Text("who quits is not named.", "la démission ne dit pas d
 OTHER_CANDIDATE = Text("the wish {wish} is of candidate {candidate}, and not of {other}.",
                        "le vœu {wish} est du candidat {candidate}, et non du candidat {other}.")
 CORRECT_WISH = Text("correct the wish or the candidate.", "corrigez le vœu ou le candidat.")
+NAMES_TWO = Text("the answer names both {one} and {other}.", "la réponse nomme à la fois {one} et {other}.")
 UNFIT = Text("the wish {wish} of candidate {candidate}, for {programme}, is then: {status}. It cannot be {done}.",
              "le vœu {wish} du candidat {candidate}, pour {programme}, en est alors là : {status}. "
              "On ne peut pas {done}.")

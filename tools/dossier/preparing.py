@@ -4,7 +4,7 @@ import argparse
 import gc
 import os
 import sys
-from collections.abc import Callable, Iterator
+from collections.abc import Callable, Iterable, Iterator
 from datetime import date
 from itertools import islice
 from pathlib import Path
@@ -33,7 +33,8 @@ COLUMN_NAMES = frozenset(column.name for slot in SLOTS for column in slot.column
 READ = Text("{slot}: {rows} {of_file}{how}", "{slot} : {rows} {of_file}{how}")
 ROW, ROWS = Text("row", "ligne"), Text("rows", "lignes")
 LEFT_OUT = Text("{file}: not read are the columns {names}", "{file} : colonnes qui ne sont pas lues : {names}")
-HIDDEN_ROWS = Text("{file}: read too, though hidden: {rows}", "{file} : lu aussi, quoique masqué : {rows}")
+HIDDEN = Text("{file}: read too, though hidden: {what}", "{file} : lu aussi, quoique masqué : {what}")
+COLUMNS = Text("the columns {names}", "les colonnes {names}")
 NUMBERED = Text("{ids}: ids of {things} numbered, {count} from {first} to {last}",
                 "{ids} : {things}, {numbers} de {first} à {last}")
 NUMBER, NUMBERS = Text("number", "numéro"), Text("numbers", "numéros")
@@ -78,7 +79,7 @@ def words() -> Words:
     return parser
 
 
-def text_of(column: Column, table: Table, numbers: Numbers) -> Callable[[int], str]:
+def text_of(column: Column, numbers: Numbers) -> Callable[[int], str]:
     """How the values of a column are written."""
     match column.content:
         case Content.ID if column.thing and (by_code := numbers.by_code[column.thing]) or column.may_be_empty:
@@ -99,7 +100,7 @@ def column_texts(column: Column, table: Table, numbers: Numbers) -> Iterator[str
     if column.content is Content.TARGET:
         return (str(numbers.of(Thing.CANDIDATE if kind == QUIT else Thing.WISH, value))
                 for kind, value in zip(table.values["kind"], values))
-    return map(text_of(column, table, numbers), values)
+    return map(text_of(column, numbers), values)
 
 
 def slot_parts(table: Table, numbers: Numbers) -> Iterator[bytes]:
@@ -125,12 +126,18 @@ def slot_files(exports: Exports, numbers: Numbers) -> dict[str, bytes | Iterator
 
 
 def notes_on(table: Table) -> list[Filled]:
-    """A line on the columns of a sheet that are not read, and one on its hidden rows, where there are some."""
-    label = shown(table.sheet.label)
-    names = ", ".join(shown(table.header.titles[place].strip()) for place in sorted(table.header.left_out))
-    notes = [LEFT_OUT.of(file=label, names=names)] if names else []
-    hidden = table.sheet.hidden_rows if isinstance(table.sheet, WorkbookSheet) else 0
-    return [*notes, HIDDEN_ROWS.of(file=label, rows=Counted(hidden, ROW, ROWS))] if hidden else notes
+    """A line on the columns of a sheet that are not read, and lines on its rows and columns that are read though hidden,
+    where there are some."""
+    def titles(places: Iterable[int]) -> str:
+        return ", ".join(shown(table.header.titles[place].strip()) for place in sorted(places))
+
+    label, sheet = shown(table.sheet.label), table.sheet
+    notes = [LEFT_OUT.of(file=label, names=titles(table.header.left_out))] if table.header.left_out else []
+    if isinstance(sheet, WorkbookSheet) and sheet.hidden_rows:
+        notes.append(HIDDEN.of(file=label, what=Counted(sheet.hidden_rows, ROW, ROWS)))
+    if isinstance(sheet, WorkbookSheet) and (places := sheet.hidden_columns.intersection(table.header.places.values())):
+        notes.append(HIDDEN.of(file=label, what=COLUMNS.of(names=titles(places))))
+    return notes
 
 
 def summary(exports: Exports, numbers: Numbers, folder: Path, language: Language) -> str:

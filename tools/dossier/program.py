@@ -47,7 +47,7 @@ def run(words: list[str], folder: Path, output: IO[bytes]) -> int:
     """Runs the program in the folder with its text to the output, and answers its status."""
     try:
         done = subprocess.run([program(), *words], cwd=folder, stdin=subprocess.DEVNULL, stdout=output, check=False)
-    except (FileNotFoundError, PermissionError):
+    except OSError:  # it is not there, may not be run, or is of another machine
         return NOT_BUILT
     return done.returncode
 

@@ -18,6 +18,8 @@ FIRST_LINE = "sep="
 # an empty cell; no text of a workbook has these letters.
 MERGED = "\x1c\x1f\x1c"
 CHUNK = 4_000
+# A cell may be as long as its file; else a long remark would be told as a quote that is not closed.
+csv.field_size_limit(1 << 31)
 
 
 @dataclass(frozen=True)
@@ -61,13 +63,14 @@ def _parted(text: Iterable[str], separator: str) -> Iterator[list[list[str]]]:
 
 @dataclass(frozen=True, eq=False)
 class WorkbookSheet:
-    """A sheet of a workbook, whose cells were read by their types. It is the same as itself alone, so that a fault may
-    name a row of it."""
+    """A sheet of a workbook, whose cells were read by their types. Of what is hidden it has how many rows that are not
+    empty, and the places of the columns. It is the same as itself alone, so that a fault may name a row of it."""
 
     label: str
     rows: list[list[str]]
     is_hidden: bool = False
     hidden_rows: int = 0
+    hidden_columns: frozenset[int] = frozenset()
 
     def chunks(self) -> Iterator[list[list[str]]]:
         """All rows at once."""

@@ -47,7 +47,9 @@ def of_date(day: date) -> str:
 
 
 def when(moment: Moment) -> str:
-    return f"{'before' if moment.is_before else 'on'} {of_day(moment.day)}"
+    """When; of what changed before the days that were made, the dossier alone tells."""
+    day = of_day(moment.day)
+    return f"before {day}, as the dossier says" if moment.is_before else f"on {day}"
 
 
 def evening(day: Day, number: int) -> str:

@@ -52,7 +52,9 @@ def of_date(day: date) -> str:
 
 
 def when(moment: Moment) -> str:
-    return f"{'avant ' if moment.is_before else ''}{of_day(moment.day)}"
+    """Quand ; ce qui a changé avant les jours joués, le dossier seul le dit."""
+    day = of_day(moment.day)
+    return f"avant {day}, d'après le dossier" if moment.is_before else day
 
 
 def evening(day: Day, number: int) -> str:

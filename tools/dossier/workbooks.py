@@ -5,6 +5,7 @@ import re
 import zipfile
 import zlib
 from collections.abc import Iterator
+from dataclasses import dataclass, field
 from datetime import datetime, timedelta
 from decimal import Decimal, InvalidOperation
 from pathlib import Path
@@ -20,6 +21,8 @@ WORKBOOK_ENDINGS = (".xlsx", ".xlsm", ".ods")
 MOST_COLUMNS = 1000
 MOST_ROWS = 17_000_000
 MOST_BYTES = 1 << 31
+# Of a number with more digits than these a workbook keeps the first ones alone.
+MOST_DIGITS = 15
 MANIFEST = "META-INF/manifest.xml"
 # With these begins a workbook that is older, or that a password protects.
 OF_OLE = b"\xd0\xcf\x11\xe0"
@@ -66,14 +69,17 @@ def sheets_of_workbook(path: Path) -> list[WorkbookSheet]:
         if error.errno != errno.EINVAL:  # so it is where a part is said to stand before the file
             raise
         raise Unreadable(BROKEN_WORKBOOK.of(why=error), SAVE_WORKBOOK.of()) from None
-    return [WorkbookSheet(f"{path.name}, {sheet.name}", sheet.rows, sheet.is_hidden, sheet.hidden_rows)
-            for sheet in found]
+    return [WorkbookSheet(f"{path.name}, {sheet.name}", sheet.rows, sheet.is_hidden, sheet.hidden_rows,
+                          sheet.hidden_columns) for sheet in found]
 
 
 def numeral(text: str) -> str:
-    """A number as a cell shows it where it is whole, and else with its decimals."""
+    """A number as a cell shows it where it is whole, and else with its decimals; with an exponent where it has lost
+    digits."""
     try:
         value = Decimal(text)
+        if value.is_finite() and value.adjusted() >= MOST_DIGITS:
+            return f"{value:.{MOST_DIGITS - 1}E}"
         # Workbooks keep binary fractions: what is a whole number within their precision is one.
         rounded = round(value, 9).normalize()
         whole = rounded.to_integral_value()
@@ -99,12 +105,13 @@ def whole_rows(rows: list[list[str]]) -> list[list[str]]:
 
 class Found(NamedTuple):
     """A sheet of a workbook: its name, its rows, whether it is hidden, and how many of its rows are that are not
-    empty."""
+    empty, and which columns."""
 
     name: str
     rows: list[list[str]]
     is_hidden: bool
     hidden_rows: int
+    hidden_columns: frozenset[int]
 
 
 class Area(NamedTuple):
@@ -114,6 +121,25 @@ class Area(NamedTuple):
     left: int
     bottom: int
     right: int
+
+
+@dataclass
+class Layout:
+    """What a sheet tells beside the texts of its cells: what is merged, and the numbers of the rows and the places of the
+    columns that are hidden."""
+
+    areas: list[Area] = field(default_factory=list)
+    hidden_rows: list[int] = field(default_factory=list)
+    hidden_columns: set[int] = field(default_factory=set)
+
+    def hide_columns(self, first: int, number: int) -> None:
+        self.hidden_columns.update(range(first, min(first + number, MOST_COLUMNS)))
+
+    def found(self, name: str, rows: list[list[str]], is_hidden: bool) -> Found:
+        """The sheet of this name with these rows."""
+        whole = whole_rows(rows)
+        hidden = sum(number <= len(whole) and any(whole[number - 1]) for number in self.hidden_rows)
+        return Found(name, without_merged(whole, self.areas), is_hidden, hidden, frozenset(self.hidden_columns))
 
 
 def without_merged(rows: list[list[str]], areas: list[Area]) -> list[list[str]]:
@@ -141,30 +167,36 @@ def sheets_of_ods(archive: zipfile.ZipFile) -> Iterator[Found]:
     with archive.open("content.xml") as file:
         name = style = ""
         rows: list[list[str]] = []
-        areas: list[Area] = []
+        layout = Layout()
         hiding: set[str] = set()
-        is_of_others, hidden_rows = False, 0
+        is_of_others, columns = False, 0
         for event, element in ElementTree.iterparse(file, events=("start", "end")):
             if event == "start":
                 if element.tag == f"{TABLE}table":
                     name, style = element.get(f"{TABLE}name", ""), element.get(f"{TABLE}style-name", "")
-                    rows, areas, is_of_others, hidden_rows = [], [], False, 0
+                    rows, layout, is_of_others, columns = [], Layout(), False, 0
             elif element.tag == f"{STYLE}style":
                 hiding |= hiding_style(element)
             elif element.tag == f"{TABLE}table-source":
                 is_of_others = OF_OTHERS.fullmatch(name) is not None
+            elif element.tag == f"{TABLE}table-column":
+                repeated = int(element.get(f"{TABLE}number-columns-repeated", "1"))
+                if is_hidden_in_ods(element):
+                    layout.hide_columns(columns, repeated)
+                columns += repeated
             elif element.tag == f"{TABLE}table-row":
-                areas += areas_of_ods(element, len(rows))
+                layout.areas += areas_of_ods(element, len(rows))
                 cells = cells_of_ods(element)
                 repeated = int(element.get(f"{TABLE}number-rows-repeated", "1"))
+                above = len(rows)
                 if any(cells) or repeated < MOST_COLUMNS:
                     rows += [cells] * min(repeated, MOST_ROWS)
-                if any(cells) and element.get(f"{TABLE}visibility") in ("collapse", "filter"):
-                    hidden_rows += repeated
+                if is_hidden_in_ods(element):
+                    layout.hidden_rows += range(above + 1, len(rows) + 1)
                 element.clear()
             elif element.tag == f"{TABLE}table":
                 if not is_of_others:
-                    yield Found(name, without_merged(whole_rows(rows), areas), style in hiding, hidden_rows)
+                    yield layout.found(name, rows, style in hiding)
                 element.clear()
 
 
@@ -172,6 +204,11 @@ def hiding_style(style: ElementTree.Element) -> set[str]:
     """The name of a style by which a sheet is not shown; of another none."""
     is_hiding = any(part.get(f"{TABLE}display") == "false" for part in style)
     return {style.get(f"{STYLE}name", "")} if is_hiding else set()
+
+
+def is_hidden_in_ods(line: ElementTree.Element) -> bool:
+    """Whether a row or a column is hidden, by hand or by a filter."""
+    return line.get(f"{TABLE}visibility") in ("collapse", "filter")
 
 
 def areas_of_ods(row: ElementTree.Element, number: int) -> Iterator[Area]:
@@ -237,16 +274,14 @@ def sheets_of_xlsx(archive: zipfile.ZipFile) -> Iterator[Found]:
     shared = shared_texts(archive)
     kinds = kinds_of_styles(archive)
     properties = workbook.find(f"{MAIN}workbookPr")
-    is_from_1904 = properties is not None and properties.get("date1904") in ("1", "true")
+    is_from_1904 = properties is not None and properties.get("date1904") in TRUE
     for sheet in workbook.iter(f"{MAIN}sheet"):
         target = next((links[value] for key, value in sheet.attrib.items() if LINK.fullmatch(key)), "")
         place = target.removeprefix("/") if target.startswith("/") else f"xl/{target}"
         if "worksheets/" in place:
-            areas: list[Area] = []
-            hidden: list[int] = []
-            rows = whole_rows(list(rows_of_xlsx(archive, place, shared, kinds, is_from_1904, areas, hidden)))
-            yield Found(sheet.get("name", ""), without_merged(rows, areas), sheet.get("state") in HIDDEN_STATES,
-                        sum(number <= len(rows) and any(rows[number - 1]) for number in hidden))
+            layout = Layout()
+            rows = list(rows_of_xlsx(archive, place, shared, kinds, is_from_1904, layout))
+            yield layout.found(sheet.get("name", ""), rows, sheet.get("state") in HIDDEN_STATES)
 
 
 def plain(data: bytes) -> ElementTree.Element:
@@ -279,6 +314,7 @@ def letter_of(number: re.Match[str]) -> str:
 
 
 HIDDEN_STATES = ("hidden", "veryHidden")
+TRUE = ("1", "true")
 DATE_FORMATS = {*range(14, 18), 22, *range(27, 37), *range(50, 59)}
 PERCENT_FORMATS = {9, 10}
 
@@ -304,15 +340,18 @@ def kind_of_format(code: str) -> str:
 
 
 def rows_of_xlsx(archive: zipfile.ZipFile, place: str, shared: list[str], kinds: list[str],
-                 is_from_1904: bool, areas: list[Area], hidden: list[int]) -> Iterator[list[str]]:
-    """The rows, behind which it adds what is merged, and the numbers of those that are hidden."""
+                 is_from_1904: bool, layout: Layout) -> Iterator[list[str]]:
+    """The rows, behind which it adds what is merged, and which rows and columns are hidden."""
     number = 0
     with archive.open(place) as file:
         for _, element in ElementTree.iterparse(file):
             kind = element.tag.rpartition("}")[2]
             if kind == "mergeCell" and (found := AREA.fullmatch(element.get("ref", ""))):
                 left, top, right, bottom = found.groups()
-                areas.append(Area(int(top) - 1, column_of(left), int(bottom), column_of(right) + 1))
+                layout.areas.append(Area(int(top) - 1, column_of(left), int(bottom), column_of(right) + 1))
+            if kind == "col" and element.get("hidden") in TRUE:
+                first, last = int(element.get("min", "1")), int(element.get("max", "1"))
+                layout.hide_columns(first - 1, last - first + 1)
             if kind != "row":
                 continue
             here = int(element.get("r") or number + 1)
@@ -321,8 +360,8 @@ def rows_of_xlsx(archive: zipfile.ZipFile, place: str, shared: list[str], kinds:
             for _ in range(number + 1, here):
                 yield []
             number = here
-            if element.get("hidden") in ("1", "true"):
-                hidden.append(here)
+            if element.get("hidden") in TRUE:
+                layout.hidden_rows.append(here)
             yield cells_of_xlsx(element, shared, kinds, is_from_1904)
             element.clear()
 
