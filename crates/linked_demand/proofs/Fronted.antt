@@ -3,9 +3,10 @@ use Rattle.std.proofs.Common.{ℕ, zero, suc, ◌+◌, ◌≤◌, ◌<◌, ◌�
 use Rattle.std.proofs.Common.{get_or, inl, inr, refl, sym, ◌∙◌, ap, arith, nat_eq, nat_lt, filter, subst}
 use Rattle.std.specs.Prelude.{slice_index}
 use Rattle.std.specs.List.{list_any, range_with_len}
-use Rattle.std.proofs.lemmas.Bool.{cases_Bool, false≢true, ltb-false, ltb-true, ne_eqb}
+use Rattle.std.proofs.lemmas.Bool.{cases_Bool, cases_lt, false≢true, ltb-false, ltb-true, ne_eqb}
 use Rattle.std.proofs.lemmas.List.{get_or_default, get_or_past, length-map}
 use Rattle.std.proofs.lemmas.List.FromFn.{get_or-map-range_with_len, length-map-range_with_len}
+use Rattle.std.proofs.lemmas.Option.{slice_get_within}
 use Rattle.std.proofs.lemmas.Simd.{map-map}
 use Rattle.admit_core.specs.declared.dossier.Wish.{Wish}
 use Rattle.admit_core.specs.declared.state.Mark.{Mark}
@@ -13,7 +14,7 @@ use Rattle.admit_core.specs.declared.ranking.CallOrder.{CallOrder}
 use Rattle.admit_core.specs.Lists.{is_among}
 use Rattle.admit_core.specs.State.{State, seats_left}
 use Rattle.day_state.proofs.Along.{among-filter}
-use Rattle.linked_demand.specs.Demand.{is_proposed_at}
+use Rattle.linked_demand.specs.Demand.{all_proposed, is_proposed_at}
 use Rattle.linked_demand.specs.Fronts.{AreFronts, ListsAlso, front_of, exempt_open, reached_open}
 use Rattle.linked_demand.specs.Line.{is_reached}
 use Rattle.linked_demand.specs.Links.{AllOpenWait, LinksRow, WaitsAt, claim_of}
@@ -166,3 +167,22 @@ module _ {s : State} {orders : List CallOrder} {opens : List Bool} {reached : Li
             found_past now found (first here) second k le
             ∙ sym (none_past (is_proposed_at own) k 0 count (omega (arith, le)))
       ])
+
+-- a list that has just the proposed wishes
+module _ (l : LinksRow) (listed : List ℕ) (are : (k : ℕ) → is_among k listed ≡ is_among k (all_proposed l)) where
+  pub proposed_within : (k : ℕ) → is_among k listed ≡ true → k < length l.state.dossier.wishes
+  proposed_within k t =
+      elim (cases_lt k (length l.state.dossier.wishes)) [
+        | inl less ↦ less
+        | inr past ↦
+            let none = none_past (is_proposed_at l) k 0 (length l.state.dossier.wishes) (omega (arith, past)) in
+            absurd (false≢true (sym none ∙ sym (are k) ∙ t))
+      ]
+
+  -- has each that waits
+  pub all_listed : (k : ℕ) (w : Wish) (m : Mark) → WaitsAt l.state k w m → is_proposed_at l k ≡ true
+      → is_among k listed ≡ true
+  all_listed k w m at pass =
+      let d = l.state.dossier in
+      let lt = slice_get_within d.wishes k w (wish_of d.wishes l.state.marks k w m at.here) in
+      are k ∙ among-filter (is_proposed_at l) k (length d.wishes) lt ∙ pass

@@ -27,7 +27,6 @@ use Rattle.linked_demand.proofs.KeptAnswers.{proposed_entry}
 use Rattle.linked_demand.proofs.Closing.{wish_of}
 use Rattle.linked_demand.proofs.Demanded.{rises_row}
 use Rattle.linked_demand.proofs.Falling.{flag_map, in_front, front_at}
-use Rattle.linked_demand.proofs.HousedFronts.{nobody}
 use Rattle.linked_demand.proofs.HousedRows.{housed_fallen}
 use Rattle.linked_demand.proofs.RoundFalls.{rows_open}
 use Rattle.linked_demand.proofs.Rungs.{kept_all}
@@ -97,7 +96,7 @@ module _ (old new : LinksRow) (bars free : List ℕ) (rows : List (List RowWish)
       }
 
   module _ (overs : List (Option ℕ)) (housed : List (List Rung))
-      (all : AllHoused old nobody rows free overs housed) where
+      (all : AllHoused old (λ k. false) rows free overs housed) where
     abbrev q : ℕ → Bool
     q r = nat_le r to
 

@@ -2,19 +2,17 @@
 -- Tools: Keeping, Passing, Keyed, Dealing, Putting, PlaceOrder, Marked, Counting.
 -- The lineup: CalledRows, ClaimSpans, Lining, Seating, Lined.
 -- Open wishes and flags: Opens, Falling, Closing, Flagging, Waiting, AnyOpen, Boarding, Shutting.
--- How far seats reach: Reach, Leaving; the proposed wishes: Walking, Fronting, Listing, Fronted, NeedNoSeat,
--- BesideLive.
+-- How far seats reach: Reach, Leaving; the proposed wishes: Walking, Fronting, Listing, Fronted, NeedNoSeat.
 -- Rows of the schools: RowsTo, RowsRight, FirstBoarders, Items, RowSteps, RowFronts, Demanded, Naming.
 -- A wish is closed: Moving, Ticking, Marking, Staying; the end of a row falls: Cutting, Telling.
 -- A bar falls: OneFall, Answered, RoundFalls, TickLaw, Spending.
--- Who has a bed: Rungs, RungSteps, RowRungs, RowBeds, HousedRows, HousedFronts, HousedAll, HousedWishes, HousedMarks,
--- HousedFalls;
+-- Who has a bed: Rungs, RungSteps, RowRungs, BareRows, RowBeds, HousedRows, HousedWishes, HousedMarks, HousedFalls;
 -- the answers: KeptAnswers; the beds that are lent: Lent.
 -- The system as a whole: BarEach, Rounding, and last Lowered.
 pub mod Answered
 pub mod AnyOpen
+pub mod BareRows
 pub mod BarEach
-pub mod BesideLive
 pub mod CalledRows
 pub mod ClaimSpans
 pub mod Boarding
@@ -28,9 +26,7 @@ pub mod FirstBoarders
 pub mod Flagging
 pub mod Fronted
 pub mod Fronting
-pub mod HousedAll
 pub mod HousedFalls
-pub mod HousedFronts
 pub mod HousedMarks
 pub mod HousedRows
 pub mod HousedWishes

@@ -30,7 +30,6 @@ use Rattle.linked_demand.specs.Ticks.{changes_between}
 use Rattle.linked_demand.proofs.KeptAnswers.{answers_all}
 use Rattle.linked_demand.proofs.Falling.{flag_map}
 use Rattle.linked_demand.proofs.HousedFalls.{all_fallen}
-use Rattle.linked_demand.proofs.HousedFronts.{nobody}
 use Rattle.linked_demand.proofs.OneFall.{open_before, past_is_closed}
 use Rattle.linked_demand.proofs.RoundFalls.{round_fallen}
 use Rattle.linked_demand.proofs.RowsTo.{rows_cut}
@@ -65,7 +64,7 @@ round_built links ceilings free rows opens long each free_each rows_are items_ar
 -- a round that is built has all answers
 pub answers_built : (links : LinksRow) (bars free : List ℕ) (rows : List (List RowWish))
     → IsRound links bars free rows → (overfilled : List (Option ℕ)) (marked : List Bool) (housed : List (List Rung))
-    → length marked ≡ length links.state.dossier.wishes → AllHoused links nobody rows free overfilled housed
+    → length marked ≡ length links.state.dossier.wishes → AllHoused links (λ k. false) rows free overfilled housed
     → IsRoundUnder links bars bars free rows (record { overfilled = overfilled; marked = marked; housed = housed })
 answers_built links bars free rows right overfilled marked housed long all = record {
   round = right;
@@ -193,7 +192,7 @@ module _ {links : LinksRow} {ceilings bars free : List ℕ} {rows : List (List R
           → (housed_last : List (List Rung))
           → ((bs : List ℕ) (rs : List (List RowWish)) → IsRound new bs free rs
           → AllHoused new (λ k. get_or after k false) rs free overs_cut housed_cut
-          → AllHoused new nobody rs free answers housed_last)
+          → AllHoused new (λ k. false) rs free answers housed_last)
           → last ≡ replicate (length after) false
           → IsRoundUnder new ceilings (set bars i to) free (set rows i kept_row)
           (record { overfilled = answers; marked = last; housed = housed_last })

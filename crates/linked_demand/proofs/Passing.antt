@@ -34,18 +34,6 @@ module _ {X : Type 0} (q : X → Bool) where
         | inr dropped ↦ rw dropped (one_passes xs n x at pass)
       ]
 
-  pub none_passes : (xs : List X) (n : ℕ) (x : X) → slice_get xs n ≡ Some x → q x ≡ false
-      → passing xs (suc n) ≡ passing xs n
-  none_passes [] n x at fails = absurd (omega (arith, slice_get_within {A = X} [] n x at))
-  none_passes (y ∷ xs) zero x at fails =
-      let same : y ≡ x = ap (λ (o : Option X). unwrap_or o y) at in
-      rw (ap q same ∙ fails) refl
-  none_passes (y ∷ xs) (suc n) x at fails =
-      elim (cases_Bool (q y)) [
-        | inl kept ↦ rw kept (ap suc (none_passes xs n x at fails))
-        | inr dropped ↦ rw dropped (none_passes xs n x at fails)
-      ]
-
   -- the same of the number of the next one
   pub one_more : (xs : List X) (n m : ℕ) (x : X) → slice_get xs n ≡ Some x → m ≡ n + 1 → q x ≡ true
       → passing xs m ≡ passing xs n + 1
@@ -53,12 +41,6 @@ module _ {X : Type 0} (q : X → Bool) where
       let m_is : m ≡ suc n = omega (arith, next) in
       let more : passing xs m ≡ suc (passing xs n) = ap (passing xs) m_is ∙ one_passes xs n x at pass in
       omega (arith, more)
-
-  pub no_more : (xs : List X) (n m : ℕ) (x : X) → slice_get xs n ≡ Some x → m ≡ n + 1 → q x ≡ false
-      → passing xs m ≡ passing xs n
-  no_more xs n m x at next fails =
-      let m_is : m ≡ suc n = omega (arith, next) in
-      ap (passing xs) m_is ∙ none_passes xs n x at fails
 
   -- those of the first ones are the first ones of those
   pub passing_front : (xs : List X) (n : ℕ) → filter q (take n xs) ≡ take (passing xs n) (filter q xs)

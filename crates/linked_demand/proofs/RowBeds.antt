@@ -11,48 +11,38 @@ use Rattle.std.proofs.lemmas.List.{set-get_or}
 use Rattle.admit_core.specs.Lists.{is_among}
 use Rattle.admit_core.proofs.Tests.{Ascends}
 use Rattle.linked_demand.specs.declared.rows.RowWish.{RowWish}
-use Rattle.linked_demand.specs.Housed.{last_rank, noted, ranks_of, reached}
+use Rattle.linked_demand.specs.Housed.{last_rank, noted, ranks_of}
 use Rattle.linked_demand.specs.Rungs.{Rung, housed_in, rank_in, rank_before, is_first, rungs_to, AreBeds, BedRow}
 use Rattle.linked_demand.specs.Rungs.{GoesBare}
 use Rattle.linked_demand.specs.Rungs.{IsFirstOf}
+use Rattle.linked_demand.proofs.BareRows.{no_flag, none_housed}
 use Rattle.linked_demand.proofs.Rungs.{last_most}
-use Rattle.linked_demand.proofs.RungSteps.{few_housed, reached_housed}
+use Rattle.linked_demand.proofs.RungSteps.{few_housed}
 use Rattle.linked_demand.proofs.RowRungs.{count_push, count_same, far, few_rungs, first_place, housed_more, item_there}
 use Rattle.linked_demand.proofs.RowRungs.{last_is}
-use Rattle.linked_demand.proofs.RowRungs.{noted_first, one_known, rank_read, ranks_rise, rung_at, rungs_rise_to}
+use Rattle.linked_demand.proofs.RowRungs.{noted_first, rank_read, ranks_rise, rung_at, rungs_rise_to}
 
 abbrev pub beds : List RowWish → ℕ → List Bool → BedRow
 beds row known flags = record { row = row; known = known; flags = flags }
 
-no_flag : (n k : ℕ) → get_or (replicate n false) k false ≡ false
-no_flag zero k = refl
-no_flag (suc n) zero = refl
-no_flag (suc n) (suc k) = no_flag n k
-
--- at first nobody is known
-pub beds_along : (row : List RowWish) (flags : List Bool) → IsNonDecreasingBy (λ (x : RowWish). x.rank) row
-    → flags ≡ replicate (length row) false → AreBeds (beds row 0 flags) 0
-beds_along row flags rises is =
+-- at first everybody is known
+pub beds_along : (row : List RowWish) (flags : List Bool) (known : ℕ)
+    → IsNonDecreasingBy (λ (x : RowWish). x.rank) row → flags ≡ replicate (length row) false → known ≡ length row
+    → AreBeds (beds row known flags) 0
+beds_along row flags known rises is all =
     let none : (k : ℕ) → get_or flags k false ≡ false =
     λ k. ap (λ (fs : List Bool). get_or fs k false) is ∙ no_flag (length row) k in
     record {
       rises = rises;
-      within = omega arith;
+      within = omega (arith, all);
       one_each = ap (λ (fs : List Bool). length fs) is ∙ length-replicate (length row) false;
       known = λ k t. absurd (false≢true (sym (none k) ∙ t));
       first = λ k t. absurd (false≢true (sym (none k) ∙ t));
-      count_is = refl;
+      count_is = sym (ap (λ (fs : List Bool). length (housed_in (rungs_to row fs known))) is
+          ∙ ap (λ (ns : List ℕ). length ns) (none_housed row (length row) known));
     }
 
 module _ {row : List RowWish} {known count : ℕ} {flags : List Bool} (are : AreBeds (beds row known flags) count) where
-  -- no flag is set behind the known places
-  pub flag_behind : (k : ℕ) → known ≤ k → get_or flags k false ≡ false
-  flag_behind k le =
-      elim (cases_Bool (get_or flags k false)) [
-        | inl t ↦ absurd (omega (arith, le, are.known k t))
-        | inr none ↦ none
-      ]
-
   -- the known ranks rise
   pub ranks_up : Ascends (0 ∷ ranks_of (rungs_to row flags known))
   ranks_up = rungs_rise_to row are.rises flags known are.within
@@ -60,23 +50,6 @@ module _ {row : List RowWish} {known count : ℕ} {flags : List Bool} (are : Are
   pub most_known : (r : ℕ) → is_among r (ranks_of (rungs_to row flags known)) ≡ true
       → r ≤ last_rank (rungs_to row flags known)
   most_known r t = last_most (rungs_to row flags known) r ranks_up.1 t
-
-  -- one place more
-  pub rungs_advanced : known < length row → (m : ℕ) → m ≡ known + 1
-      → rungs_to row flags m ≡ reached (rank_in row known) (rungs_to row flags known)
-  rungs_advanced lt m more = one_known row are.rises flags known m lt (flag_behind known (omega arith)) more
-
-  pub beds_advanced : known < length row → (m : ℕ) → m ≡ known + 1 → AreBeds (beds row m flags) count
-  beds_advanced lt m more = record {
-    rises = are.rises;
-    within = omega (arith, lt, more);
-    one_each = are.one_each;
-    known = λ k t. omega (arith, are.known k t, more);
-    first = are.first;
-    count_is = are.count_is
-        ∙ ap (λ (ns : List ℕ). length ns) (sym (reached_housed (rank_in row known) (rungs_to row flags known)))
-        ∙ ap (λ (xs : List Rung). length (housed_in xs)) (sym (rungs_advanced lt m more));
-  }
 
   -- the last known rank
   pub last_none : known ≡ 0 → 0 ≡ last_rank (rungs_to row flags known)

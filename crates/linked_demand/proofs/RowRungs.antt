@@ -1,8 +1,8 @@
 -- The ranks that are known along a row: its last place is added or taken away, and flags change.
 use Rattle.std.proofs.Common.{ℕ, zero, suc, ◌+◌, ◌≤◌, ◌<◌, ◌≡◌, Bool, true, false, List, [], ◌∷◌, ◌++◌, ◌||◌}
-use Rattle.std.proofs.Common.{length, get_or, inl, inr, refl, sym, ◌∙◌, ap, arith, nat_eq, nat_lt, set}
+use Rattle.std.proofs.Common.{length, get_or, inl, inr, refl, sym, ◌∙◌, ap, arith, nat_eq, set}
 use Rattle.std.proofs.Common.{Some, Option, unwrap_or, option_map}
-use Rattle.std.specs.Prelude.{slice_get, if◌then◌else◌}
+use Rattle.std.specs.Prelude.{slice_get}
 use Rattle.std.specs.List.Sorted.{IsNonDecreasingBy}
 use Rattle.std.proofs.lemmas.Bool.{cases_Bool, cases_eq, false≢true, eq-eqb, eqb-true, ltb-true, ltb-false, ne_eqb}
 use Rattle.std.proofs.lemmas.Bool.{or_cases, false_from_ne_true}
@@ -12,7 +12,7 @@ use Rattle.admit_core.specs.Lists.{is_among}
 use Rattle.admit_core.proofs.Plain.{or_false, or_true}
 use Rattle.admit_core.proofs.Tests.{Ascends}
 use Rattle.linked_demand.specs.declared.rows.RowWish.{RowWish}
-use Rattle.linked_demand.specs.Housed.{ranks_of, last_rank, noted, reached}
+use Rattle.linked_demand.specs.Housed.{ranks_of, last_rank, noted}
 use Rattle.linked_demand.specs.Rungs.{Rung, housed_in, rank_in, rank_before, is_first, rungs_to}
 use Rattle.linked_demand.proofs.Rungs.{among_push, housed_push, housed_same, last_most, noted_none, rises_push}
 use Rattle.linked_demand.proofs.RungSteps.{last_pushed}
@@ -114,7 +114,7 @@ module _ (row : List RowWish) where
           rank_read row k x lt,
         )
 
-    before_rises : (k : ℕ) → k < length row → rank_before row k ≤ rank_in row k
+    pub before_rises : (k : ℕ) → k < length row → rank_before row k ≤ rank_in row k
     before_rises zero lt = omega arith
     before_rises (suc k) lt = ranks_rise k (suc k) (omega arith) lt
 
@@ -149,18 +149,6 @@ module _ (row : List RowWish) where
               (omega (arith, last_is flags n (omega (arith, le)), ltb-true (rank_before row n) (rank_in row n) first)))
           | inr later ↦ rw later rest
         ]
-
-    -- one place more, which has no flag
-    pub one_known : (flags : List Bool) (n m : ℕ) → n < length row → get_or flags n false ≡ false → m ≡ n + 1
-        → rungs_to row flags m ≡ reached (rank_in row n) (rungs_to row flags n)
-    one_known flags n m lt bare more =
-        let xs = rungs_to row flags n in
-        let next : m ≡ suc n = omega (arith, more) in
-        ap (rungs_to row flags) next
-        ∙ ap (λ b. if is_first row n then xs ++ (record { rank = rank_in row n; housed = b } ∷ []) else xs) bare
-        ∙ ap (λ k. if nat_lt k (rank_in row n)
-        then xs ++ (record { rank = rank_in row n; housed = false } ∷ []) else xs)
-        (sym (last_is flags n (omega (arith, lt))))
 
     -- the flag of the first place of a rank is set
     pub noted_first : (flags : List Bool) (k n : ℕ) → k < n → n ≤ length row → k < length flags

@@ -1,17 +1,17 @@
 -- Steps of a list of rungs: one is taken away, put, or noted in its place.
-use Rattle.std.proofs.Common.{ℕ, suc, ◌+◌, ◌≤◌, ◌<◌, ◌≡◌, ◌⊎◌, true, false, List, [], ◌∷◌, ◌++◌}
-use Rattle.std.proofs.Common.{length, inl, inr, refl, sym, ◌∙◌, ap, arith, nat_eq, nat_lt, nat_le}
+use Rattle.std.proofs.Common.{ℕ, suc, ◌+◌, ◌≤◌, ◌<◌, ◌≡◌, true, false, List, [], ◌∷◌, ◌++◌}
+use Rattle.std.proofs.Common.{length, inl, inr, refl, sym, ◌∙◌, ap, arith, nat_lt, nat_le}
 use Rattle.std.proofs.Common.{Some, None, Option, subst, append-nil, append_assoc}
 use Rattle.std.specs.Prelude.{IfSome, IfNone}
-use Rattle.std.proofs.lemmas.Bool.{cases_Bool, eq-eqb, eqb-true, or_cases, or_left, or_right}
-use Rattle.std.proofs.lemmas.Bool.{false_from_ne_true, le-leb, leb-true, ltb-false, ltb-true}
+use Rattle.std.proofs.lemmas.Bool.{cases_Bool}
+use Rattle.std.proofs.lemmas.Bool.{false_from_ne_true, le-leb, leb-true}
 use Rattle.std.proofs.lemmas.List.{length-append}
 use Rattle.admit_core.specs.Lists.{is_among}
 use Rattle.admit_core.proofs.Tests.{Ascends}
 use Rattle.linked_demand.specs.Rungs.{Rung, housed_in, GoesBare}
-use Rattle.linked_demand.specs.Housed.{ranks_of, kept, last_rank, reached, GivesUp}
-use Rattle.linked_demand.proofs.Rungs.{among_push, housed_append, housed_same, kept_all, kept_push}
-use Rattle.linked_demand.proofs.Rungs.{kept_seam, last_known, last_more, rises_push}
+use Rattle.linked_demand.specs.Housed.{ranks_of, kept, last_rank, GivesUp}
+use Rattle.linked_demand.proofs.Rungs.{housed_append, kept_all, kept_push}
+use Rattle.linked_demand.proofs.Rungs.{kept_seam, last_more}
 
 -- ranks at most at a number are kept
 pub cut_all : (xs : List Rung) (last to : ℕ) → ((r : ℕ) → is_among r (ranks_of xs) ≡ true → r ≤ last) → last ≤ to
@@ -102,52 +102,3 @@ few_housed (x ∷ xs) =
       | inl has ↦ rw has (omega (arith, rest))
       | inr none ↦ rw none (omega (arith, rest))
     ]
-
--- a rank that is reached
-module _ (r : ℕ) (xs : List Rung) where
-  abbrev one : Rung
-  one = record { rank = r; housed = false }
-
-  pub reached_housed : housed_in (reached r xs) ≡ housed_in xs
-  reached_housed =
-      elim (cases_Bool (nat_lt (last_rank xs) r)) [
-        | inl above ↦ rw above (housed_same xs one refl)
-        | inr not_above ↦ rw not_above refl
-      ]
-
-  pub reached_rises : Ascends (0 ∷ ranks_of xs) → Ascends (0 ∷ ranks_of (reached r xs))
-  reached_rises rises =
-      elim (cases_Bool (nat_lt (last_rank xs) r)) [
-        | inl above ↦ rw above (rises_push xs one rises (ltb-true (last_rank xs) r above))
-        | inr not_above ↦ rw not_above rises
-      ]
-
-  pub reached_known : (q : ℕ) → is_among q (ranks_of xs) ≡ true → is_among q (ranks_of (reached r xs)) ≡ true
-  reached_known q t =
-      elim (cases_Bool (nat_lt (last_rank xs) r)) [
-        | inl above ↦ rw above (among_push q xs one ∙ or_left (is_among q (ranks_of xs)) (nat_eq q r) t)
-        | inr not_above ↦ rw not_above t
-      ]
-
-  pub reached_own : 0 < r → last_rank xs ≤ r → is_among r (ranks_of (reached r xs)) ≡ true
-  reached_own some le =
-      elim (cases_Bool (nat_lt (last_rank xs) r)) [
-        | inl above ↦ rw above (among_push r xs one
-            ∙ or_right (is_among r (ranks_of xs)) (nat_eq r r) (eq-eqb r r refl))
-        | inr not_above ↦ rw not_above (
-            let high = ltb-false (last_rank xs) r not_above in
-            let same : last_rank xs ≡ r = omega (arith, high, le) in
-            ap (λ n. is_among n (ranks_of xs)) (sym same) ∙ last_known xs (omega (arith, same, some)))
-      ]
-
-  pub reached_from : (q : ℕ) → is_among q (ranks_of (reached r xs)) ≡ true
-      → (is_among q (ranks_of xs) ≡ true) ⊎ (q ≡ r)
-  reached_from q t =
-      elim (cases_Bool (nat_lt (last_rank xs) r)) [
-        | inl above ↦ elim (or_cases (is_among q (ranks_of xs)) (nat_eq q r)
-            (sym (among_push q xs one) ∙ (rw above at t))) [
-              | inl was ↦ inl was
-              | inr now ↦ inr (eqb-true q r now)
-            ]
-        | inr not_above ↦ inl (rw not_above at t)
-      ]

@@ -1,6 +1,7 @@
 -- The demanded ranks of a school, as its row tells them.
-use Rattle.std.specs.Prelude.{ℕ, Bool, false, ◌&&◌, List, [], ◌∷◌, Option, option_map}
+use Rattle.std.specs.Prelude.{ℕ, Bool, false, ◌&&◌, List, [], ◌∷◌, length, filter, Option, option_map}
 use Rattle.std.specs.Prelude.{unwrap_or, nat_lt, slice_get, slice_index, slice_index_or, if◌then◌else◌}
+use Rattle.std.specs.List.{range_with_len}
 use Rattle.admit_core.specs.declared.ranking.CallOrder.{CallOrder}
 use Rattle.admit_core.specs.State.{State, entries}
 use Rattle.admit_core.specs.Proposals.{demanded_ranks}
@@ -15,6 +16,10 @@ is_proposed_at l i =
     unwrap_or (option_map
     (λ e. is_proposed_by l.state l.orders l.opens e.0 e.1 (slice_index_or l.opens i false))
     (slice_get (entries l.state) i)) false
+
+-- the places of all wishes that are
+abbrev pub all_proposed : LinksRow → List ℕ
+all_proposed l = filter (is_proposed_at l) (range_with_len 0 (length l.state.dossier.wishes))
 
 -- of those in a row who pass, the first of each rank above a last one
 abbrev pub firsts : (ℕ → Bool) → ℕ → List RowWish → List Demand

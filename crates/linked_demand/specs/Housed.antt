@@ -1,8 +1,9 @@
 -- The ranks of a school's row that are known, and which of them have a bed.
 use Rattle.std.specs.Prelude.{◌≡◌, ℕ, nat_eq, nat_lt, ◌-◌, ◌≤◌, ◌<◌, Bool, true, false, ◌||◌, List, [], ◌∷◌, ◌++◌}
-use Rattle.std.specs.Prelude.{length, map, filter}
+use Rattle.std.specs.Prelude.{length, map, filter, take, Vec}
 use Rattle.std.specs.Prelude.{Option, Some, None, option_map, unwrap_or, if◌then◌else◌, slice_get, slice_index}
 use Rattle.std.specs.Prelude.{slice_index_or}
+use Rattle.std.specs.declared.alloc.Global.{Global}
 use Rattle.admit_core.specs.Lists.{is_among}
 use Rattle.admit_core.proofs.Tests.{Ascends}
 use Rattle.linked_demand.specs.Rungs.{Rung, housed_in}
@@ -20,11 +21,6 @@ kept q xs = filter (λ x. q x.rank) xs
 -- the last rank, or 0
 abbrev pub last_rank : List Rung → ℕ
 last_rank xs = unwrap_or (option_map (λ x. x.rank) (slice_get xs (length xs - 1))) 0
-
--- a rank that isn't below the last one is known
-abbrev pub reached : ℕ → List Rung → List Rung
-reached r xs =
-    if nat_lt (last_rank xs) r then xs ++ record { rank = r; housed = false } ∷ [] else xs
 
 -- a rank has a bed, if it is known
 abbrev pub noted : ℕ → List Rung → List Rung
@@ -75,3 +71,17 @@ pub record AllHoused (l : LinksRow) (left : ℕ → Bool) (rows : List (List Row
   pub each : (h : ℕ) (row : List RowWish) → slice_get rows h ≡ Some row
       → AreHoused (is_proposed_at l) left row (slice_index free h)
       (slice_index_or overfilled h None) (slice_index_or housed h [])
+
+-- all ranks of the first boarders of a school are known, and none has a bed
+pub record IsBare (front : List RowWish) (xs : List Rung) : Type 0 where
+  pub rises : Ascends (0 ∷ ranks_of xs)
+  pub none : housed_in xs ≡ []
+  pub known : (k : ℕ) (x : RowWish) → slice_get front k ≡ Some x → 0 < x.rank
+      → is_among x.rank (ranks_of xs) ≡ true
+
+-- so in each school
+pub record AreBare (boarders : List (Vec RowWish Global)) (ends : List ℕ)
+    (housed : List (List Rung)) : Type 0 where
+  pub one_each : length housed ≡ length boarders
+  pub each : (h : ℕ) (own : Vec RowWish Global) → slice_get boarders h ≡ Some own
+      → IsBare (take (slice_index ends h) own.items) (slice_index_or housed h [])

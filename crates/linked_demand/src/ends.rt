@@ -33,11 +33,11 @@ pub fn ends_of(
 }
 
 /// The first boarders of a school, as many as rank at most at its bar.
-pub fn front_in<'a>(boarders: &'a [Vec<RowWish>], ends: &[usize], school: u32) -> &'a [RowWish]
+pub fn front_in<'a>(boarders: &'a [Vec<RowWish>], ends: &[usize], school: usize) -> &'a [RowWish]
     requires ends { AreEnds boarders.now ends.now }
     requires school { school < length boarders.now }
     ensures { AreFirst boarders.now ends.now school result.now }
 {
-    let own = boarders[school as usize].as_slice();
-    &own[..ends[school as usize]]
+    let own = boarders[school].as_slice();
+    &own[..ends[school]]
 }

@@ -1,13 +1,11 @@
 //! Who has a bed in each school.
-ghost use Rattle.std.specs.Prelude.{◌≡◌, ℕ, ◌<◌, ◌&&◌, Bool, List, None, [], false, length, nat_eq, nat_le, not, replicate, slice_index_or, slice_set, IfOk};
-ghost use Rattle.linked_demand.specs.declared.rows.RowWish.{RowWish};
-ghost use Rattle.linked_demand.specs.Demand.{is_proposed_at};
-ghost use Rattle.linked_demand.specs.Housed.{kept, within, AllHoused, AreHoused};
+ghost use Rattle.std.specs.Prelude.{◌≡◌, ℕ, ◌<◌, ◌&&◌, All, Bool, None, [], false, length, nat_eq, nat_le, not, replicate, slice_index_or, slice_set, IfOk};
+ghost use Rattle.admit_core.specs.Lists.{is_among};
+ghost use Rattle.linked_demand.specs.Housed.{kept, within, AreBare};
 ghost use Rattle.linked_demand.specs.Lent.{left_of};
 ghost use Rattle.linked_demand.specs.Links.{AllOpenWait};
-ghost use Rattle.linked_demand.specs.Rounds.{HousesMore, IsRound};
-ghost use Rattle.linked_demand.specs.Boarders.{AreBySchool};
-ghost use Rattle.linked_demand.specs.Rows.{row_in, rows_to, AreEnds, AreOpenFirst};
+ghost use Rattle.linked_demand.specs.Rounds.{HousesMore};
+ghost use Rattle.linked_demand.specs.Rows.{AreByRankEach, AreEnds};
 
 use crate::beds::left_in;
 use crate::ends::front_in;
@@ -17,76 +15,28 @@ use crate::marks::Marks;
 use crate::overfilled::Overfilled;
 use crate::row_beds::RowBeds;
 use crate::rows::RowWish;
-use crate::schools::school_count;
 use admit_core::OutOfMemory;
 use proposals::wish_at;
 use std::alloc::Global;
 
-/// The ranks of a school that have a bed, and the first demanded one that has none, if there is
-/// one.
-#[derive(Drop)]
-struct Housing<'a> {
-    housed: Housed<'a>,
-    over: Option<u32>,
-}
-
-/// Houses the demanded ranks of the first boarders of a school, from the least, as far as there are
-/// beds.
-fn house_row<'a>(
+/// Rows of which all boarders up to the ends are known, and nobody has a bed.
+pub fn bare_rows<'a>(
     alloc: Global,
-    links: &SeatLinks<'_, '_>,
-    front: &'a [RowWish],
-    beds: u32,
-) -> Result<Housing<'a>, OutOfMemory>
-    requires { AreOpenFirst links.now front.now }
-    ensures { IfOk result (λ v. AreHoused (is_proposed_at links.now) (λ k. false)
-        (row_in links.now.state front.now) beds v.over v.housed) }
-{
-    let mut found = RowBeds::along(alloc, front)?;
-    for item in front {
-        found.advance();
-        if links.demands(item) {
-            let over = found.house(item.rank, beds);
-            if over.is_some() {
-                let housed = Housed::of(found);
-                return Ok(Housing { housed, over });
-            }
-        }
-    }
-    let housed = Housed::of(found);
-    Ok(Housing { housed, over: None })
-}
-
-/// Houses the demanded ranks of all schools, of which none is overfilled yet, as far as these beds
-/// go.
-pub fn house_all<'a>(
-    alloc: Global,
-    links: &SeatLinks<'_, '_>,
     boarders: &'a [Vec<RowWish>],
     ends: &[usize],
-    beds: &[u32],
-    overfilled: &mut Overfilled,
 ) -> Result<Vec<Housed<'a>>, OutOfMemory>
-    requires boarders { AreBySchool links.now.state.dossier links.now.orders boarders.now }
+    requires rows { AreByRankEach boarders.now }
     requires ends { AreEnds boarders.now ends.now }
-    requires beds { length beds.now ≡ length links.now.state.dossier.schools }
-    requires rows { (bars : List ℕ) × IsRound links.now bars (left_of links.now.state beds.now)
-        (rows_to links.now.state boarders.now ends.now) }
-    requires overfilled { length overfilled.old ≡ length boarders.now }
-    ensures { IfOk result (λ v. AllHoused links.now (λ k. false) (rows_to links.now.state
-        boarders.now ends.now) (left_of links.now.state beds.now) overfilled.new v.items) }
+    ensures { IfOk result (λ v. AreBare boarders.now ends.now v.items) }
 {
-    let state = links.state();
-    let count = school_count(state);
-    let mut all = Vec::with_capacity(alloc, count as usize)?;
+    let count = boarders.len();
+    let mut rows = Vec::with_capacity(alloc, count)?;
     for school in 0..count {
         let front = front_in(boarders, ends, school);
-        let free = left_in(state, beds, school);
-        let Housing { housed, over } = house_row(alloc, links, front, free)?;
-        all.push(housed)?;
-        overfilled.put(school, over);
+        let row = RowBeds::along(alloc, front)?;
+        rows.push(Housed::of(row))?;
     }
-    Ok(all)
+    Ok(rows)
 }
 
 /// Takes away the beds of a school of those who rank past a bar.
@@ -155,5 +105,28 @@ pub fn house_marked(
 {
     while let Some(wish) = marked.take() {
         house_wish(links, beds, wish, housed, overfilled);
+    }
+}
+
+/// Houses those of some wishes that demand a bed.
+pub fn house_listed(
+    links: &SeatLinks<'_, '_>,
+    beds: &[u32],
+    wishes: &[u32],
+    housed: &mut Vec<Housed<'_>>,
+    overfilled: &mut Overfilled,
+)
+    requires wishes { All (λ k. k < length links.now.state.dossier.wishes) wishes.now }
+    requires waits { AllOpenWait links.now.state links.now.opens }
+    requires beds { length beds.now ≡ length links.now.state.dossier.schools }
+    requires housed { length housed.old.items ≡ length links.now.state.dossier.schools }
+    requires overfilled { length overfilled.old ≡ length links.now.state.dossier.schools }
+    ensures { HousesMore links.now (left_of links.now.state beds.now)
+        (λ k. is_among k wishes.now) (λ k. false)
+        (record { overfilled = overfilled.old; housed = housed.old.items })
+        (record { overfilled = overfilled.new; housed = housed.new.items }) }
+{
+    for wish in wishes {
+        house_wish(links, beds, *wish, housed, overfilled);
     }
 }

@@ -1,22 +1,22 @@
 //! Who is served in each programme while wishes are closed.
-ghost use Rattle.std.specs.Prelude.{◌≡◌, ◌+◌, ◌<◌, ◌&&◌, ◌||◌, true, false, not, length, filter, slice_set, slice_index_or, count_by, IfOk};
-ghost use Rattle.std.specs.List.{enumerate_from, range_with_len};
+ghost use Rattle.std.specs.Prelude.{◌≡◌, ℕ, ◌+◌, ◌<◌, ◌&&◌, ◌||◌, true, false, not, length, slice_set, slice_index_or, count_by, IfOk};
+ghost use Rattle.std.specs.List.{enumerate_from};
 ghost use Rattle.admit_core.specs.State.{entries, is_waiting};
 ghost use Rattle.day_state.specs.Bundles.{seat_bundle};
 ghost use Rattle.day_state.specs.Kept.{has_seat_there, mark_in};
-ghost use Rattle.linked_demand.specs.Beside.{AreBeside};
+ghost use Rattle.admit_core.specs.Lists.{is_among};
 ghost use Rattle.linked_demand.specs.Marks.{is_new, MarksWishes};
 ghost use Rattle.linked_demand.specs.Lineups.{IsLineupOf};
 ghost use Rattle.linked_demand.specs.Opens.{all_exempt, opens_of};
 ghost use Rattle.admit_core.specs.declared.dossier.Wish.{Wish};
 ghost use Rattle.admit_core.specs.declared.state.Mark.{Mark};
 ghost use Rattle.linked_demand.specs.Links.{LinksRow, WaitsAt, AllOpenWait};
-ghost use Rattle.linked_demand.specs.Demand.{is_proposed_at};
+ghost use Rattle.linked_demand.specs.Demand.{all_proposed, is_proposed_at};
 ghost use Rattle.std.specs.Option.{ForSome};
 ghost use Rattle.linked_demand.specs.Filled.{bed_sought, wants_bed};
 ghost use Rattle.linked_demand.specs.Rows.{needs_bed, row_item, IsItem, IsOpenItem};
 
-use crate::beside::Beside;
+use crate::beside::waiting_beside;
 use crate::closed::leaves_by_closing;
 use crate::cursors::Cursors;
 use crate::fresh::note_fresh;
@@ -27,7 +27,7 @@ use crate::marks::Marks;
 use crate::notes::Notes;
 use crate::open_wishes::OpenWishes;
 use crate::opening::open_under;
-use crate::rows::{RowWish, has_item_bed};
+use crate::rows::{RowWish, has_item_bed, is_item_live};
 use crate::seats::{needs_no_seat, reached_of};
 use crate::wishes::waits;
 use admit_core::{CallOrders, OutOfMemory, Steps};
@@ -48,14 +48,13 @@ fn is_seated(state: &DayState<'_>, notes: &Notes, wish: u32, reached: bool) -> b
 }
 
 /// Whether a wish of a row has a seat where it is open, by what its item tells, if it waits.
-fn is_item_seated(state: &DayState<'_>, beside: &Beside, item: &RowWish, reached: bool) -> bool
-    requires beside { AreBeside state.now beside.now }
+fn is_item_seated(state: &DayState<'_>, item: &RowWish, reached: bool) -> bool
     requires wish { item.now.wish < length state.now.dossier.wishes }
     requires bundle { item.now.bundle ≡ seat_bundle state.now.dossier item.now.wish }
     ensures { is_waiting (mark_in state.now.marks item.now.wish) ≡ true → result ≡ (reached
         || (item.now.called_by_limit || has_seat_there state.now item.now.wish)) }
 {
-    reached || (item.called_by_limit || beside.is_live(state, item.bundle))
+    reached || (item.called_by_limit || is_item_live(state, item))
 }
 
 /// The same of a wish that may be closed.
@@ -76,7 +75,7 @@ pub struct SeatLinks<'a, 'd> {
     lineup: &'a Lineup,
     reached: Vec<usize>,
     cursors: Cursors,
-    beside: Beside,
+    beside: Vec<u32>,
 }
 
 // Not derived: so links are dropped in one step where they are held, and not list by list.
@@ -107,7 +106,7 @@ impl<'a, 'd> Model for SeatLinks<'a, 'd> {
     } };
 
     ghost invariant = { λ l. AreKept l.state.now l.orders.now.orders l.opens
-        l.reached.items l.lineup.now l.beside };
+        l.reached.items l.lineup.now l.beside.items };
 }
 
 impl<'a, 'd> SeatLinks<'a, 'd> {
@@ -132,7 +131,7 @@ impl<'a, 'd> SeatLinks<'a, 'd> {
         let reached = reached_of(alloc, state, orders, lineup, &opens)?;
         let claims = state.shared_in_programmes().len() / 2; // each has two of these or more
         let cursors = Cursors::new(alloc, claims)?;
-        let beside = Beside::of_state(alloc, state)?;
+        let beside = waiting_beside(alloc, state)?;
         Ok(SeatLinks {
             state,
             orders,
@@ -151,7 +150,7 @@ impl<'a, 'd> SeatLinks<'a, 'd> {
     {
         let front = self.reached[item.programme as usize];
         let reached = is_reached(item.place as usize, front);
-        is_item_seated(self.state, &self.beside, item, reached)
+        is_item_seated(self.state, item, reached)
     }
 
     /// Closes a waiting wish. It ticks once for each wish that becomes proposed and is open under
@@ -243,8 +242,9 @@ impl<'a, 'd> SeatLinks<'a, 'd> {
         ensures sought { result ≡ bed_sought self.now wish }
         ensures school { ForSome result (λ h. h < length self.now.state.dossier.schools) }
     {
+        let school = wish_at(self.state, wish).school?;
         if self.wants_bed(wish) && self.is_proposed(wish) {
-            return wish_at(self.state, wish).school;
+            return Some(school);
         }
         None
     }
@@ -256,18 +256,29 @@ impl<'a, 'd> SeatLinks<'a, 'd> {
         self.opens.get(wish)
     }
 
-    /// The places of the wishes that are proposed, ascending, where those that are open wait. Each
-    /// is met in the claims that the seats reach, or needs no seat, or both.
-    pub fn proposed_places(&self, alloc: Global) -> Result<Vec<u32>, OutOfMemory>
+    /// The places of the wishes that are proposed, in no order, and some of them more than once,
+    /// where those that are open wait. Each is met in the claims that the seats reach, or needs no
+    /// seat, or both.
+    pub fn proposed_listed(&self, alloc: Global) -> Result<Vec<u32>, OutOfMemory>
         requires { AllOpenWait self.now.state self.now.opens }
-        ensures { IfOk result (λ v. v.items ≡ filter (is_proposed_at self.now)
-            (range_with_len 0 (length self.now.state.dossier.wishes))) }
+        ensures { IfOk result (λ v. (k : ℕ) → is_among k v.items
+            ≡ is_among k (all_proposed self.now)) }
     {
         let lineup = self.lineup;
         let mut found = Vec::new(alloc);
         list_open(&self.opens, &lineup.limited, &mut found)?;
-        list_open(&self.opens, self.beside.wishes(), &mut found)?;
+        list_open(&self.opens, &self.beside, &mut found)?;
         list_fronts(&self.opens, &lineup.claims, &self.reached, &mut found)?;
+        Ok(found)
+    }
+
+    /// The places of the wishes that are proposed, ascending, each once, where those that are open
+    /// wait.
+    pub fn proposed_places(&self, alloc: Global) -> Result<Vec<u32>, OutOfMemory>
+        requires { AllOpenWait self.now.state self.now.opens }
+        ensures { IfOk result (λ v. v.items ≡ all_proposed self.now) }
+    {
+        let mut found = self.proposed_listed(alloc)?;
         found.sort_unstable();
         found.dedup();
         Ok(found)

@@ -253,7 +253,7 @@ impl Falling for LinkedRound<'_, '_> {
     }
 
     fn names(&self, alloc: Global, i: u32, upto: u32) -> Result<Vec<u32>, OutOfMemory> {
-        let first = front_in(self.boarders, &self.ends, i);
+        let first = front_in(self.boarders, &self.ends, i as usize);
         let front = front_of(first, upto);
         let demands = demands_in(alloc, &self.links, front)?;
         names_up_to(alloc, &demands, upto)
@@ -276,7 +276,7 @@ impl Falling for LinkedRound<'_, '_> {
             (bar_each self.new.ceilings self.new.bars) }
     {
         self.bars[i as usize] = to;
-        let front = front_in(self.boarders, &self.ends, i);
+        let front = front_in(self.boarders, &self.ends, i as usize);
         let marked = &mut self.marked;
         let end = close_past(&mut self.links, front, to, &self.bars, marked, steps);
         self.ends[i as usize] = end;

@@ -2,8 +2,8 @@
 ghost use Rattle.std.specs.Prelude.{◌≡◌, ℕ, ◌+◌, ◌≤◌, ◌<◌, ◌++◌, ◌∷◌, [], true, false, length, nat_le, nat_lt, replicate, IfNone, IfSome, IfOk};
 ghost use Rattle.std.specs.List.Sorted.{IsNonDecreasingBy, IsPartitionPoint};
 ghost use Rattle.admit_core.specs.Lists.{is_among};
-ghost use Rattle.linked_demand.specs.Rungs.{housed_in, rank_in, rungs_of, GoesBare, IsFirstOf};
-ghost use Rattle.linked_demand.specs.Housed.{GivesUp, kept, last_rank, noted, ranks_of, reached};
+ghost use Rattle.linked_demand.specs.Rungs.{housed_in, rungs_of, GoesBare, IsFirstOf};
+ghost use Rattle.linked_demand.specs.Housed.{GivesUp, kept, last_rank, noted, ranks_of};
 
 use crate::rows::RowWish;
 use admit_core::OutOfMemory;
@@ -54,32 +54,22 @@ fn first_item(row: &[RowWish], rank: u32) -> usize
 }
 
 impl<'a> RowBeds<'a> {
-    /// A row of which nobody is known.
+    /// A row of which everybody is known and nobody has a bed.
     pub fn along(alloc: Global, row: &'a [RowWish]) -> Result<RowBeds<'a>, OutOfMemory>
         requires { IsNonDecreasingBy (λ x. x.rank) row.now }
         ensures { IfOk result (λ b. b ≡ record {
           row = row.now;
-          known = 0;
+          known = length row.now;
           flags = replicate (length row.now) false;
         }) }
     {
         let flags = vec![in alloc; false; row.len()]?;
         Ok(RowBeds {
             row,
-            known: 0,
+            known: row.len(),
             flags,
             count: 0,
         })
-    }
-
-    /// Makes the next boarder known.
-    pub fn advance(&mut self)
-        requires { self.old.known < length self.old.row }
-        ensures known { self.new ≡ record self.old { known = self.old.known + 1 } }
-        ensures rungs { rungs_of self.new
-            ≡ reached (rank_in self.old.row self.old.known) (rungs_of self.old) }
-    {
-        self.known += 1;
     }
 
     /// How many ranks have a bed.

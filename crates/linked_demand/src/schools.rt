@@ -6,7 +6,7 @@ ghost use Rattle.linked_demand.specs.Rounds.{IsRoundAlong};
 
 use crate::ends::ends_of;
 use crate::housed::Housed;
-use crate::housing::house_all;
+use crate::housing::{bare_rows, house_listed};
 use crate::links::SeatLinks;
 use crate::marks::Marks;
 use crate::overfilled::Overfilled;
@@ -56,7 +56,9 @@ pub fn schools_of<'a>(
     let mut overfilled = Overfilled::none(alloc, school_count(state))?;
     let marked = Marks::none(alloc, wish_count(state))?;
     let ends = ends_of(alloc, boarders, bars)?;
-    let housed = house_all(alloc, links, boarders, &ends, beds, &mut overfilled)?;
+    let mut housed = bare_rows(alloc, boarders, &ends)?;
+    let proposed = links.proposed_listed(alloc)?;
+    house_listed(links, beds, &proposed, &mut housed, &mut overfilled);
     Ok(Schools {
         ends,
         overfilled,

@@ -1,41 +1,13 @@
-use Rattle.std.proofs.Common.{ℕ, List, ◌&&◌, false, get_or, length, ap, ◌∙◌, eqb, subst}
+use Rattle.std.proofs.Common.{length, eqb}
 use Rattle.std.proofs.lemmas.List.Filters.{dedup_is}
-use Rattle.admit_core.specs.Lists.{is_among}
 use Rattle.linked_demand.specs.Demand.{is_proposed_at}
-use Rattle.linked_demand.specs.Fronts.{ListsAlso, reached_open}
-use Rattle.linked_demand.proofs.Fronted.{found_right, fronts}
 use Rattle.linked_demand.proofs.Listing.{in_order_once}
-use Rattle.linked_demand.proofs.NeedNoSeat.{exempt_listed}
 use Rattle.linked_demand.proofs.links.SeatLinks.proposed_places.Goals as goal
-
-pub list_fronts-requires : goal.list_fronts-requires
-list_fronts-requires c = rw (c.deref-2.ensures.value, c.deref-3.ensures.value) (fronts c.self.invariant.reach)
 
 pub returns : goal.returns
 returns c =
-    let r = c.self.inside in
-    let s = r.state.now in
-    let kept = c.self.invariant in
-    let right = kept.reach in
-    let opens = r.opens in
-    let lines = r.lineup.now.claims.items in
-    let wishes = c.deref.result.now in
-    let first = c.list_open.new.found.items in
-    let now = c.list_open-2.new.found.items in
-    let found = c.list_fronts.new.found.items in
     let row = c.args.self.now in
-    let Also = λ (old : List ℕ). ListsAlso (λ k. is_among k wishes && get_or opens k false) old first in
-    let by_limit = subst Also c.new-found.ensures.items c.in_ok-list_open.ensures in
-    let listed = λ (k : ℕ). ap (is_among k) c.wishes.ensures ∙ kept.beside_are.wishes_are k in
-    let third : ListsAlso (reached_open opens lines r.reached.items (length lines)) now found =
-    rw (c.deref-2.ensures.value, c.deref-3.ensures.value) at c.in_ok-list_fronts.ensures in
-    in_order_once (is_proposed_at row) (length row.state.dossier.wishes) found c.sort_unstable.new.self.items
-    c.dedup.new.self.items
-    (found_right right row c.self.view_is c.requires now found
-    (λ waits. exempt_listed s right.links.marks_each r.orders.now.orders r.lineup.now.notes.called_by_limit
-    kept.notes_are.called_are opens waits
-    wishes (c.deref.ensures.value ∙ kept.limited_are) c.wishes.result.now listed first now by_limit
-    c.in_ok-list_open-2.ensures)
-    third)
+    in_order_once (is_proposed_at row) (length row.state.dossier.wishes) c.in_ok-found.found.items
+    c.sort_unstable.new.self.items c.dedup.new.self.items c.in_ok-found.ensures
     c.sort_unstable.ensures.permutation c.sort_unstable.ensures.sorted
     (dedup_is eqb c.sort_unstable.new.self.items c.dedup.new.self.items c.dedup.ensures.filtered)

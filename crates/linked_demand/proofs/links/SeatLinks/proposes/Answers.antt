@@ -15,7 +15,6 @@ pub is_item_seated-requires : goal.is_item_seated-requires
 is_item_seated-requires c =
     let reach = c.self.invariant.reach in
     record {
-      beside = c.self.invariant.beside_are;
       wish = own_within reach c.args.self.now c.self.view_is c.args.item.now c.requires;
       bundle = own_bundle reach c.args.self.now c.self.view_is c.args.item.now c.requires;
     }

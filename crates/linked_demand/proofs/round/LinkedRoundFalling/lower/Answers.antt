@@ -7,7 +7,6 @@ use Rattle.linked_demand.specs.Links.{LinksRow}
 use Rattle.linked_demand.specs.Rounds.{IsRound}
 use Rattle.linked_demand.specs.Rows.{AreFirst}
 use Rattle.linked_demand.proofs.FirstBoarders.{first_cut, row_found}
-use Rattle.linked_demand.proofs.HousedFronts.{nobody}
 use Rattle.linked_demand.proofs.Lowered.{lowered, lowered_along, round_now, stay, steps_now}
 use Rattle.linked_demand.proofs.Rounding.{bars_fallen}
 use Rattle.linked_demand.proofs.Waiting.{all_open_wait}
@@ -58,12 +57,12 @@ invariant_of-self g c =
     let P = λ (s : State). (bs : List ℕ) (rs : List (List RowWish)) → IsRound links bs (left_of s r.beds.items) rs
     → AllHoused links (λ k. get_or c.close_past-end.new.marked k false) rs (left_of s r.beds.items)
     c.cut_school.new.overfilled c.cut_school.new.housed.items
-    → AllHoused links nobody rs (left_of s r.beds.items) c.house_marked.new.overfilled
+    → AllHoused links (λ k. false) rs (left_of s r.beds.items) c.house_marked.new.overfilled
     c.house_marked.new.housed.items in
     let Q = λ (beds : List ℕ). (bs : List ℕ) (rs : List (List RowWish)) → IsRound links bs (left_of links.state beds) rs
     → AllHoused links (λ k. get_or c.close_past-end.new.marked k false) rs (left_of links.state beds)
     c.cut_school.new.overfilled c.cut_school.new.housed.items
-    → AllHoused links nobody rs (left_of links.state beds) c.house_marked.new.overfilled
+    → AllHoused links (λ k. false) rs (left_of links.state beds) c.house_marked.new.overfilled
     c.house_marked.new.housed.items in
     lowered_along r.links links r.ceilings.items _ r.beds.items boarders ends _
     c.close_past-end.ensures.links whole.boarders_are

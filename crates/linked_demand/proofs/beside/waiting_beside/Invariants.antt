@@ -1,12 +1,10 @@
 use Rattle.std.specs.Prelude.{[]}
 use Rattle.linked_demand.specs.Beside.{waits_beside}
 use Rattle.linked_demand.specs.Fronts.{ListsAlso}
-use Rattle.linked_demand.proofs.BesideLive.{IsBesideTo}
 use Rattle.linked_demand.proofs.Listing.{passing}
 use Rattle.linked_demand.proofs.NeedNoSeat.{places_of}
-use Rattle.linked_demand.proofs.beside.Beside.of_state.Given as goal
+use Rattle.linked_demand.proofs.beside.waiting_beside.Given as goal
 
 abbrev pub invariant-loop-one : goal.invariant-loop-one
 invariant-loop-one l =
-    IsBesideTo l.state l.shared l.one-index l.bundles
-    × ListsAlso (passing (waits_beside l.state) (places_of l.shared) l.one-index) [] l.wishes.items
+    ListsAlso (passing (waits_beside l.state) (places_of l.shared) l.one-index) [] l.wishes.items
