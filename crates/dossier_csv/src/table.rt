@@ -1,5 +1,5 @@
 //! Any slot's rows, by the layout of its row type.
-ghost use Rattle.std.specs.Prelude.{◌≡◌, ◌+◌, ◌<◌, List, ℕ, Some, IfErr, IfOk, OnOk, map};
+ghost use Rattle.std.specs.Prelude.{◌≡◌, [], ◌+◌, ◌<◌, List, ℕ, Some, IfErr, IfOk, OnOk, map};
 ghost use Rattle.std.specs.List.{list_any};
 ghost use Rattle.csv.specs.Records.{fields_of};
 ghost use Rattle.admit_core.specs.Ranges.{AreRows};
@@ -114,21 +114,38 @@ fn typed_row<T: TableRow>(row: &ByteRecord, width: usize, number: u64) -> Result
     }
 }
 
-/// The rows under a header of so many columns. This is not inlined: beside the loops of other slots
-/// a row's numbers would not stay in registers.
+/// How many line feeds there are. Rows are given room by it where there is so much, so no clause
+/// says it.
+fn line_count(bytes: &[u8]) -> usize {
+    bytes.iter().filter(|byte| **byte == b'\n').count()
+}
+
+/// A list without rows, with room for so many where there is so much.
+fn rows_for<T: TableRow>(alloc: Global, lines: usize) -> Vec<T>
+    ensures { result.items ≡ [] }
+{
+    match Vec::with_capacity(alloc, lines) {
+        Ok(rows) => rows,
+        Err(_) => Vec::new(alloc),
+    }
+}
+
+/// The rows under a header of so many columns, in about so many lines. This is not inlined: beside
+/// the loops of other slots a row's numbers would not stay in registers.
 #[inline(never)]
 fn read_rows<T: TableRow>(
     alloc: Global,
     reader: &mut Reader<&[u8]>,
     row: &mut ByteRecord,
     width: usize,
+    lines: usize,
 ) -> Result<Vec<T>, InFault>
     requires { HasSome (λ text. Some text.now) reader.old }
     ensures value { (left : List (List (List ℕ))) → HasLeft (λ text. Some text.now) reader.old left
         → Answers (λ rows. rows.items) result (rows_from T.layout width 2 left) }
     ensures ranges { IfOk result (λ rows. AreRows T.in_range rows.items) }
 {
-    let mut rows = Vec::new(alloc);
+    let mut rows = rows_for(alloc, lines);
     'rows: while next_row(reader, row)? {
         let number = rows.len() as u64 + FIRST_ROW;
         rows.push(typed_row(row, width, number)?)?;
@@ -145,7 +162,7 @@ pub(crate) fn read_table<T: TableRow>(alloc: Global, bytes: &[u8]) -> Result<Vec
     let mut row = ByteRecord::new(alloc);
     if next_row(&mut reader, &mut row)? && is_header::<T>(&row) {
         let width = row.len();
-        read_rows(alloc, &mut reader, &mut row, width)
+        read_rows(alloc, &mut reader, &mut row, width, line_count(bytes))
     } else {
         Err(InFault::Refused(Refusal {
             slot: T::slot(),
