@@ -1,5 +1,5 @@
 //! The mode `replay`: the call orders, the days and the final state.
-ghost use Rattle.std.specs.Prelude.{◌≡◌, ◌++◌, All, IfOk, OnOk, option_copied, string_bytes};
+ghost use Rattle.std.specs.Prelude.{◌≡◌, [], ◌++◌, All, IfOk, OnOk, option_copied, string_bytes};
 ghost use Rattle.modes.specs.Endings.{IsDoneWith};
 ghost use Rattle.modes.specs.Replay.{CanBeDated, CanBeWritten, day_lines, days_text, final_lines, replay_text};
 
@@ -81,6 +81,29 @@ pub(crate) fn days_text(
     Ok(text.into_bytes())
 }
 
+/// How many candidates the call orders have, or fewer where no number tells it. Room is made by it,
+/// so no clause says it.
+fn called_in(orders: &[CallOrder]) -> usize {
+    let mut called = 0usize;
+    for order in orders {
+        called = called.saturating_add(order.list.len());
+    }
+    called
+}
+
+/// An empty text with room for the call orders and the final state, where there is so much. A row
+/// takes at most 32 bytes, and an id 11 with what stands before it.
+fn text_for(alloc: Global, dossier: &Dossier, orders: &[CallOrder]) -> String
+    ensures { string_bytes result ≡ [] }
+{
+    let rows = dossier.wishes.len().saturating_mul(32);
+    let ids = called_in(orders).saturating_mul(11);
+    match String::with_capacity(alloc, rows.saturating_add(ids)) {
+        Ok(text) => text,
+        Err(_) => String::new(alloc),
+    }
+}
+
 /// The whole text, which grows in one buffer.
 fn replay_text(
     alloc: Global,
@@ -95,7 +118,7 @@ fn replay_text(
     ensures { IfOk result (λ text. text.items ≡ replay_text dossier.now (option_copied dated.entry)
         orders.now days.now evening.now) }
 {
-    let mut text = String::new(alloc);
+    let mut text = text_for(alloc, dossier, orders);
     push_days(&mut text, dossier, dated, orders, days)?;
     push_final_lines(&mut text, evening, dated)?;
     Ok(text.into_bytes())
