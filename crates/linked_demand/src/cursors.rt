@@ -12,7 +12,7 @@ use std::alloc::Global;
 /// decides nothing but the cost: those before it are asked where no other wish is open.
 #[derive(Drop)]
 pub struct Cursors {
-    places: Vec<usize>,
+    places: Vec<u32>,
 }
 
 /// The place of the first open wish of a claim from a place on, or how many there are.
@@ -42,7 +42,7 @@ fn slot_of(bundle: BundleNumber) -> usize {
 impl Cursors {
     /// Cursors for so many claims, by the numbers of their bundles.
     pub fn new(alloc: Global, count: usize) -> Result<Cursors, OutOfMemory> {
-        let places = vec![in alloc; 0usize; count]?;
+        let places = vec![in alloc; 0u32; count]?;
         Ok(Cursors { places })
     }
 
@@ -51,7 +51,7 @@ impl Cursors {
         ensures { result ≤ count }
     {
         match self.places.as_slice().get(slot_of(bundle)) {
-            Some(place) if *place <= count => *place,
+            Some(place) if *place as usize <= count => *place as usize,
             _ => 0,
         }
     }
@@ -60,7 +60,7 @@ impl Cursors {
     fn note(&mut self, bundle: BundleNumber, place: usize) {
         let slot = slot_of(bundle);
         if slot < self.places.len() {
-            self.places[slot] = place;
+            self.places[slot] = u32::try_from(place).unwrap_or(0);
         }
     }
 
