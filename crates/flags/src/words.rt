@@ -1,5 +1,6 @@
 //! Flags in words of 64 bits.
 ghost use Rattle.std.specs.Prelude.{◌≡◌, ◌<◌, false, length, replicate, slice_index_or, slice_set, IfOk};
+ghost use Rattle.flags.specs.Words.{IsNextBit, IsNextSet};
 
 use std::alloc::{AllocError, Global};
 use std::marker::Model;
@@ -77,6 +78,22 @@ impl Flags {
         at < self.count && (self.words[at / 64] >> (place % 64)) & 1 == 1
     }
 
+    /// The first place whose flag is set, from one place on. The flags of a word are passed over
+    /// together.
+    pub fn next_set(&self, from: usize) -> Option<usize>
+        ensures { IsNextSet self.now from result }
+    {
+        let count = self.len();
+        let mut place = from;
+        while place < count {
+            if let Some(found) = next_bit(self.words[place / 64], place) {
+                return (found < count).then_some(found);
+            }
+            place = place.saturating_add(64 - place % 64);
+        }
+        None
+    }
+
     /// Changes the flag at a place.
     #[inline(always)]
     pub fn set(&mut self, place: u32, flag: bool)
@@ -91,4 +108,15 @@ impl Flags {
             self.words[at] &= !bit;
         }
     }
+}
+
+/// The first place whose bit is set in its word, from one place of that word on.
+fn next_bit(word: u64, place: usize) -> Option<usize>
+    ensures { IsNextBit word place result }
+{
+    let rest = word >> (place % 64);
+    if rest == 0 {
+        return None;
+    }
+    Some(place + rest.trailing_zeros() as usize)
 }
