@@ -4,7 +4,8 @@
 -- Marks of another state: TakingOver.
 -- Bundles, from bottom to top: Numbering (their first wishes), Laters (the others), Sharing (which
 -- have a count), Ascending, Numbered (the numbers of those), Entries (how a wish's number is kept),
--- Bundled (how many of a bundle are live), Telling (what that tells of its candidate).
+-- ByNumber (the wishes of each number), Bundled (how many of a bundle are live), Waits (who waits, by
+-- flags), Telling (what a count tells of its candidate), Beside (who waits beside a live wish).
 -- Days: OneAccepted, Filled, Lapsing, Answering, Independence (candidates stand apart), and last
 -- FittingLists.
 pub mod Counting
@@ -21,6 +22,7 @@ pub mod Sharing
 pub mod Ascending
 pub mod Numbered
 pub mod Entries
+pub mod ByNumber
 pub mod Lost
 pub mod Freeing
 pub mod Changing
@@ -31,7 +33,9 @@ pub mod Answering
 pub mod Filled
 pub mod Paired
 pub mod Bundled
+pub mod Waits
 pub mod Telling
+pub mod Beside
 pub mod Independence
 pub mod Lapsing
 pub mod FittingLists

@@ -1,6 +1,6 @@
 -- What the count of a bundle tells of its candidate, and what it tells after a change of one mark.
 use Rattle.std.proofs.Common.{ℕ, ◌+◌, ◌<◌, ◌≡◌, Bool, true, false, ◌&&◌, List, [], ◌∷◌, length, inl, inr, refl, sym}
-use Rattle.std.proofs.Common.{◌∙◌, ap, arith, filter, Option, Some, None, zero, suc}
+use Rattle.std.proofs.Common.{◌∙◌, ap, arith, filter, get_or, map, Option, Some, None, zero, suc}
 use Rattle.std.specs.Prelude.{slice_index, ◌==◌, nat_lt}
 use Rattle.std.specs.Option.{ForSome}
 use Rattle.std.specs.List.{list_any, range_with_len}
@@ -13,17 +13,17 @@ use Rattle.admit_core.proofs.Plain.{any-map, any_none, and_assoc}
 use Rattle.admit_core.specs.declared.dossier.Wish.{Wish}
 use Rattle.admit_core.specs.declared.state.Mark.{Mark}
 use Rattle.admit_core.specs.DossierRows.{DossierRows}
-use Rattle.admit_core.specs.State.{State, entries, is_live, with_mark_at}
+use Rattle.admit_core.specs.State.{State, entries, is_live, is_waiting, with_mark_at}
 use Rattle.admit_core.specs.Validity.{IsValid}
 use Rattle.day_state.specs.declared.bundles.Sites.{Sites}
 use Rattle.day_state.specs.declared.bundles.Sites.TheVariants.{Programmes, Schools}
 use Rattle.day_state.specs.declared.numbers.BundleNumber.{BundleNumber}
-use Rattle.day_state.specs.declared.numbers.BundleNumber.TheVariants.{NoSite, Alone, Shared}
-use Rattle.day_state.specs.declared.numbers.SharedWish.{SharedWish}
 use Rattle.day_state.specs.Kept.{mark_in, wish_in, holds_one, holds_bed_in, recount, recount_some, has_seat_there}
 use Rattle.day_state.specs.Kept.{has_bed_there, state_of}
 use Rattle.day_state.specs.Bundles.{site_of, is_same, number_in, bundles_of, is_shared, number_of, number_at, count_of}
-use Rattle.day_state.specs.Bundles.{AreEntriesOf, has_live, seat_bundle, AreLiveCounts, IsBundled, KeepsCounts}
+use Rattle.day_state.specs.Bundles.{has_live, seat_bundle, AreLiveCounts, IsBundled, KeepsCounts}
+use Rattle.day_state.specs.Members.{waits_beside}
+use Rattle.day_state.proofs.Waits.{waiting_not_live, waits_there}
 use Rattle.day_state.proofs.Bundled.{counts_in, number_is, bundled_more}
 use Rattle.day_state.proofs.Numbering.{range_at, bundles_are}
 use Rattle.day_state.proofs.Sharing.{alone_first}
@@ -130,20 +130,17 @@ seat_beside {s} {numbers} {live} {k} bundled long lt n is none =
     ∙ ap (has_live live (number_at numbers k)) (sym none)
     ∙ has_seat_is bundled long lt
 
--- and where it is so, the wish shares its bundle
-pub shared_beside : {s : State} {numbers : List BundleNumber} {live : List ℕ} → IsBundled Programmes s numbers live
-    → length s.marks ≡ length s.dossier.wishes → (entries : List SharedWish) → AreEntriesOf numbers entries
-    → (k : ℕ) → k < length s.marks → is_live (mark_in s.marks k) ≡ false → has_seat_there s k ≡ true
-    → list_any (λ e. e.wish == k) entries ≡ true
-shared_beside {s} {numbers} {live} bundled long entries are k lt none seat =
-    by_number (number_at numbers k) refl
-    (ap (has_live live (number_at numbers k)) (sym none) ∙ has_seat_is bundled long lt ∙ seat)
-  where
-    by_number : (n : BundleNumber) → number_at numbers k ≡ n → has_live live n false ≡ true
-        → list_any (λ (e : SharedWish). e.wish == k) entries ≡ true
-    by_number NoSite at has = absurd (cc)
-    by_number Alone at has = absurd (cc)
-    by_number (Shared n) at has = are.all k n at
+-- and so of the wishes that wait
+pub waits_beside_is : {s : State} {numbers : List BundleNumber} {live : List ℕ} → IsBundled Programmes s numbers live
+    → length s.marks ≡ length s.dossier.wishes → (k : ℕ)
+    → (get_or (map is_waiting s.marks) k false && has_live live (number_at numbers k) false) ≡ waits_beside s k
+waits_beside_is {s} {numbers} {live} bundled long k = elim (cases_Bool (get_or (map is_waiting s.marks) k false)) [
+  | inl is_set ↦
+      let (lt, waits) = waits_there s k is_set in
+      ap (λ b. get_or (map is_waiting s.marks) k false && b)
+      (ap (has_live live (number_at numbers k)) (sym (waiting_not_live s k waits)) ∙ has_seat_is bundled long lt)
+  | inr clear ↦ rw clear refl
+]
 
 -- a live wish at the site of another one, where that may have none
 in_its_school : (s : State) (c : ℕ) (o : Option ℕ) → holds_one (λ v. is_same o v.school) s c ≡ holds_bed_in s c o

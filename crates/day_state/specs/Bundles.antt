@@ -220,12 +220,6 @@ pub record AreEntriesOf (ns : List BundleNumber) (entries : List SharedWish) : T
   pub each : All (λ e. number_at ns e.wish ≡ Shared e.number) entries
   pub all : (k n : ℕ) → number_at ns k ≡ Shared n → list_any (λ e. e.wish == k) entries ≡ true
 
--- the starts are those of the entries, and the entries those of the numbers
-pub record AreNumbers (sited several : List Bool) (entries : List SharedWish)
-    (starts : List ℕ) : Type 0 where
-  pub starts_are : AreStarts entries starts
-  pub entries_are : AreEntriesOf (numbers_with sited several entries) entries
-
 -- of each wish whether it has a site
 pub record AreSited (sites : Sites) (ws : List Wish) (flags : List Bool) : Type 0 where
   pub long : length flags ≡ length ws

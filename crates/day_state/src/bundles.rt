@@ -1,15 +1,17 @@
 //! Bundles: the wishes of one candidate in one programme, or in one school.
-ghost use Rattle.std.specs.Prelude.{◌≡◌, ◌<◌, ◌≤◌, ◌+◌, ◌^◌, false, length, nat_lt, slice_index, IfOk, replicate};
+ghost use Rattle.std.specs.Prelude.{◌≡◌, ℕ, ◌<◌, ◌≤◌, ◌+◌, ◌^◌, ◌&&◌, ◌||◌, false, length, nat_lt, slice_index, slice_index_or, IfOk, OnOk, replicate};
+ghost use Rattle.admit_core.specs.Lists.{is_among};
 ghost use Rattle.std.specs.Option.{ForSome};
-ghost use Rattle.day_state.specs.Bundles.{AreEntriesOf, AreLaters, all_numbers, bundles_of, number_at, count_of, count_at, has_live, shared_in_all};
+ghost use Rattle.day_state.specs.Bundles.{AreLaters, all_numbers, bundles_of, number_at, count_of, count_at, has_live, shared_in_all};
 ghost use Rattle.admit_core.specs.State.{is_live};
 ghost use Rattle.day_state.specs.Kept.{mark_in, one_if, recount_some};
 
 use crate::bundle_numbers::{Later, number_all, shared_firsts};
 use crate::live_counts::LiveCounts;
 use crate::marks::Marks;
-use crate::numbers::{BundleNumber, Numbers, SharedWish};
+use crate::numbers::{BundleNumber, Numbers};
 use admit_core::{OutOfMemory, Wish};
+use flags::Flags;
 use std::alloc::Global;
 use std::rc::Rc;
 
@@ -98,11 +100,26 @@ impl Bundles {
         self.numbers.get(wish)
     }
 
-    /// The wishes that share their bundles.
-    pub fn shared(&self) -> &[SharedWish]
-        ensures { AreEntriesOf self.now.numbers.value result.now }
+    /// How many bundles have two wishes or more.
+    pub fn shared(&self) -> usize
+        ensures { result ≡ length self.now.live }
     {
-        self.numbers.shared()
+        self.live.len()
+    }
+
+    /// The wishes that these flags have, of the bundles with a live one.
+    pub fn beside_live(&self, alloc: Global, flags: &Flags) -> Result<Vec<u32>, OutOfMemory>
+        ensures { IfOk result (λ v. (k : ℕ) → is_among k v.items
+            ≡ (slice_index_or flags.now k false
+            && has_live self.now.live (number_at self.now.numbers.value k) false)) }
+    {
+        let mut found = Vec::new(alloc);
+        let mut from = 0;
+        while let Some(number) = self.live.next_some(from) {
+            push_set(&mut found, self.numbers.members(number), flags)?;
+            from = number + 1;
+        }
+        Ok(found)
     }
 
     /// Whether a bundle has a live wish, by its number; a wish of it that is not live asks.
@@ -161,4 +178,17 @@ fn has_live(live: &LiveCounts, number: BundleNumber, lives: bool) -> bool
         BundleNumber::Alone => lives,
         BundleNumber::Shared(number) => live.has_some(number),
     }
+}
+
+/// Lists those of some places whose flags are set.
+fn push_set(found: &mut Vec<u32>, places: &[u32], flags: &Flags) -> Result<(), OutOfMemory>
+    ensures { OnOk result ((k : ℕ) → is_among k found.new.items ≡ (is_among k found.old.items
+        || (is_among k places.now && slice_index_or flags.now k false))) }
+{
+    for place in places {
+        if flags.get(*place) {
+            found.push(*place)?;
+        }
+    }
+    Ok(())
 }

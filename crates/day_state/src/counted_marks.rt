@@ -8,9 +8,11 @@ ghost use Rattle.admit_core.specs.OwnWishes.{own_places};
 ghost use Rattle.admit_core.specs.AutoAnswer.{auto_one, best_live, freed_by};
 ghost use Rattle.day_state.specs.Along.{change_own, changed_by};
 ghost use Rattle.day_state.specs.Best.{best_among};
-ghost use Rattle.day_state.specs.Bundles.{AreEntriesOf, all_numbers, seat_bundle};
+ghost use Rattle.day_state.specs.Bundles.{seat_bundle, shared_in_all};
 ghost use Rattle.day_state.specs.declared.bundles.Sites.TheVariants.{Programmes};
 ghost use Rattle.day_state.specs.Kept.{mark_in, lives_at, has_seat_there, has_bed_there, waiting_mark, state_of, IsIndex};
+ghost use Rattle.admit_core.specs.Lists.{is_among};
+ghost use Rattle.day_state.specs.Members.{waits_beside};
 ghost use Rattle.day_state.specs.Others.{TakesOver};
 
 use crate::bundle_numbers::laters_of;
@@ -21,7 +23,7 @@ use crate::mark::{
     lives_in_school, lost, wish_at,
 };
 use crate::marks::Marks;
-use crate::numbers::{BundleNumber, SharedWish};
+use crate::numbers::BundleNumber;
 use admit_core::{Dossier, Freed, Mark, OutOfMemory, Stamp, Wish};
 use flags::Flags;
 use std::alloc::Global;
@@ -216,14 +218,18 @@ impl<'d> CountedMarks<'d> {
         self.in_programmes.number(wish)
     }
 
-    /// The wishes that share their bundles in their programmes.
-    pub fn shared_in_programmes(&self) -> &[SharedWish]
-        ensures entries { AreEntriesOf (all_numbers Programmes self.now.dossier.wishes) result.now }
-        ensures beside { (k : ℕ) → k < length self.now.marks
-            → is_live (mark_in self.now.marks k) ≡ false → has_seat_there self.now k ≡ true
-            → list_any (λ e. e.wish == k) result.now ≡ true }
+    /// How many bundles of wishes in one programme have two wishes or more.
+    pub fn shared_in_programmes(&self) -> usize
+        ensures { result ≡ shared_in_all Programmes self.now.dossier.wishes }
     {
         self.in_programmes.shared()
+    }
+
+    /// The wishes that wait while their candidate is live in the programme.
+    pub fn waiting_beside_live(&self, alloc: Global) -> Result<Vec<u32>, OutOfMemory>
+        ensures { IfOk result (λ v. (k : ℕ) → is_among k v.items ≡ waits_beside self.now k) }
+    {
+        self.in_programmes.beside_live(alloc, self.marks.waits())
     }
 
     /// Whether the candidate of a wish that is not live is live in its programme, by the number of

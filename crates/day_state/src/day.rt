@@ -11,10 +11,12 @@ ghost use Rattle.admit_core.specs.Days.{first_evening};
 ghost use Rattle.admit_core.specs.Validity.{IsTarget};
 ghost use Rattle.admit_core.specs.Lapses.{lapse};
 ghost use Rattle.admit_core.specs.AutoAnswer.{auto_one, freed_by};
-ghost use Rattle.day_state.specs.Bundles.{AreEntriesOf, all_numbers, seat_bundle};
+ghost use Rattle.day_state.specs.Bundles.{seat_bundle, shared_in_all};
 ghost use Rattle.day_state.specs.declared.bundles.Sites.TheVariants.{Programmes};
 ghost use Rattle.day_state.specs.Kept.{mark_in, wish_in, has_seat_there, holds_bed_in, IsIndex};
 ghost use Rattle.day_state.specs.Along.{change_along};
+ghost use Rattle.admit_core.specs.Lists.{is_among};
+ghost use Rattle.day_state.specs.Members.{waits_beside};
 ghost use Rattle.day_state.specs.Lapsing.{lapsed};
 ghost use Rattle.day_state.specs.Others.{SameOthers};
 ghost use Rattle.day_state.specs.Laws.{AreOwn, OwnFit};
@@ -25,7 +27,7 @@ use crate::index::{CandidateIndex, candidate_at};
 use crate::mark::{OwnChange, changed_to, first_mark, kind_fits, lapses};
 use crate::marked::MarkedWishes;
 use crate::marks::Marks;
-use crate::numbers::{BundleNumber, SharedWish};
+use crate::numbers::BundleNumber;
 use admit_core::{Answer, AnswerKind, Dossier, Freed, OutOfMemory, Stamp, Status, Terms};
 use flags::Flags;
 use std::alloc::Global;
@@ -277,16 +279,19 @@ impl<'d> DayState<'d> {
         self.live.seat_bundle(wish)
     }
 
-    /// The wishes that share their bundles in their programmes. No other wish that is not live has
-    /// a candidate who is live in its programme.
-    pub fn shared_in_programmes(&self) -> &[SharedWish]
-        ensures entries { AreEntriesOf (all_numbers Programmes self.now.dossier.wishes) result.now }
-        ensures beside { (k : ℕ) → k < length self.now.dossier.wishes
-            → is_live (mark_in self.now.marks k) ≡ false → has_seat_there self.now k ≡ true
-            → list_any (λ e. e.wish == k) result.now ≡ true }
+    /// How many bundles of wishes in one programme have two wishes or more.
+    pub fn shared_in_programmes(&self) -> usize
+        ensures { result ≡ shared_in_all Programmes self.now.dossier.wishes }
     {
-        let _ = &self.live; // learns the invariant
         self.live.shared_in_programmes()
+    }
+
+    /// The wishes that wait while their candidate is live in the programme, in no order. It takes
+    /// as long as there are wishes in bundles with a live one.
+    pub fn waiting_beside_live(&self, alloc: Global) -> Result<Vec<u32>, OutOfMemory>
+        ensures { IfOk result (λ v. (k : ℕ) → is_among k v.items ≡ waits_beside self.now k) }
+    {
+        self.live.waiting_beside_live(alloc)
     }
 
     /// Whether the candidate of a wish that is not live is live in its programme, by the number of

@@ -1,6 +1,7 @@
 //! How many wishes are live in each bundle.
-ghost use Rattle.std.specs.Prelude.{◌≡◌, ◌<◌, ◌≤◌, ◌+◌, ◌^◌, length, nat_lt, slice_index, IfOk, replicate};
+ghost use Rattle.std.specs.Prelude.{◌≡◌, ◌<◌, ◌≤◌, ◌+◌, ◌^◌, length, map, nat_lt, slice_index, IfOk, replicate};
 ghost use Rattle.std.specs.Option.{ForSome};
+ghost use Rattle.flags.specs.Words.{IsNextSet};
 ghost use Rattle.day_state.specs.Kept.{one_if, recount_some};
 
 use crate::counts::{copy_counts, recount, zeros};
@@ -66,11 +67,27 @@ impl LiveCounts {
         self.has_some.set_from(&other.has_some);
     }
 
+    /// How many bundles there are.
+    pub fn len(&self) -> usize
+        ensures { result ≡ length self.now }
+    {
+        self.counts.len()
+    }
+
     /// Whether a wish is live in a bundle. None is where there is no such bundle.
     pub fn has_some(&self, bundle: u32) -> bool
         ensures { result ≡ nat_lt 0 (slice_index self.now bundle) }
     {
         self.has_some.get(bundle)
+    }
+
+    /// The first bundle with a live wish, from a number on.
+    pub fn next_some(&self, from: usize) -> Option<usize>
+        ensures next { IsNextSet (map (nat_lt 0) self.now) from result }
+        ensures fits { ForSome result (λ n. n + 1 < 2 ^ 64) }
+    {
+        let _ = &self.counts; // learns the invariant
+        self.has_some.next_set(from)
     }
 
     /// Counts a wish of a bundle anew that was live, or wasn't, and is live, or isn't. A wish that

@@ -1,6 +1,7 @@
 //! The wishes of each bundle of two wishes or more.
-ghost use Rattle.std.specs.Prelude.{◌≡◌, ◌+◌, ◌<◌, ◌^◌, length, IfOk};
-ghost use Rattle.day_state.specs.Members.{AreBegins, AreMembers, begin_in};
+ghost use Rattle.std.specs.Prelude.{◌≡◌, ◌+◌, ◌<◌, ◌^◌, ℕ, length, map, IfOk};
+ghost use Rattle.std.specs.List.Sorted.{IsNonDecreasingBy};
+ghost use Rattle.day_state.specs.Members.{AreBegins, AreMembers, begin_in, members_at};
 
 use crate::numbers::SharedWish;
 use admit_core::OutOfMemory;
@@ -25,12 +26,12 @@ impl Drop for Members {
 }
 
 impl Model for Members {
-    ghost use Rattle.std.specs.Prelude.{ℕ, List};
-    ghost use Rattle.day_state.specs.Members.{members_in, BeginsRise};
+    ghost use Rattle.std.specs.Prelude.{ℕ, List, length};
+    ghost use Rattle.day_state.specs.Members.{members_by, BeginsRise};
 
-    ghost Value = { ℕ → List ℕ };
+    ghost Value = { List (List ℕ) };
 
-    ghost view = { λ m. members_in m.wishes.items m.begins.items };
+    ghost view = { λ m. members_by m.wishes.items m.begins.items };
 
     ghost invariant = { λ m. BeginsRise (length m.wishes.items) m.begins.items };
 }
@@ -50,19 +51,22 @@ impl Members {
     /// The wishes of the bundle with a number; none where there is no such bundle.
     pub fn of(&self, number: usize) -> &[u32]
         requires { number + 1 < 2 ^ 64 }
-        ensures { result.now ≡ self.now number }
+        ensures { result.now ≡ members_at self.now number }
     {
-        &self.wishes[self.begin(number)..self.begin(number + 1)]
+        let count = self.wishes.len();
+        let from = begin_in(&self.begins, count, number);
+        let to = begin_in(&self.begins, count, number + 1);
+        &self.wishes.as_slice()[from..to]
     }
+}
 
-    /// Where the wishes of the bundle with a number begin: behind all, past the last bundle.
-    fn begin(&self, number: usize) -> usize
-        ensures {}
-    {
-        match self.begins.as_slice().get(number) {
-            None => self.wishes.len(),
-            Some(begin) => *begin,
-        }
+/// Where the wishes of the bundle with a number begin: behind all of so many, past the last bundle.
+fn begin_in(begins: &Vec<usize>, count: usize, number: usize) -> usize
+    ensures { result ≡ begin_in count begins.now.items number }
+{
+    match begins.as_slice().get(number) {
+        None => count,
+        Some(begin) => *begin,
     }
 }
 

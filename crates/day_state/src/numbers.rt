@@ -1,8 +1,11 @@
 //! The numbers of bundles: two flags a wish, and an entry for each wish that shares a bundle.
-ghost use Rattle.std.specs.Prelude.{◌≡◌, ◌<◌, ◌==◌, ◌/◌, All, length, slice_index, take, IfOk};
+ghost use Rattle.std.specs.Prelude.{◌≡◌, ℕ, ◌+◌, ◌<◌, ◌^◌, ◌==◌, ◌/◌, All, length, slice_index, take, IfOk};
 ghost use Rattle.std.specs.List.{find};
+ghost use Rattle.admit_core.specs.Lists.{is_among};
+ghost use Rattle.day_state.specs.Members.{has_number};
 ghost use Rattle.day_state.specs.Bundles.{AreEntriesOf, AreStarts, number_at, count_of, number_found, numbers_with};
 
+use crate::members::Members;
 use admit_core::OutOfMemory;
 use flags::Flags;
 use std::alloc::Global;
@@ -48,6 +51,7 @@ pub struct Numbers {
     entries: Vec<SharedWish>,
     /// For each block a place before which none of its entries stands; without one, the first.
     starts: Vec<usize>,
+    members: Members,
 }
 
 // Not derived: so numbers are dropped in one step where they are held.
@@ -58,6 +62,7 @@ impl Drop for Numbers {
             several: _,
             entries: _,
             starts: _,
+            members: _,
         } = self;
     }
 }
@@ -65,13 +70,15 @@ impl Drop for Numbers {
 impl Model for Numbers {
     ghost use Rattle.std.specs.Prelude.{List};
     ghost use Rattle.day_state.specs.declared.numbers.BundleNumber.{BundleNumber};
-    ghost use Rattle.day_state.specs.Bundles.{AreNumbers, numbers_with};
+    ghost use Rattle.day_state.specs.Bundles.{numbers_with};
+    ghost use Rattle.day_state.specs.Members.{AreNumbers};
 
     ghost Value = { List BundleNumber };
 
     ghost view = { λ n. numbers_with n.sited n.several n.entries.items };
 
-    ghost invariant = { λ n. AreNumbers n.sited n.several n.entries.items n.starts.items };
+    ghost invariant = { λ n. AreNumbers n.sited n.several n.entries.items n.starts.items
+        n.members };
 }
 
 impl Numbers {
@@ -87,19 +94,23 @@ impl Numbers {
         ensures { IfOk result (λ n. n ≡ numbers_with sited several entries.items) }
     {
         let starts = starts_of(alloc, &entries)?;
+        let members = Members::build(alloc, &entries)?;
         Ok(Numbers {
             sited,
             several,
             entries,
             starts,
+            members,
         })
     }
 
-    /// The wishes that share their bundles.
-    pub fn shared(&self) -> &[SharedWish]
-        ensures { AreEntriesOf self.now result.now }
+    /// The wishes of the bundle with a number.
+    pub fn members(&self, number: usize) -> &[u32]
+        requires { number + 1 < 2 ^ 64 }
+        ensures { (k : ℕ) → is_among k result.now ≡ has_number number (number_at self.now k) }
     {
-        self.entries.as_slice()
+        let _ = &self.several; // learns the invariant
+        self.members.of(number)
     }
 
     /// The number of a wish.
