@@ -1,5 +1,6 @@
 -- The wishes of bundles with a live one, listed number by number.
-use Rattle.std.proofs.Common.{ℕ, ◌+◌, ◌≤◌, ◌<◌, ◌≡◌, Bool, true, false, ◌&&◌, ◌||◌, List, [], ◌∷◌, ◌++◌, length, get_or, map, take}
+use Rattle.std.proofs.Common.{ℕ, ◌+◌, ◌≤◌, ◌<◌, ◌≡◌, Bool, true, false, ◌&&◌, ◌||◌, List, [], ◌∷◌, ◌++◌, length, get_or}
+use Rattle.std.proofs.Common.{map, take}
 use Rattle.std.proofs.Common.{inl, inr, refl, sym, ◌∙◌, ap, arith, nat_eq, nat_lt, None, Some}
 use Rattle.std.specs.Prelude.{slice_index}
 use Rattle.std.proofs.lemmas.Bool.{cases_eq, cases_lt, eq-eqb, ne_eqb, lt-ltb, le-ltb, and_right, false≢true}
@@ -58,7 +59,8 @@ module _ (flags : List Bool) (places first now : List ℕ) (i : ℕ) (lt : i < l
         | inl same ↦
             let here : get_or flags k false ≡ false = ap (λ (j : ℕ). get_or flags j false) same ∙ clear in
             rw here (ap (λ b. is_among k first || b)
-            (and_right (is_among k (take i places)) false refl ∙ sym (and_right (is_among k (take (i + 1) places)) false refl)))
+            (and_right (is_among k (take i places)) false refl
+            ∙ sym (and_right (is_among k (take (i + 1) places)) false refl)))
         | inr other ↦
             rw (among_more places i k lt, ne_eqb k p other)
             (ap (λ b. is_among k first || (b && get_or flags k false)) (sym (or_false (is_among k (take i places)))))
@@ -101,7 +103,8 @@ some_within live n is_set = elim (cases_lt n (length live)) [
 pub beside_none : (flags : List Bool) (live : List ℕ) (ns : List BundleNumber) (found : List ℕ) → found ≡ []
     → AreBeside flags live ns 0 found
 beside_none flags live ns found none k =
-    ap (is_among k) none ∙ sym (and_right (get_or flags k false) (has_live_below live 0 (number_at ns k)) (below (number_at ns k)))
+    ap (is_among k) none ∙ sym (and_right (get_or flags k false) (has_live_below live 0 (number_at ns k))
+    (below (number_at ns k)))
   where
     below : (b : BundleNumber) → has_live_below live 0 b ≡ false
     below NoSite = refl
@@ -147,7 +150,11 @@ module _ (live : List ℕ) (from next : ℕ) (is : IsNextSet (map (nat_lt 0) liv
       or_none false = refl
 
       apart : (n m : ℕ) → (n ≡ m → ⊥) → m ≤ n → m + 1 ≤ n
-      apart n m other le = elim (cases_lt m n) [ inl less ↦ omega (arith, less) | inr more ↦ absurd (other (omega (arith, le, more))) ]
+      apart n m other le = elim (cases_lt m n) [
+        | inl less ↦ omega (arith, less)
+        | inr more ↦ absurd
+            (other (omega (arith, le, more)))
+      ]
 
   pub beside_more : (flags : List Bool) (ns : List BundleNumber) (members found new : List ℕ)
       → ((k : ℕ) → is_among k members ≡ has_number next (number_at ns k))

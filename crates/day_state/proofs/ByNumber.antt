@@ -16,7 +16,8 @@ use Rattle.day_state.specs.declared.numbers.BundleNumber.{BundleNumber}
 use Rattle.day_state.specs.declared.numbers.BundleNumber.TheVariants.{NoSite, Alone, Shared}
 use Rattle.day_state.specs.declared.numbers.SharedWish.{SharedWish}
 use Rattle.day_state.specs.Bundles.{AreEntriesOf, number_at}
-use Rattle.day_state.specs.Members.{begin_in, members_at, members_by, members_in, has_number, AreBegins, AreMembers, BeginsRise}
+use Rattle.day_state.specs.Members.{begin_in, members_at, members_by, members_in, has_number, AreBegins, AreMembers}
+use Rattle.day_state.specs.Members.{BeginsRise}
 
 -- where none is
 abbrev pub no_entry : SharedWish
@@ -135,7 +136,8 @@ begins_rise entries begins are = record {
 }
 
 -- the wishes of a number, read from the list of all
-pub members_read : (wishes begins : List ℕ) (n : ℕ) → members_at (members_by wishes begins) n ≡ members_in wishes begins n
+pub members_read : (wishes begins : List ℕ) (n : ℕ)
+    → members_at (members_by wishes begins) n ≡ members_in wishes begins n
 members_read wishes begins n = elim (cases_lt n (length begins)) [
   | inl there ↦ get_or-map-range_with_len (members_in wishes begins) 0 (length begins) n n [] there (omega arith)
   | inr past ↦
@@ -179,7 +181,8 @@ module _ (sorted : List SharedWish) (wishes begins : List ℕ) (are : AreBegins 
   many =
       part_long wishes from to ((begins_rise sorted begins are).rise n) (omega (arith, are.within (n + 1), long))
 
-  wish_read : (j : ℕ) → j < to - from → get_or (slice_range wishes from to) j 0 ≡ (get_or sorted (from + j) no_entry).wish
+  wish_read : (j : ℕ) → j < to - from → get_or (slice_range wishes from to) j 0
+      ≡ (get_or sorted (from + j) no_entry).wish
   wish_read j lt =
       part_read wishes from to j lt
       ∙ ap (λ (xs : List ℕ). get_or xs (from + j) 0) wishes_are
@@ -194,7 +197,8 @@ module _ (sorted : List SharedWish) (wishes begins : List ℕ) (are : AreBegins 
       let e = get_or sorted (from + j) no_entry in
       let read : get_or part j 0 ≡ x = get_or_default part j 0 x lt ∙ at in
       let wish : e.wish ≡ k = sym (wish_read j j_lt) ∙ read ∙ sym (eqb-true k x passes) in
-      let least : n ≤ e.number = are.behind n (from + j) no_entry (omega arith) (omega (arith, j_lt, are.within (n + 1))) in
+      let least : n ≤ e.number = are.behind n (from + j) no_entry (omega arith)
+      (omega (arith, j_lt, are.within (n + 1))) in
       let most : e.number < n + 1 = are.before (n + 1) (from + j) no_entry (omega (arith, j_lt)) in
       let number : e.number ≡ n = omega (arith, least, most) in
       list_any_at test sorted (from + j) no_entry (omega (arith, j_lt, are.within (n + 1)))
@@ -222,7 +226,8 @@ module _ (sorted : List SharedWish) (wishes begins : List ℕ) (are : AreBegins 
       let same : get_or part (i - from) 0 ≡ k =
       wish_read (i - from) (omega (arith, after, ends))
       ∙ ap (λ (j : ℕ). (get_or sorted j no_entry).wish) at_i ∙ wish in
-      list_any_at (nat_eq k) part (i - from) 0 (omega (arith, many, after, ends)) (eq-eqb k (get_or part (i - from) 0) (sym same))
+      list_any_at (nat_eq k) part (i - from) 0 (omega (arith, many, after, ends))
+      (eq-eqb k (get_or part (i - from) 0) (sym same))
 
   pub among_members : is_among k (members_at (members_by wishes begins) n) ≡ list_any test sorted
   among_members =

@@ -1,6 +1,5 @@
 //! The marks of a dossier's wishes, with the numbers of live candidates.
-ghost use Rattle.std.specs.Prelude.{◌≡◌, ℕ, ◌<◌, ◌≤◌, ◌+◌, ◌-◌, ◌^◌, ◌==◌, ◌&&◌, true, false, length, slice_index, All, IfOk, replicate, option_map, map};
-ghost use Rattle.std.specs.Option.{ForSome};
+ghost use Rattle.std.specs.Prelude.{◌≡◌, ℕ, ◌<◌, ◌+◌, ◌-◌, ◌^◌, ◌==◌, false, length, All, IfOk, replicate, option_map, map};
 ghost use Rattle.std.specs.List.{list_any};
 ghost use Rattle.admit_core.specs.State.{State, is_live, is_waiting, with_mark_at, has_school, holds_seat, holds_bed, seat_holders, bed_holders};
 ghost use Rattle.admit_core.specs.DossierRows.{candidate_of};

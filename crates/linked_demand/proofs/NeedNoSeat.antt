@@ -1,28 +1,27 @@
 -- Which open wishes need no seat: those that a limit calls, and those beside a live one.
-use Rattle.std.proofs.Common.{ℕ, ◌<◌, ◌≡◌, Bool, true, false, ◌&&◌, ◌||◌, List, [], ◌∷◌, get_or, filter, map, length}
+use Rattle.std.proofs.Common.{ℕ, ◌<◌, ◌≡◌, Bool, true, false, ◌&&◌, ◌||◌, List, [], get_or, filter, length}
 use Rattle.std.proofs.Common.{inl, inr, Some, refl, sym, ◌∙◌, ap, arith}
-use Rattle.std.specs.Prelude.{slice_get, ◌==◌}
-use Rattle.std.specs.List.{list_any, range_with_len}
-use Rattle.std.proofs.lemmas.Bool.{and_parts, and_right, cases_Bool, cases_lt, false≢true}
-use Rattle.std.proofs.lemmas.List.{get_or_past, length-map}
+use Rattle.std.specs.Prelude.{slice_get}
+use Rattle.std.specs.List.{range_with_len}
+use Rattle.std.proofs.lemmas.Bool.{and_right, cases_Bool}
 use Rattle.std.proofs.lemmas.List.FromFn.{get_or-map-range_with_len}
 use Rattle.std.proofs.lemmas.Option.{slice_get_within}
-use Rattle.admit_core.proofs.Plain.{and_true, nat_eq_sym}
+use Rattle.admit_core.proofs.Plain.{and_true}
 use Rattle.admit_core.specs.declared.dossier.Wish.{Wish}
 use Rattle.admit_core.specs.declared.ranking.CallOrder.{CallOrder}
 use Rattle.admit_core.specs.DossierRows.{DossierRows}
 use Rattle.admit_core.specs.Lists.{is_among}
-use Rattle.admit_core.specs.State.{State, is_live, is_waiting}
-use Rattle.day_state.specs.declared.numbers.SharedWish.{SharedWish}
-use Rattle.day_state.specs.Kept.{has_seat_there, mark_in, wish_in}
+use Rattle.admit_core.specs.State.{State}
+use Rattle.day_state.specs.Kept.{has_seat_there, wish_in}
+use Rattle.day_state.specs.Members.{waits_beside}
+use Rattle.day_state.proofs.Waits.{waits_read}
 use Rattle.day_state.proofs.Along.{among-filter}
-use Rattle.linked_demand.specs.Beside.{waits_beside}
 use Rattle.linked_demand.specs.Fronts.{ListsAlso, exempt_open}
 use Rattle.linked_demand.specs.Links.{AllOpenWait}
 use Rattle.linked_demand.specs.Opens.{exempt_at, all_exempt}
 use Rattle.linked_demand.specs.Seats.{is_called_by_limit, limited_wishes}
 use Rattle.linked_demand.proofs.Closing.{wish_of, wish_there}
-use Rattle.linked_demand.proofs.Waiting.{mark_waits, waiting_not_live, waits_read}
+use Rattle.linked_demand.proofs.Waiting.{mark_waits}
 
 -- whether a wish needs no seat, read from the list of all
 pub exempt_read : (s : State) (limited : List Bool) (k : ℕ) → k < length s.dossier.wishes
@@ -35,55 +34,6 @@ pub limited_below : (d : DossierRows) (orders : List CallOrder) (n : ℕ) → n 
     → filter (λ k. is_called_by_limit d orders (wish_in d.wishes k)) (range_with_len 0 n) ≡ limited_wishes d orders
 limited_below d orders n is =
     ap (λ m. filter (λ k. is_called_by_limit d orders (wish_in d.wishes k)) (range_with_len 0 m)) is
-
--- the places of wishes that share their bundles
-abbrev pub places_of : List SharedWish → List ℕ
-places_of xs = map (λ e. e.wish) xs
-
--- where none is
-abbrev pub no_shared : SharedWish
-no_shared = record { wish = 0; number = 0 }
-
-places_among : (k : ℕ) (xs : List SharedWish) → is_among k (places_of xs) ≡ list_any (λ e. e.wish == k) xs
-places_among k [] = refl
-places_among k (x ∷ xs) =
-    ap (λ b. b || is_among k (places_of xs)) (nat_eq_sym k x.wish) ∙ ap (λ b. (x.wish == k) || b) (places_among k xs)
-
--- the mark of a wish whose flag is set
-waits_there : (s : State) (k : ℕ) → get_or (map is_waiting s.marks) k false ≡ true
-    → (k < length s.marks) × (is_waiting (mark_in s.marks k) ≡ true)
-waits_there s k is_set = elim (cases_lt k (length s.marks)) [
-  | inl lt ↦ (lt, sym (waits_read s k lt) ∙ is_set)
-  | inr past ↦
-      let none = get_or_past (map is_waiting s.marks) k false (omega (arith, past, length-map s.marks is_waiting)) in
-      absurd (false≢true (sym none ∙ is_set))
-]
-
--- a wish that waits is not live; so it may be asked about as one that isn't
-pub beside_asked : (s : State) → length s.marks ≡ length s.dossier.wishes → (k : ℕ) (asked : Bool)
-    → (k < length s.dossier.wishes → is_live (mark_in s.marks k) ≡ false → asked ≡ has_seat_there s k)
-    → (asked && get_or (map is_waiting s.marks) k false) ≡ waits_beside s k
-beside_asked s long k asked is = elim (cases_Bool (get_or (map is_waiting s.marks) k false)) [
-  | inl is_set ↦
-      let (lt, waits) = waits_there s k is_set in
-      rw is_set (and_true asked ∙ is (omega (arith, lt, long)) (waiting_not_live s k waits))
-  | inr clear ↦ rw clear (and_right asked false refl)
-]
-
--- the wishes that wait beside a live one all share their bundles
-pub all_beside : (s : State) → length s.marks ≡ length s.dossier.wishes → (xs : List SharedWish)
-    → ((k : ℕ) → k < length s.dossier.wishes → is_live (mark_in s.marks k) ≡ false → has_seat_there s k ≡ true
-    → list_any (λ e. e.wish == k) xs ≡ true)
-    → (k : ℕ) → (is_among k (places_of xs) && waits_beside s k) ≡ waits_beside s k
-all_beside s long xs all k =
-    elim (cases_Bool (waits_beside s k)) [
-      | inl both ↦
-          let parts = and_parts (get_or (map is_waiting s.marks) k false) (has_seat_there s k) both in
-          let (lt, waits) = waits_there s k parts.0 in
-          ap (λ b. b && waits_beside s k)
-          (places_among k xs ∙ all k (omega (arith, lt, long)) (waiting_not_live s k waits) parts.1)
-      | inr other ↦ and_right (is_among k (places_of xs)) (waits_beside s k) other ∙ sym other
-    ]
 
 -- what is listed of both are the open wishes that need no seat
 pub exempt_listed : (s : State) → length s.marks ≡ length s.dossier.wishes

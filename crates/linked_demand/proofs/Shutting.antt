@@ -28,7 +28,7 @@ use Rattle.linked_demand.proofs.Boarding.{all_by_rank, front_of_end}
 use Rattle.linked_demand.proofs.RowsRight.{places_kept}
 use Rattle.linked_demand.proofs.HousedRows.{filter_among}
 use Rattle.linked_demand.proofs.Rounding.{opens_by_place}
-use Rattle.linked_demand.proofs.Waiting.{waits_read}
+use Rattle.day_state.proofs.Waits.{waits_read}
 
 -- a school is one of the first so many
 abbrev is_first : ℕ → Option ℕ → Bool

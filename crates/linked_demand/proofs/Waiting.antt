@@ -9,22 +9,18 @@ use Rattle.std.proofs.lemmas.Bool.{and_left, cases_eq, cases_lt}
 use Rattle.std.proofs.lemmas.List.{get_or-map, get_or-set_other, get_or-set_same, get_or_past, length-map, length-set}
 use Rattle.std.proofs.lemmas.List.Folds.{list_any_none}
 use Rattle.std.proofs.lemmas.List.FromFn.{get_or-range_with_len, length-range_with_len}
-use Rattle.std.proofs.lemmas.Option.{unwrap_or-slice_get}
 use Rattle.admit_core.proofs.Plain.{any-filter}
 use Rattle.admit_core.specs.declared.dossier.Wish.{Wish}
 use Rattle.admit_core.specs.declared.state.Mark.{Mark}
-use Rattle.admit_core.specs.declared.state.Status.{Status}
-use Rattle.admit_core.specs.declared.state.Status.TheVariants.{Waiting, Offered, Accepted, Refused, Withdrawn, Quit}
-use Rattle.admit_core.specs.declared.state.Status.TheVariants.{AutoRefused, AutoWithdrawn, Lapsed}
 use Rattle.admit_core.specs.declared.ranking.CallOrder.{CallOrder}
 use Rattle.admit_core.specs.DossierRows.{DossierRows, candidate_of}
 use Rattle.admit_core.specs.Lists.{is_among}
 use Rattle.admit_core.specs.OwnWishes.{own_places}
 use Rattle.admit_core.specs.Proposals.{is_open, is_barred}
-use Rattle.admit_core.specs.State.{State, entries, has_school, holds_bed, holds_seat, is_live, is_live_status}
+use Rattle.admit_core.specs.State.{State, entries, has_school, holds_bed, holds_seat, is_live}
 use Rattle.admit_core.specs.State.{is_waiting}
-use Rattle.admit_core.specs.State.{is_waiting_status}
-use Rattle.day_state.specs.Kept.{mark_in, waiting_mark, wish_in, lives_at, has_bed_there, has_seat_there, holds_bed_in}
+use Rattle.day_state.specs.Kept.{mark_in, wish_in, lives_at, has_bed_there, has_seat_there, holds_bed_in}
+use Rattle.day_state.proofs.Waits.{waiting_not_live}
 use Rattle.day_state.proofs.Places.{own_any, candidate_in as candidate_is}
 use Rattle.linked_demand.specs.Links.{WaitsAt, AllOpenWait, NeedsSeatAlone, claim_of}
 use Rattle.linked_demand.specs.Opens.{line_of, opens_of, wanting_at}
@@ -43,17 +39,6 @@ is_beside d k j = not (nat_eq j k) && applies_at d (wish_in d.wishes k).programm
 -- the candidate of the wish at a place has another one in its programme
 abbrev is_doubled : DossierRows → ℕ → Bool
 is_doubled d k = list_any (is_beside d k) (own_places d (candidate_of d k))
-
-waiting_is_not_live : (status : Status) → is_waiting_status status ≡ true → is_live_status status ≡ false
-waiting_is_not_live Waiting t = refl
-waiting_is_not_live Offered t = absurd (false≢true t)
-waiting_is_not_live Accepted t = absurd (false≢true t)
-waiting_is_not_live Refused t = refl
-waiting_is_not_live Withdrawn t = refl
-waiting_is_not_live Quit t = refl
-waiting_is_not_live AutoRefused t = refl
-waiting_is_not_live AutoWithdrawn t = refl
-waiting_is_not_live Lapsed t = refl
 
 elsewhere : (live own other : Bool) → other ≡ true → (other && own) ≡ false → (live && own) ≡ false
 elsewhere true own true t none = none
@@ -82,17 +67,6 @@ none_lives test d ms k not_live (x ∷ xs) none =
 pub mark_waits : (s : State) (k : ℕ) (w : Wish) (m : Mark) → WaitsAt s k w m → is_waiting (mark_in s.marks k) ≡ true
 mark_waits s k w m at = ap is_waiting (entry_is s.dossier.wishes s.marks k w m at.here).1 ∙ at.waits
 
--- the flag of who waits, read from the list of all
-pub waits_read : (s : State) (k : ℕ) → k < length s.marks
-    → get_or (map is_waiting s.marks) k false ≡ is_waiting (mark_in s.marks k)
-waits_read s k lt =
-    get_or-map is_waiting s.marks k waiting_mark false lt
-    ∙ ap is_waiting (sym (unwrap_or-slice_get s.marks k waiting_mark))
-
--- a wish that waits is not live
-pub waiting_not_live : (s : State) (k : ℕ) → is_waiting (mark_in s.marks k) ≡ true → is_live (mark_in s.marks k) ≡ false
-waiting_not_live s k = waiting_is_not_live (mark_in s.marks k).status
-
 pub not_live : (s : State) (k : ℕ) (w : Wish) (m : Mark) → WaitsAt s k w m → is_live (mark_in s.marks k) ≡ false
 not_live s k w m at = waiting_not_live s k (mark_waits s k w m at)
 
@@ -102,9 +76,6 @@ module _ (s : State) (long : length s.marks ≡ length s.dossier.wishes) (k : �
 
   abbrev mine : Wish
   mine = wish_in d.wishes k
-
-  waits_not_live : is_waiting (mark_in s.marks k) ≡ true → is_live (mark_in s.marks k) ≡ false
-  waits_not_live waits = waiting_is_not_live (mark_in s.marks k).status waits
 
   -- a wish that waits is not live in its programme where no other one is of it
   pub no_seat : (w : Wish) (m : Mark) → WaitsAt s k w m → is_doubled s.dossier k ≡ false → has_seat_there s k ≡ false
@@ -128,7 +99,7 @@ module _ (s : State) (long : length s.marks ≡ length s.dossier.wishes) (k : �
           let own = λ (w : Wish). has_school w h in
           ap (λ (c : ℕ). holds_bed s c h) (sym (candidate_is d.wishes k))
           ∙ sym (own_any own s (candidate_of d k) long)
-          ∙ none_lives own d s.marks k (waits_not_live waits) (own_places d (candidate_of d k)) none
+          ∙ none_lives own d s.marks k (waiting_not_live s k waits) (own_places d (candidate_of d k)) none
 
 wish_there : (ws : List Wish) (j : ℕ) → j < length ws → slice_get ws j ≡ Some (wish_in ws j)
 wish_there [] j lt = absurd (omega arith)

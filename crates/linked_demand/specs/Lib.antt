@@ -1,4 +1,3 @@
-pub mod Beside
 pub mod Boarders
 pub mod Called
 pub mod CalledWishes

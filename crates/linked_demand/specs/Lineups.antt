@@ -5,7 +5,7 @@ use Rattle.admit_core.specs.DossierRows.{DossierRows}
 use Rattle.admit_core.specs.Lists.{is_among}
 use Rattle.admit_core.specs.State.{State}
 use Rattle.linked_demand.specs.declared.lineup.Lineup.{Lineup}
-use Rattle.linked_demand.specs.Beside.{waits_beside}
+use Rattle.day_state.specs.Members.{waits_beside}
 use Rattle.linked_demand.specs.Boarders.{AreBySchool}
 use Rattle.linked_demand.specs.Opens.{all_exempt}
 use Rattle.linked_demand.specs.Seats.{AreNotes, IsLineup, limited_wishes}

@@ -7,7 +7,6 @@
 #![tactic(auto)]
 
 mod beds;
-mod beside;
 mod boarders;
 mod calling;
 mod claims;

@@ -16,7 +16,6 @@ ghost use Rattle.std.specs.Option.{ForSome};
 ghost use Rattle.linked_demand.specs.Filled.{bed_sought, wants_bed};
 ghost use Rattle.linked_demand.specs.Rows.{needs_bed, row_item, IsItem, IsOpenItem};
 
-use crate::beside::waiting_beside;
 use crate::closed::leaves_by_closing;
 use crate::cursors::Cursors;
 use crate::fresh::note_fresh;
@@ -129,9 +128,8 @@ impl<'a, 'd> SeatLinks<'a, 'd> {
         let _ = state.marks(); // one for each wish
         let opens = open_under(alloc, state, orders, &lineup.boarders, bars)?;
         let reached = reached_of(alloc, state, orders, lineup, &opens)?;
-        let claims = state.shared_in_programmes().len() / 2; // each has two of these or more
-        let cursors = Cursors::new(alloc, claims)?;
-        let beside = waiting_beside(alloc, state)?;
+        let cursors = Cursors::new(alloc, state.shared_in_programmes())?;
+        let beside = state.waiting_beside_live(alloc)?;
         Ok(SeatLinks {
             state,
             orders,

@@ -182,7 +182,7 @@ impl<'a, 'd> LinkedRound<'a, 'd> {
 
     /// The places of the wishes that are proposed at the present bars, ascending. It goes along the
     /// claims that the seats reach, and along the wishes that may need none: those that a limit
-    /// calls, and those that share their bundles.
+    /// calls, and those that wait beside a live one.
     pub fn proposed(&self, alloc: Global) -> Result<Vec<u32>, OutOfMemory>
         ensures places { IfOk result (λ v. v.items ≡ proposed self.now.state self.now.orders
             self.now.bars) }

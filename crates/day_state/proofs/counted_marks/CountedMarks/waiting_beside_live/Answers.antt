@@ -11,7 +11,8 @@ returns c =
     let b = c.self.inside.in_programmes in
     IfOk-weaker c.beside_live.result _ _
     (λ v told k. told k
-    ∙ ap (λ (flags : List Bool). get_or flags k false && has_live b.live (number_at b.numbers.value k) false) c.waits.ensures
+    ∙ ap (λ (flags : List Bool). get_or flags k false && has_live b.live (number_at b.numbers.value k) false)
+    c.waits.ensures
     ∙ waits_beside_is c.self.invariant.programmes c.self.invariant.kept.marks k
     ∙ ap (λ (s : State). waits_beside s k) c.self.view_is)
     c.beside_live.ensures

@@ -11,5 +11,6 @@ returns c = λ k.
     let n = c.self.inside in
     ap (is_among k) c.of.ensures
     ∙ c.self.invariant.members_are c.args.number k
-    ∙ of_number (numbers_with n.sited n.several n.entries.items) n.entries.items c.self.invariant.entries_are c.args.number k
+    ∙ of_number (numbers_with n.sited n.several n.entries.items) n.entries.items c.self.invariant.entries_are
+    c.args.number k
     ∙ ap (λ (ns : List BundleNumber). has_number c.args.number (number_at ns k)) c.self.view_is

@@ -1,4 +1,4 @@
-use Rattle.std.proofs.Common.{ℕ, ◌/◌, ◌∙◌, ◌≡◌, Option, None, Some, arith, inl, inr, length, subst, sym}
+use Rattle.std.proofs.Common.{ℕ, ◌/◌, Option, None, Some, arith, inl, inr, subst, sym}
 use Rattle.std.proofs.lemmas.Bool.{cases_lt, le-ltb, lt-ltb}
 use Rattle.std.proofs.lemmas.List.{get_or_read}
 use Rattle.flags.specs.Words.{IsNextBit, IsNextSet}
@@ -12,7 +12,7 @@ index-requires c =
     omega (
       arith,
       word_of c.args.self.now f.words.items f.count c.loop-place.place c.self.view_is c.self.invariant
-      (omega (arith, c.len-count.ensures, c.loop-place-test.true)),
+          (omega (arith, c.len-count.ensures, c.loop-place-test.true)),
       f.words.ok.0,
     )
 

@@ -1,6 +1,6 @@
 use Rattle.std.proofs.Common.{ℕ, ◌≡◌, List, sym, ◌&&◌, false, get_or, length, ◌∙◌, subst}
 use Rattle.admit_core.specs.Lists.{is_among}
-use Rattle.linked_demand.specs.Beside.{waits_beside}
+use Rattle.day_state.specs.Members.{waits_beside}
 use Rattle.linked_demand.specs.Fronts.{ListsAlso, reached_open}
 use Rattle.linked_demand.proofs.Fronted.{found_right, fronts}
 use Rattle.linked_demand.proofs.NeedNoSeat.{exempt_listed}
